@@ -1,0 +1,5 @@
+mod Stored
+pub mod Lengths
+pub mod RoundTrip
+pub mod Decoded
+pub mod Stores

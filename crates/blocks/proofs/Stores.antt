@@ -1,0 +1,64 @@
+-- What a call leaves in the block: an accepted one the chip of its outcome, a refused one the block as it was; and a pin move of the block
+-- is the chip's, since it sets the WP byte and no other.
+-- Assumes nothing.
+use mathlib.Core.Path.{_≡_, refl, ap, _∙_}
+use mathlib.Core.Bool.{Bool, false}
+use mathlib.Core.List.{List}
+use Prim.Native.Nat.{ℕ, _+_, _*_, _<_, _≤_}
+use native.Mathlib.Omega.{arith}
+use lib.ListN.{length, set, take, drop, getD}
+use lib.Seq.{getD-set-same, getD-set-other, take-set-le, drop-set-lt, drop-set-add}
+use lib.Dec.{eqb, lit<, lit≤}
+use borrow.Author.Tests.{eq-eqb, ne-eqb, eqb-false}
+use Rattle.state.specs.declared.Outcome.{Outcome}
+use Rattle.state.specs.Outcomes.{pinOutcome}
+use Rattle.blocks.specs.Block.{field, flag, flagByte, operationOf, decodeOperation, decodeRegisters, decodeChip}
+use Rattle.blocks.specs.Holds.{Holds}
+use Rattle.blocks.specs.Promises.{answered, storedIn, pinMoved}
+use Rattle.blocks.proofs.RoundTrip.{decode-encode, flag-back}
+
+-- ---- after a call
+pub accepted-stored : (block : List ℕ) (o : Outcome) → answered o ≡ 0 → Holds (o .chip) → decodeChip (storedIn block o) ≡ o .chip
+unfolding storedIn
+accepted-stored block o e h = simp (eq-eqb (answered o) 0 e) (decode-encode (o .chip) h)
+
+pub refused-stored : (block : List ℕ) (o : Outcome) → (answered o ≡ 0 → ⊥) → storedIn block o ≡ block
+unfolding storedIn
+refused-stored block o e = simp (ne-eqb (answered o) 0 e)
+
+-- ---- one byte set: a part before it, a part after it, another byte
+part-before : (a n k : ℕ) (xs : List ℕ) (x : ℕ) → n ≤ k → field a n (set xs (a + k) x) ≡ field a n xs
+part-before a n k xs x h = ap (λ (t : List ℕ). take n t) (drop-set-add a xs k x) ∙ take-set-le n (drop a xs) k x h
+
+part-after : (a n k : ℕ) (xs : List ℕ) (x : ℕ) → k < a → field a n (set xs k x) ≡ field a n xs
+part-after a n k xs x h = ap (λ (t : List ℕ). take n t) (drop-set-lt a xs k x h)
+
+other : (k : ℕ) (xs : List ℕ) (x : ℕ) → eqb k 162 ≡ false → getD (set xs 162 x) k 0 ≡ getD xs k 0
+other k xs x e = getD-set-other xs 162 k x 0 (eqb-false k 162 e)
+
+-- ---- a pin move
+pub pin-moved : (block : List ℕ) (high : Bool) → length block ≡ 765 → decodeChip (pinMoved block high) ≡ pinOutcome (decodeChip block) high .chip
+unfolding pinMoved pinOutcome decodeChip decodeRegisters decodeOperation
+pin-moved block high l =
+    let x = flagByte high in
+    λ i.
+    record {
+      registers =
+          record {
+            protection = part-before 0 16 162 block x (lit≤ tt) i;
+            lockdown = part-before 16 16 146 block x (lit≤ tt) i;
+            user = part-before 32 64 130 block x (lit≤ tt) i;
+            factory = part-before 96 64 66 block x (lit≤ tt) i;
+            programmed = flag (other 160 block x refl i);
+            enabled = flag (other 161 block x refl i);
+            wp = (ap flag (getD-set-same block 162 x 0 (omega arith)) ∙ flag-back high) i;
+            deep = flag (other 163 block x refl i);
+            operation =
+                operationOf (other 164 block x refl i) (other 165 block x refl i) (other 166 block x refl i * 256 + other 167 block x refl i)
+                (other 168 block x refl i * 16777216 + other 169 block x refl i * 65536 + other 170 block x refl i * 256 + other 171 block x refl i)
+                (part-after 172 64 162 block x (lit< tt) i);
+          };
+      buffer1 = part-after 236 264 162 block x (lit< tt) i;
+      buffer2 = part-after 500 264 162 block x (lit< tt) i;
+      compare = flag (other 764 block x refl i);
+    }

@@ -1,0 +1,40 @@
+-- `chip::end_busy` meets its contract: the part is looked up, and a known one's chip does the rest.
+-- Assumes nothing.
+use mathlib.Core.Path.{sym, _∙_}
+use borrow.Author.Needs.{needs}
+use Rattle.registers.proofs.Places.{placed-known, placed-sized}
+use Rattle.state.proofs.Accepted.{end-known, end-part, end-array-known, end-array-part}
+use Rattle.chip.proofs.end_busy.Statement.{statement}
+use Rattle.chip.proofs.end_busy.Tie as tie
+
+place-requires : tie.Need-place-requires
+place-requires c κs = search needs
+
+enum-known-p : tie.Need-enum-known-p
+enum-known-p c = search needs
+
+end-in-requires : tie.Need-end-in-requires
+end-in-requires c κs = let e = sym (c .before .before .before .before .place .ensures) ∙ c .before .before .p .given .1 in (placed-sized _ _ _ e, (placed-known _ _ _ e) .1)
+
+enum-told : tie.Need-enum-told
+enum-told c = search needs
+
+same-length : tie.Need-same-length
+same-length c = search needs
+
+returns : tie.Need-returns
+returns c =
+    let a = c .before .before .before .before .before .before .before .before .before .before .args in
+    let e = sym (c .before .before .before .before .before .before .before .place .ensures) ∙ c .before .before .before .before .before .p .given .1 in
+    (c .before .before .end-in .ensures .0 ∙ sym (end-known (a .c) (a .array .now) _ e), c .before .before .end-in .ensures .1 ∙ sym (end-array-known (a .c) (a .array .now) _ e))
+
+returns-2 : tie.Need-returns-2
+returns-2 c =
+    let a = c .before .before .before .before .before .args in
+    let e = sym (c .before .before .place .ensures) ∙ c .enum-told .given .1 in
+    (sym (end-part (a .c) (a .array .now) e), sym (end-array-part (a .c) (a .array .now) e))
+
+pub end-busy-spec : {M : Type 1} → statement M
+end-busy-spec =
+    tie.close
+    (tie.spec place-requires enum-known-p end-in-requires enum-told same-length returns returns-2)

@@ -1,0 +1,42 @@
+-- `chip::fresh` meets its contract: the array is filled where its length is a part's, and left as it is where not.
+-- Assumes nothing.
+use mathlib.Core.Path.{sym, _∙_}
+use borrow.Author.Needs.{needs}
+use Rattle.state.specs.Outcomes.{freshChip, freshRegisters}
+use Rattle.state.proofs.Accepted.{fresh-done, fresh-part, fresh-array-done, fresh-array-part}
+use Rattle.chip.proofs.fresh.Statement.{statement}
+use Rattle.chip.proofs.fresh.Tie as tie
+
+part-of-requires : tie.Need-part-of-requires
+part-of-requires c κs = search needs
+
+enum-told : tie.Need-enum-told
+enum-told c = search needs
+
+fill-requires : tie.Need-fill-requires
+fill-requires c κs = search needs
+
+enum-told-2 : tie.Need-enum-told-2
+enum-told-2 c = search needs
+
+same-length : tie.Need-same-length
+same-length c = search needs
+
+returns : tie.Need-returns
+unfolding freshChip freshRegisters
+returns c =
+    let a = c .before .before .before .before .before .before .before .before .args in
+    let e = sym (c .before .before .before .before .before .before .part-of .ensures) ∙ c .before .before .before .before .enum-told .given .1 in
+    (sym (fresh-done (a .factory) (a .array .now) _ e), c .before .before .fill .ensures ∙ sym (fresh-array-done (a .array .now) _ e))
+
+returns-2 : tie.Need-returns-2
+unfolding freshChip freshRegisters
+returns-2 c =
+    let a = c .before .before .before .before .args in
+    let e = sym (c .before .before .part-of .ensures) ∙ c .enum-told2 .given .1 in
+    (sym (fresh-part (a .factory) (a .array .now) e), sym (fresh-array-part (a .array .now) e))
+
+pub fresh-spec : {M : Type 1} → statement M
+fresh-spec =
+    tie.close
+    (tie.spec part-of-requires enum-told fill-requires enum-told-2 same-length returns returns-2)

@@ -1,0 +1,4 @@
+mod Places
+mod Steps
+pub mod Rules
+pub mod Frames

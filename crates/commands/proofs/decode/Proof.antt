@@ -1,0 +1,71 @@
+-- `commands::decode` meets its contract. Each way through the code is one way through the definition: no byte, a row by its opcode, or a
+-- row by its four bytes.
+-- Assumes nothing.
+use mathlib.Core.Path.{sym, ap, _∙_}
+use borrow.Author.Needs.{needs}
+use Rattle.commands.specs.declared.Found.the-variants.{Row, Missing}
+use Rattle.commands.specs.Decode.{complete, opened}
+use Rattle.commands.proofs.Steps.{decode-empty, decode-opened}
+use Rattle.commands.proofs.decode.Statement.{statement}
+use Rattle.commands.proofs.decode.Tie as tie
+
+returns : tie.Need-returns
+returns c = decode-empty (c .before .before .args .frame .now) (c .if1 .taken)
+
+shared-slice-read-lookup : tie.Need-shared-slice-read-lookup
+shared-slice-read-lookup c = search needs
+
+lookup-requires : tie.Need-lookup-requires
+lookup-requires c κs = search needs
+
+enum-known-f : tie.Need-enum-known-f
+enum-known-f c = search needs
+
+cast-lead : tie.Need-cast-lead
+cast-lead c = search needs
+
+completed-requires : tie.Need-completed-requires
+completed-requires c κs = search needs
+
+enum-told : tie.Need-enum-told
+enum-told c = search needs
+
+sequence-requires : tie.Need-sequence-requires
+sequence-requires c κs = search needs
+
+completed-requires-2 : tie.Need-completed-requires-2
+completed-requires-2 c κs = search needs
+
+returns-2 : tie.Need-returns-2
+unfolding opened
+returns-2 c =
+    let o = c .before .before .before in
+    let l = o .before .before in
+    let f = l .before .before .before .before .args .frame .now in
+    decode-opened f (Row (o .f .given .0 .0)) (c .completed .result) (l .before .before .if1 .left)
+    (sym (o .f .given .1) ∙ l .lookup .ensures) (c .completed .ensures)
+
+returns-3 : tie.Need-returns-3
+unfolding opened
+returns-3 c =
+    let l = c .before .before .before .before in
+    let f = l .before .before .before .before .args .frame .now in
+    decode-opened f Missing (c .completed2 .result) (l .before .before .if1 .left)
+    (sym (c .before .before .enum-told .given .1) ∙ l .lookup .ensures)
+    (c .completed2 .ensures ∙ ap (complete _) (c .before .sequence .ensures))
+
+pub decode-spec : {M : Type 1} → statement M
+decode-spec =
+    tie.close
+    (tie.spec
+    returns
+    shared-slice-read-lookup
+    lookup-requires
+    enum-known-f
+    cast-lead
+    completed-requires
+    enum-told
+    sequence-requires
+    completed-requires-2
+    returns-2
+    returns-3)

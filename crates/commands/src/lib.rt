@@ -1,0 +1,233 @@
+// The command table of the AT45DB081D and which of its rows a frame is.
+// Internal to this repository; no entry point is in this crate.
+ghost use mathlib.Core.Path.{_≡_};
+ghost use Prim.Native.Nat.{_<_};
+ghost use Rattle.commands.specs.Table.{rowAt, sequences};
+ghost use Rattle.commands.specs.Decode.{placeOf, lookupOf, begins, sequenceIn, complete, decodeOf};
+
+// One of the two page buffers.
+pub enum Buffer {
+    One,
+    Two,
+}
+
+// What a command does, as the table's last column says.
+pub enum Effect {
+    // D2: read a page, wrapping in it.
+    ReadPage,
+    // 03, 0B: read on through the array.
+    ReadArray,
+    // D1/D3, D4/D6.
+    ReadBuffer { buffer: Buffer },
+    // 84/87.
+    WriteBuffer { buffer: Buffer },
+    // 83/86: the page becomes the buffer.
+    Program { buffer: Buffer },
+    // 88/89: the page becomes page AND buffer.
+    ProgramOver { buffer: Buffer },
+    // 82/85: the buffer is written, then programmed.
+    ProgramThrough { buffer: Buffer },
+    // 81, 50, 7C, C7 94 80 9A.
+    ErasePage,
+    EraseBlock,
+    EraseSector,
+    EraseChip,
+    // 53/55: the buffer becomes the page.
+    Transfer { buffer: Buffer },
+    // 60/61.
+    Compare { buffer: Buffer },
+    // 58/59: as 53/55, the page rewritten.
+    Rewrite { buffer: Buffer },
+    // 3D 2A 7F A9 and 9A, CF, FC, 30.
+    EnableProtection,
+    DisableProtection,
+    EraseProtection,
+    ProgramProtection,
+    LockSector,
+    // 9B 00 00 00.
+    ProgramSecurity,
+    // 32, 35, 77, D7, 9F.
+    ReadProtection,
+    ReadLockdown,
+    ReadSecurity,
+    ReadStatus,
+    ReadId,
+    // B9, AB.
+    PowerDown,
+    Resume,
+    // No row: the frame is ignored.
+    Unlisted,
+}
+
+// A row that opens with one byte. `lead`: the bytes before data. Four bytes in all.
+pub struct Command {
+    pub opcode: u8,
+    pub lead: u8,
+    pub effect: Effect,
+}
+
+// A frame's row, whichever way it opens.
+pub struct Decoded {
+    pub lead: usize,
+    pub effect: Effect,
+}
+
+pub enum Found {
+    Row(Command),
+    Missing,
+}
+
+// The rows that open with one byte.
+const COMMANDS: [Command; 31] = [
+    Command { opcode: 0xD2, lead: 8, effect: Effect::ReadPage },
+    Command { opcode: 0x03, lead: 4, effect: Effect::ReadArray },
+    Command { opcode: 0x0B, lead: 5, effect: Effect::ReadArray },
+    Command { opcode: 0xD1, lead: 4, effect: Effect::ReadBuffer { buffer: Buffer::One } },
+    Command { opcode: 0xD3, lead: 4, effect: Effect::ReadBuffer { buffer: Buffer::Two } },
+    Command { opcode: 0xD4, lead: 5, effect: Effect::ReadBuffer { buffer: Buffer::One } },
+    Command { opcode: 0xD6, lead: 5, effect: Effect::ReadBuffer { buffer: Buffer::Two } },
+    Command { opcode: 0x84, lead: 4, effect: Effect::WriteBuffer { buffer: Buffer::One } },
+    Command { opcode: 0x87, lead: 4, effect: Effect::WriteBuffer { buffer: Buffer::Two } },
+    Command { opcode: 0x83, lead: 4, effect: Effect::Program { buffer: Buffer::One } },
+    Command { opcode: 0x86, lead: 4, effect: Effect::Program { buffer: Buffer::Two } },
+    Command { opcode: 0x88, lead: 4, effect: Effect::ProgramOver { buffer: Buffer::One } },
+    Command { opcode: 0x89, lead: 4, effect: Effect::ProgramOver { buffer: Buffer::Two } },
+    Command { opcode: 0x82, lead: 4, effect: Effect::ProgramThrough { buffer: Buffer::One } },
+    Command { opcode: 0x85, lead: 4, effect: Effect::ProgramThrough { buffer: Buffer::Two } },
+    Command { opcode: 0x81, lead: 4, effect: Effect::ErasePage },
+    Command { opcode: 0x50, lead: 4, effect: Effect::EraseBlock },
+    Command { opcode: 0x7C, lead: 4, effect: Effect::EraseSector },
+    Command { opcode: 0x53, lead: 4, effect: Effect::Transfer { buffer: Buffer::One } },
+    Command { opcode: 0x55, lead: 4, effect: Effect::Transfer { buffer: Buffer::Two } },
+    Command { opcode: 0x60, lead: 4, effect: Effect::Compare { buffer: Buffer::One } },
+    Command { opcode: 0x61, lead: 4, effect: Effect::Compare { buffer: Buffer::Two } },
+    Command { opcode: 0x58, lead: 4, effect: Effect::Rewrite { buffer: Buffer::One } },
+    Command { opcode: 0x59, lead: 4, effect: Effect::Rewrite { buffer: Buffer::Two } },
+    Command { opcode: 0x32, lead: 4, effect: Effect::ReadProtection },
+    Command { opcode: 0x35, lead: 4, effect: Effect::ReadLockdown },
+    Command { opcode: 0x77, lead: 4, effect: Effect::ReadSecurity },
+    Command { opcode: 0xD7, lead: 1, effect: Effect::ReadStatus },
+    Command { opcode: 0x9F, lead: 1, effect: Effect::ReadId },
+    Command { opcode: 0xB9, lead: 1, effect: Effect::PowerDown },
+    Command { opcode: 0xAB, lead: 1, effect: Effect::Resume },
+];
+
+// Where in COMMANDS the row of each opcode stands; 31 where none has it.
+const PLACES: [u8; 256] = [
+    31, 31, 31, 1, 31, 31, 31, 31, 31, 31, 31, 2, 31, 31, 31, 31,
+    31, 31, 31, 31, 31, 31, 31, 31, 31, 31, 31, 31, 31, 31, 31, 31,
+    31, 31, 31, 31, 31, 31, 31, 31, 31, 31, 31, 31, 31, 31, 31, 31,
+    31, 31, 24, 31, 31, 25, 31, 31, 31, 31, 31, 31, 31, 31, 31, 31,
+    31, 31, 31, 31, 31, 31, 31, 31, 31, 31, 31, 31, 31, 31, 31, 31,
+    16, 31, 31, 18, 31, 19, 31, 31, 22, 23, 31, 31, 31, 31, 31, 31,
+    20, 21, 31, 31, 31, 31, 31, 31, 31, 31, 31, 31, 31, 31, 31, 31,
+    31, 31, 31, 31, 31, 31, 31, 26, 31, 31, 31, 31, 17, 31, 31, 31,
+    31, 15, 13, 9, 7, 14, 10, 8, 11, 12, 31, 31, 31, 31, 31, 31,
+    31, 31, 31, 31, 31, 31, 31, 31, 31, 31, 31, 31, 31, 31, 31, 28,
+    31, 31, 31, 31, 31, 31, 31, 31, 31, 31, 31, 30, 31, 31, 31, 31,
+    31, 31, 31, 31, 31, 31, 31, 31, 31, 29, 31, 31, 31, 31, 31, 31,
+    31, 31, 31, 31, 31, 31, 31, 31, 31, 31, 31, 31, 31, 31, 31, 31,
+    31, 3, 0, 4, 5, 31, 6, 27, 31, 31, 31, 31, 31, 31, 31, 31,
+    31, 31, 31, 31, 31, 31, 31, 31, 31, 31, 31, 31, 31, 31, 31, 31,
+    31, 31, 31, 31, 31, 31, 31, 31, 31, 31, 31, 31, 31, 31, 31, 31,
+];
+
+// What opens the other rows.
+const ERASE_CHIP: [u8; 4] = [0xC7, 0x94, 0x80, 0x9A];
+const ENABLE_PROTECTION: [u8; 4] = [0x3D, 0x2A, 0x7F, 0xA9];
+const DISABLE_PROTECTION: [u8; 4] = [0x3D, 0x2A, 0x7F, 0x9A];
+const ERASE_PROTECTION: [u8; 4] = [0x3D, 0x2A, 0x7F, 0xCF];
+const PROGRAM_PROTECTION: [u8; 4] = [0x3D, 0x2A, 0x7F, 0xFC];
+const LOCK_SECTOR: [u8; 4] = [0x3D, 0x2A, 0x7F, 0x30];
+const PROGRAM_SECURITY: [u8; 4] = [0x9B, 0x00, 0x00, 0x00];
+
+// Row i of the table.
+fn row(i: usize) -> Command
+    requires { ⌜ i < 31 ⌝ }
+    ensures { λ r. ⌜ r ≡ rowAt i ⌝ }
+{
+    COMMANDS[i]
+}
+
+// Which row has this opcode; 31: none.
+fn place(opcode: u8) -> usize
+    ensures { λ r. ⌜ r ≡ placeOf opcode ⌝ }
+{
+    PLACES[opcode as usize] as usize
+}
+
+// The row with this opcode.
+fn lookup(opcode: u8) -> Found
+    ensures { λ r. ⌜ r ≡ lookupOf opcode ⌝ }
+{
+    let i = place(opcode);
+    if i < 31 {
+        let c = row(i);
+        return Found::Row(c);
+    }
+    Found::Missing
+}
+
+// Whether the frame begins with the four bytes.
+fn begins_with(frame: &[u8], opening: [u8; 4]) -> bool
+    ensures { λ r. ⌜ r ≡ begins (now (frame .entry)) opening ⌝ }
+{
+    if frame.len() < 4 {
+        return false;
+    }
+    let s = opening;
+    !slices::differs(&frame[..4], &s)
+}
+
+// The row whose four bytes begin the frame.
+fn sequence(frame: &[u8]) -> Decoded
+    ensures { λ r. ⌜ r ≡ sequenceIn sequences (now (frame .entry)) ⌝ }
+{
+    if begins_with(frame, ERASE_CHIP) {
+        return Decoded { lead: 4, effect: Effect::EraseChip };
+    }
+    if begins_with(frame, ENABLE_PROTECTION) {
+        return Decoded { lead: 4, effect: Effect::EnableProtection };
+    }
+    if begins_with(frame, DISABLE_PROTECTION) {
+        return Decoded { lead: 4, effect: Effect::DisableProtection };
+    }
+    if begins_with(frame, ERASE_PROTECTION) {
+        return Decoded { lead: 4, effect: Effect::EraseProtection };
+    }
+    if begins_with(frame, PROGRAM_PROTECTION) {
+        return Decoded { lead: 4, effect: Effect::ProgramProtection };
+    }
+    if begins_with(frame, LOCK_SECTOR) {
+        return Decoded { lead: 7, effect: Effect::LockSector };
+    }
+    if begins_with(frame, PROGRAM_SECURITY) {
+        return Decoded { lead: 4, effect: Effect::ProgramSecurity };
+    }
+    Decoded { lead: 0, effect: Effect::Unlisted }
+}
+
+// A row whose lead the frame does not fill is no row.
+fn completed(length: usize, d: Decoded) -> Decoded
+    ensures { λ r. ⌜ r ≡ complete length d ⌝ }
+{
+    if d.lead <= length { d } else { Decoded { lead: 0, effect: Effect::Unlisted } }
+}
+
+// A frame's row: its lead and effect.
+pub fn decode(frame: &[u8]) -> Decoded
+    ensures { λ r. ⌜ r ≡ decodeOf (now (frame .entry)) ⌝ }
+{
+    if frame.len() == 0 {
+        return Decoded { lead: 0, effect: Effect::Unlisted };
+    }
+    let f = lookup(frame[0]);
+    match f {
+        Found::Row(c) => {
+            let lead = c.lead as usize;
+            let effect = c.effect;
+            completed(frame.len(), Decoded { lead: lead, effect: effect })
+        }
+        Found::Missing => completed(frame.len(), sequence(frame)),
+    }
+}

@@ -1,0 +1,5 @@
+mod Steps
+pub mod Rows
+pub mod Names
+pub mod Frames
+pub mod Ends

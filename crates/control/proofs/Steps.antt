@@ -1,0 +1,181 @@
+-- What the branches of this crate's functions rest on, as laws over plain values.
+-- Assumes nothing.
+use mathlib.Core.Path.{_≡_, refl, sym, _∙_, ap, subst}
+use mathlib.Core.Bool.{Bool, true, false, cond, _&&_}
+use mathlib.Core.List.{List, [], _∷_}
+use Prim.Native.Nat.{ℕ, _+_, _*_, _-_, _≤_, _<_}
+use native.Mathlib.Nat.{add-zero}
+use native.Mathlib.Omega.{arith}
+use lib.ListN.{length, getD, take, drop, length-take, length-drop}
+use lib.Seq.{getD-drop}
+use lib.Dec.{eqb}
+use borrow.Author.Tests.{ltb-true, le-leb, lt-leb}
+use Rattle.slices.specs.Lists.{over}
+use Rattle.slices.proofs.Laws.{over-whole}
+use Rattle.geometry.specs.declared.Geometry.{Geometry}
+use Rattle.geometry.specs.Parts.{Sized}
+use Rattle.geometry.specs.Sectors.{sectorOf, sectorCount}
+use Rattle.geometry.proofs.Sectors.{sector-most}
+use Rattle.commands.specs.declared.Buffer.{Buffer}
+use Rattle.commands.specs.declared.Effect.{Effect}
+use Rattle.commands.specs.declared.Decoded.{Decoded}
+use Rattle.commands.specs.Decode.{decodeOf}
+use Rattle.commands.specs.Room.{room, takes}
+use Rattle.commands.proofs.Rules.{decode-lead, decode-room, decode-data}
+use Rattle.registers.specs.declared.Data16.{Data16}
+use Rattle.registers.specs.declared.Data64.{Data64}
+use Rattle.registers.specs.declared.Operation.the-variants as O
+use Rattle.registers.specs.declared.Registers.{Registers}
+use Rattle.registers.specs.Fields.{withLockdown, withOperation, withEnabled}
+use Rattle.registers.specs.Operations.{within}
+use Rattle.registers.specs.Protection.{writeProtected, lockedBytes}
+use Rattle.control.specs.Obeyed.{classOf, usageOf, allowed, isWake, obeyed}
+use Rattle.control.specs.declared.Action.the-variants as A
+use Rattle.control.specs.declared.Decision.{Decision}
+use Rattle.control.specs.Control.{decided, ignored, started, programmedThrough, protectionDisabled, protectionErased, protectionData, protectionProgrammed, securityData, securityProgrammed, rowOf, decodedControl, control}
+use Rattle.control.specs.PowerLoss.{afterBuffers, reaching, lostBy}
+
+-- ---- obeyed or not
+
+-- a deep chip obeys nothing but a wake
+pub deep-refuses : (r : Registers) (e : Effect) → r .deep ≡ true → isWake (classOf e) ≡ false → obeyed r e ≡ false
+unfolding obeyed
+deep-refuses r e h k = λ i. cond (h i) (k i) true && allowed (usageOf (r .operation)) (classOf e)
+
+-- else the operation under way decides
+pub awake-allows : (r : Registers) (e : Effect) → r .deep ≡ false → obeyed r e ≡ allowed (usageOf (r .operation)) (classOf e)
+unfolding obeyed
+awake-allows r e h = λ i. cond (h i) (isWake (classOf e)) true && allowed (usageOf (r .operation)) (classOf e)
+
+either-way : (b : Bool) → cond b true true ≡ true
+either-way true = refl
+either-way false = refl
+
+pub woken-allows : (r : Registers) (e : Effect) → isWake (classOf e) ≡ true → obeyed r e ≡ allowed (usageOf (r .operation)) (classOf e)
+unfolding obeyed
+woken-allows r e h =
+    (λ i. cond (r .deep) (h i) true && allowed (usageOf (r .operation)) (classOf e))
+    ∙ (λ i. either-way (r .deep) i && allowed (usageOf (r .operation)) (classOf e))
+
+-- ---- sealed sectors
+
+-- the test that the code makes of a page's sector
+pub tested : (r : Registers) (page : ℕ) {s : ℕ} {b v : Bool} → s ≡ sectorOf page → b ≡ writeProtected r s → b ≡ v → writeProtected r (sectorOf page) ≡ v
+tested r page e h k = ap (writeProtected r) (sym e) ∙ sym h ∙ k
+
+-- a lock under way names one of the 17 sectors
+pub lock-small : (g : Geometry) (n s : ℕ) → Sized g n → within g (O.LockSector s) ≡ true → s < 17
+unfolding within
+lock-small g n s z h = let k = ltb-true s (sectorCount g) h in let m = sector-most g (z .few) in omega arith
+
+-- ---- what WP, the used mark and sealed-ness decide
+
+pub disabled-high : (r : Registers) → r .wp ≡ true → decided (withEnabled r false) A.Silent 0 ≡ protectionDisabled r
+unfolding protectionDisabled
+disabled-high r h = ap (λ (b : Bool). cond b (decided (withEnabled r false) A.Silent 0) (ignored r)) (sym h)
+
+pub disabled-low : (r : Registers) → r .wp ≡ false → ignored r ≡ protectionDisabled r
+unfolding protectionDisabled
+disabled-low r h = ap (λ (b : Bool). cond b (decided (withEnabled r false) A.Silent 0) (ignored r)) (sym h)
+
+pub erased-high : (r : Registers) → r .wp ≡ true → started r O.EraseProtection ≡ protectionErased r
+unfolding protectionErased
+erased-high r h = ap (λ (b : Bool). cond b (started r O.EraseProtection) (ignored r)) (sym h)
+
+pub erased-low : (r : Registers) → r .wp ≡ false → ignored r ≡ protectionErased r
+unfolding protectionErased
+erased-low r h = ap (λ (b : Bool). cond b (started r O.EraseProtection) (ignored r)) (sym h)
+
+listing : Registers → Data16 → Decision
+listing r d = decided (withOperation r (O.ProgramProtection d)) (A.LoadProtection d) 0
+
+pub listed-high : (r : Registers) (f : List ℕ) → r .wp ≡ true
+    → decided (withOperation r (O.ProgramProtection (protectionData f))) (A.LoadProtection (protectionData f)) 0 ≡ protectionProgrammed r f
+unfolding protectionProgrammed listing
+listed-high r f h = ap (λ (b : Bool). cond b (listing r (protectionData f)) (ignored r)) (sym h)
+
+pub listed-low : (r : Registers) (f : List ℕ) → r .wp ≡ false → ignored r ≡ protectionProgrammed r f
+unfolding protectionProgrammed listing
+listed-low r f h = ap (λ (b : Bool). cond b (listing r (protectionData f)) (ignored r)) (sym h)
+
+writing : Registers → Data64 → Decision
+writing r d = decided (withOperation r (O.ProgramSecurity d)) (A.LoadSecurity d) 0
+
+pub security-free : (r : Registers) (f : List ℕ) → r .programmed ≡ false
+    → decided (withOperation r (O.ProgramSecurity (securityData f))) (A.LoadSecurity (securityData f)) 0 ≡ securityProgrammed r f
+unfolding securityProgrammed writing
+security-free r f h = ap (λ (b : Bool). cond b (ignored r) (writing r (securityData f))) (sym h)
+
+pub security-used : (r : Registers) (f : List ℕ) → r .programmed ≡ true → ignored r ≡ securityProgrammed r f
+unfolding securityProgrammed writing
+security-used r f h = ap (λ (b : Bool). cond b (ignored r) (writing r (securityData f))) (sym h)
+
+through : Registers → Buffer → ℕ → ℕ → ℕ → Decision
+through r b page start lead = decided (withOperation r (O.Program b page)) (A.WriteBuffer b start) lead
+
+pub through-open : (r : Registers) (b : Buffer) (page start lead : ℕ) → writeProtected r (sectorOf page) ≡ false
+    → decided (withOperation r (O.Program b page)) (A.WriteBuffer b start) lead ≡ programmedThrough r b page start lead
+unfolding programmedThrough through
+through-open r b page start lead h = ap (λ (x : Bool). cond x (ignored r) (through r b page start lead)) (sym h)
+
+pub through-sealed : (r : Registers) (b : Buffer) (page start lead : ℕ) → writeProtected r (sectorOf page) ≡ true
+    → ignored r ≡ programmedThrough r b page start lead
+unfolding programmedThrough through
+through-sealed r b page start lead h = ap (λ (x : Bool). cond x (ignored r) (through r b page start lead)) (sym h)
+
+-- ---- rows
+
+-- the room that a row's effect has in the frame
+pub has-room : {e k : Effect} {n : ℕ} → e ≡ k → room e ≤ n → room k ≤ n
+has-room {n = n} e h = subst (λ (x : Effect). room x ≤ n) e h
+
+-- and the room of its data
+pub has-data : {e k : Effect} {n : ℕ} → e ≡ k → (takes e ≡ true → 4 ≤ n) → takes k ≡ true → 4 ≤ n
+has-data {n = n} e h = subst (λ (x : Effect). takes x ≡ true → 4 ≤ n) e h
+
+-- a frame that is obeyed does what its row says
+pub obeyed-row : (g : Geometry) (r : Registers) (f : List ℕ) (d : Decoded) → d ≡ decodeOf f → obeyed r (d .effect) ≡ true
+    → rowOf g r f (d .lead) (d .effect) ≡ control g r f
+unfolding control decodedControl
+obeyed-row g r f d e h = ap (λ (b : Bool). cond b (rowOf g r f (d .lead) (d .effect)) (ignored r)) (sym h) ∙ ap (decodedControl g r f) e
+
+-- any other does nothing
+pub refused-row : (g : Geometry) (r : Registers) (f : List ℕ) (d : Decoded) → d ≡ decodeOf f → obeyed r (d .effect) ≡ false
+    → ignored r ≡ control g r f
+unfolding control decodedControl
+refused-row g r f d e h = ap (λ (b : Bool). cond b (rowOf g r f (d .lead) (d .effect)) (ignored r)) (sym h) ∙ ap (decodedControl g r f) e
+
+-- what a frame's row is handed
+pub decoded-room : (f : List ℕ) (d : Decoded) → d ≡ decodeOf f → room (d .effect) ≤ length f
+decoded-room f d e = subst (λ (x : Decoded). room (x .effect) ≤ length f) (sym e) (decode-room f)
+
+pub decoded-data : (f : List ℕ) (d : Decoded) → d ≡ decodeOf f → takes (d .effect) ≡ true → 4 ≤ length f
+decoded-data f d e =
+    subst (λ (x : Decoded). takes (x .effect) ≡ true → 4 ≤ length f) (sym e) (λ h. let k = decode-data f h in let l = decode-lead f in omega arith)
+
+-- ---- cuts
+
+first-after : (g : Geometry) (junk : List ℕ) → getD (afterBuffers g junk) 0 0 ≡ getD junk (2 * g .size) 0
+first-after g junk = getD-drop (2 * g .size) junk 0 0 ∙ ap (λ (n : ℕ). getD junk n 0) (add-zero (2 * g .size))
+
+lost-lock : Registers → ℕ → Bool → Registers
+lost-lock r s b = cond (eqb (getD (cond b (1 ∷ []) (0 ∷ [])) 0 0) 1) (withLockdown r (lockedBytes (r .lockdown) s)) r
+
+-- a lock cut short locks its sector if the first junk byte after the buffers' is at least 80h
+pub lock-cut : (g : Geometry) (r : Registers) (s : ℕ) (junk : List ℕ) → 128 ≤ getD junk (2 * g .size) 0
+    → withLockdown r (lockedBytes (r .lockdown) s) ≡ lostBy (O.LockSector s) (reaching g (O.LockSector s) junk) r
+unfolding reaching lostBy lost-lock
+lock-cut g r s junk h = ap (lost-lock r s) (sym (le-leb 128 (getD (afterBuffers g junk) 0 0) (rw (first-after g junk) h)))
+
+pub lock-kept : (g : Geometry) (r : Registers) (s : ℕ) (junk : List ℕ) → getD junk (2 * g .size) 0 < 128
+    → r ≡ lostBy (O.LockSector s) (reaching g (O.LockSector s) junk) r
+unfolding reaching lostBy lost-lock
+lock-kept g r s junk h = ap (lost-lock r s) (sym (lt-leb 128 (getD (afterBuffers g junk) 0 0) (rw (first-after g junk) h)))
+
+-- junk as long as the register takes the register's place
+pub junk-over : (junk bytes : List ℕ) (a k : ℕ) → a + k ≤ length junk → length bytes ≡ k
+    → take (a + k - a) (drop a junk) ≡ over (take k (drop a junk)) bytes
+junk-over junk bytes a k l n =
+    let m : length (take k (drop a junk)) ≡ length bytes = simp (length-take, length-drop) (omega arith) in
+    let e : a + k - a ≡ k = omega arith in
+    ap (λ (j : ℕ). take j (drop a junk)) e ∙ sym (over-whole (take k (drop a junk)) bytes m)

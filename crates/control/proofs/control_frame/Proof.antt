@@ -1,0 +1,39 @@
+-- `control::control_frame` meets its contract: the row that `decode` finds, if it is obeyed (`obeyed-row`, `refused-
+-- row`); the frame holds what the row reads (`decoded-room`, `decoded-data`).
+-- Assumes nothing.
+use mathlib.Core.Path.{sym, _∙_}
+use borrow.Author.Needs.{needs}
+use Rattle.control.proofs.Steps.{obeyed-row, refused-row, decoded-room, decoded-data}
+use Rattle.control.proofs.control_frame.Statement.{statement}
+use Rattle.control.proofs.control_frame.Tie as tie
+
+decode-requires : tie.Need-decode-requires
+decode-requires c κs = search needs
+
+is-obeyed-requires : tie.Need-is-obeyed-requires
+is-obeyed-requires c κs = search needs
+
+row-requires : tie.Need-row-requires
+row-requires c κs = let f = c .before .before .before .before .args .frame .now in
+    let d = c .before .before .decode in
+    (c .before .before .before .before .pre, decoded-room f (d .result) (d .ensures), decoded-data f (d .result) (d .ensures))
+
+returns : tie.Need-returns
+returns c = let s = c .before .before .before .before .before .args in
+    let d = c .before .before .before .decode in
+    c .row .ensures
+    ∙ obeyed-row (s .g) (s .r) (s .frame .now) (d .result) (d .ensures) (sym (c .before .before .is-obeyed .ensures) ∙ c .before .if1 .taken)
+
+ignore-requires : tie.Need-ignore-requires
+ignore-requires c κs = search needs
+
+returns-2 : tie.Need-returns-2
+returns-2 c = let s = c .before .before .before .before .before .args in
+    let d = c .before .before .before .decode in
+    c .ignore .ensures
+    ∙ refused-row (s .g) (s .r) (s .frame .now) (d .result) (d .ensures) (sym (c .before .before .is-obeyed .ensures) ∙ c .before .if1 .left)
+
+pub control-frame-spec : {M : Type 1} → statement M
+control-frame-spec =
+    tie.close
+    (tie.spec decode-requires is-obeyed-requires row-requires returns ignore-requires returns-2)

@@ -1,0 +1,19 @@
+-- `control::erase_page` meets its contract: the row has the page that the frame names.
+-- Assumes nothing.
+use borrow.Author.Needs.{needs}
+use Rattle.control.specs.Control.{rowDecided}
+use Rattle.control.proofs.erase_page.Statement.{statement}
+use Rattle.control.proofs.erase_page.Tie as tie
+
+page-named-requires : tie.Need-page-named-requires
+page-named-requires c κs = search needs
+
+start-on-requires : tie.Need-start-on-requires
+start-on-requires c κs = search needs
+
+returns : tie.Need-returns
+unfolding rowDecided
+returns c = rw (c .start-on .ensures, c .before .page-named .ensures .0)
+
+pub erase-page-spec : {M : Type 1} → statement M
+erase-page-spec = tie.close (tie.spec page-named-requires start-on-requires returns)

@@ -1,0 +1,66 @@
+-- `control::program_through` meets its contract: the test is that of the page's sector (`tested`), and only an unsealed
+-- one gets to the buffer.
+-- Assumes nothing.
+use mathlib.Core.Path.{_∙_, ap}
+use borrow.Author.Needs.{needs}
+use Rattle.geometry.specs.Parts.{pageAt, byteAt, addressAt}
+use Rattle.geometry.specs.Sectors.{sectorOf}
+use Rattle.control.specs.Control.{rowDecided}
+use Rattle.control.proofs.Steps.{through-open, through-sealed, tested}
+use Rattle.control.proofs.program_through.Statement.{statement}
+use Rattle.control.proofs.program_through.Tie as tie
+
+page-named-requires : tie.Need-page-named-requires
+page-named-requires c κs = search needs
+
+sector-of-requires : tie.Need-sector-of-requires
+sector-of-requires c κs = search needs
+
+is-write-protected-requires : tie.Need-is-write-protected-requires
+is-write-protected-requires c κs = search needs
+
+ignore-requires : tie.Need-ignore-requires
+ignore-requires c κs = search needs
+
+returns : tie.Need-returns
+unfolding rowDecided
+returns c = let s = c .before .before .before .before .before .before .args in
+    let n = addressAt (s .frame .now) 1 in
+    let page = pageAt (s .g) n in
+    rw (c .ignore .ensures)
+    (through-sealed (s .r) (s .buffer) page (byteAt (s .g) n) (s .lead)
+    (tested (s .r) page (c .before .before .before .sector-of .ensures .0 ∙ ap sectorOf (c .before .before .before .before .page-named .ensures .0))
+    (c .before .before .is-write-protected .ensures) (c .before .if1 .taken)))
+
+with-operation-requires : tie.Need-with-operation-requires
+with-operation-requires c κs = search needs
+
+byte-named-requires : tie.Need-byte-named-requires
+byte-named-requires c κs = search needs
+
+decide-requires : tie.Need-decide-requires
+decide-requires c κs = search needs
+
+returns-2 : tie.Need-returns-2
+unfolding rowDecided
+returns-2 c = let s = c .before .before .before .before .before .before .before .before .args in
+    let n = addressAt (s .frame .now) 1 in
+    let page = pageAt (s .g) n in
+    rw (c .decide .ensures, c .before .before .with-operation .ensures, c .before .byte-named .ensures .0, c .before .before .before .before .before .before .page-named .ensures .0)
+    (through-open (s .r) (s .buffer) page (byteAt (s .g) n) (s .lead)
+    (tested (s .r) page (c .before .before .before .before .before .sector-of .ensures .0 ∙ ap sectorOf (c .before .before .before .before .before .before .page-named .ensures .0))
+    (c .before .before .before .before .is-write-protected .ensures) (c .before .before .before .if1 .left)))
+
+pub program-through-spec : {M : Type 1} → statement M
+program-through-spec =
+    tie.close
+    (tie.spec
+    page-named-requires
+    sector-of-requires
+    is-write-protected-requires
+    ignore-requires
+    returns
+    with-operation-requires
+    byte-named-requires
+    decide-requires
+    returns-2)

@@ -1,0 +1,98 @@
+-- Which frames a deep or busy chip obeys (01: "Ignored: .. every frame but AB while deep; while busy, all but D7, 9F and reads
+-- and writes of a buffer the operation doesn't use. During CF, FC, 30 and 9B only D7 is obeyed. An array erase uses no buffer.").
+-- Assumes nothing.
+use mathlib.Core.Bool.{Bool, true, false, cond, not, _&&_}
+use Rattle.commands.specs.declared.Buffer.{Buffer}
+use Rattle.commands.specs.declared.Buffer.the-variants.{One, Two}
+use Rattle.commands.specs.declared.Effect.{Effect}
+use Rattle.commands.specs.declared.Effect.the-variants as E
+use Rattle.control.specs.declared.Class.{Class}
+use Rattle.control.specs.declared.Class.the-variants.{Status, Id, Wake, OfBuffer, Other}
+use Rattle.control.specs.declared.Usage.{Usage}
+use Rattle.control.specs.declared.Usage.the-variants.{Free, NoBuffer, Uses, Exclusive}
+use Rattle.registers.specs.declared.Operation.{Operation}
+use Rattle.registers.specs.declared.Operation.the-variants.{Idle, Program, ProgramOver, Transfer, Compare, Rewrite, ErasePage, EraseBlock, EraseSector, EraseChip, EraseProtection, ProgramProtection, LockSector, ProgramSecurity}
+use Rattle.registers.specs.declared.Registers.{Registers}
+
+-- what matters of a command for whether it is obeyed
+unfoldable pub classOf : Effect → Class
+classOf E.ReadPage = Other
+classOf E.ReadArray = Other
+classOf (E.ReadBuffer b) = OfBuffer b
+classOf (E.WriteBuffer b) = OfBuffer b
+classOf (E.Program b) = Other
+classOf (E.ProgramOver b) = Other
+classOf (E.ProgramThrough b) = Other
+classOf E.ErasePage = Other
+classOf E.EraseBlock = Other
+classOf E.EraseSector = Other
+classOf E.EraseChip = Other
+classOf (E.Transfer b) = Other
+classOf (E.Compare b) = Other
+classOf (E.Rewrite b) = Other
+classOf E.EnableProtection = Other
+classOf E.DisableProtection = Other
+classOf E.EraseProtection = Other
+classOf E.ProgramProtection = Other
+classOf E.LockSector = Other
+classOf E.ProgramSecurity = Other
+classOf E.ReadProtection = Other
+classOf E.ReadLockdown = Other
+classOf E.ReadSecurity = Other
+classOf E.ReadStatus = Status
+classOf E.ReadId = Id
+classOf E.PowerDown = Other
+classOf E.Resume = Wake
+classOf E.Unlisted = Other
+
+-- what matters of the operation under way
+unfoldable pub usageOf : Operation → Usage
+usageOf Idle = Free
+usageOf (Program b page) = Uses b
+usageOf (ProgramOver b page) = Uses b
+usageOf (Transfer b page) = Uses b
+usageOf (Compare b page) = Uses b
+usageOf (Rewrite b page) = Uses b
+usageOf (ErasePage page) = NoBuffer
+usageOf (EraseBlock block) = NoBuffer
+usageOf (EraseSector s) = NoBuffer
+usageOf (EraseChip sectors) = NoBuffer
+usageOf EraseProtection = Exclusive
+usageOf (ProgramProtection d) = Exclusive
+usageOf (LockSector s) = Exclusive
+usageOf (ProgramSecurity d) = Exclusive
+
+unfoldable pub sameBuffer : Buffer → Buffer → Bool
+sameBuffer One One = true
+sameBuffer One Two = false
+sameBuffer Two One = false
+sameBuffer Two Two = true
+
+unfoldable pub allowed : Usage → Class → Bool
+allowed Free c = true
+allowed NoBuffer Status = true
+allowed NoBuffer Id = true
+allowed NoBuffer Wake = false
+allowed NoBuffer (OfBuffer b) = true
+allowed NoBuffer Other = false
+allowed (Uses u) Status = true
+allowed (Uses u) Id = true
+allowed (Uses u) Wake = false
+allowed (Uses u) (OfBuffer b) = not (sameBuffer u b)
+allowed (Uses u) Other = false
+allowed Exclusive Status = true
+allowed Exclusive Id = false
+allowed Exclusive Wake = false
+allowed Exclusive (OfBuffer b) = false
+allowed Exclusive Other = false
+
+unfoldable pub isWake : Class → Bool
+isWake Status = false
+isWake Id = false
+isWake Wake = true
+isWake (OfBuffer b) = false
+isWake Other = false
+
+-- both rules hold at once: a chip that is deep and busy, as a caller may make it, obeys nothing
+unfoldable pub obeyed : Registers → Effect → Bool
+obeyed r e = cond (r .deep) (isWake (classOf e)) true && allowed (usageOf (r .operation)) (classOf e)

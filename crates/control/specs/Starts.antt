@@ -1,0 +1,56 @@
+-- What a frame may start, and when; what no frame changes; how long the registers are.
+-- Assumes nothing.
+use Prim.Native.Nat.{ℕ, _/_}
+use mathlib.Core.Path.{_≡_}
+use mathlib.Core.Bool.{true, false}
+use lib.ListN.{length}
+use Rattle.geometry.specs.declared.Geometry.{Geometry}
+use Rattle.geometry.specs.Parts.{pageAt}
+use Rattle.geometry.specs.Sectors.{sectorOf}
+use Rattle.commands.specs.declared.Buffer.{Buffer}
+use Rattle.registers.specs.declared.Data16.{Data16}
+use Rattle.registers.specs.declared.Data64.{Data64}
+use Rattle.registers.specs.declared.Operation.{Operation}
+use Rattle.registers.specs.declared.Operation.the-variants as O
+use Rattle.registers.specs.declared.Registers.{Registers}
+use Rattle.registers.specs.Protection.{writeProtected, unprotectedSet}
+
+-- idle and awake: a chip that obeys every command
+abbrev pub Ready : Registers → Type 0
+Ready r = (r .operation ≡ O.Idle) × (r .deep ≡ false)
+
+-- the sector of the page that the address names is not sealed
+abbrev pub Open : Geometry → Registers → ℕ → Type 0
+Open g r address = writeProtected r (sectorOf (pageAt g address)) ≡ false
+
+-- the operations that a frame may start on these registers
+pub data Starts (g : Geometry) (r : Registers) : Operation → Type 0 where
+  programs : (b : Buffer) (address : ℕ) → Open g r address → Starts g r (O.Program b (pageAt g address))
+  programs-over : (b : Buffer) (address : ℕ) → Open g r address → Starts g r (O.ProgramOver b (pageAt g address))
+  transfers : (b : Buffer) (address : ℕ) → Starts g r (O.Transfer b (pageAt g address))
+  compares : (b : Buffer) (address : ℕ) → Starts g r (O.Compare b (pageAt g address))
+  rewrites : (b : Buffer) (address : ℕ) → Open g r address → Starts g r (O.Rewrite b (pageAt g address))
+  erases-page : (address : ℕ) → Open g r address → Starts g r (O.ErasePage (pageAt g address))
+  erases-block : (address : ℕ) → Open g r address → Starts g r (O.EraseBlock (pageAt g address / 8))
+  erases-sector : (address : ℕ) → Open g r address → Starts g r (O.EraseSector (sectorOf (pageAt g address)))
+  erases-chip : Starts g r (O.EraseChip (unprotectedSet g r))
+  erases-protection : r .wp ≡ true → Starts g r O.EraseProtection
+  programs-protection : (d : Data16) → r .wp ≡ true → Starts g r (O.ProgramProtection d)
+  locks-sector : (address : ℕ) → Starts g r (O.LockSector (sectorOf (pageAt g address)))
+  programs-security : (d : Data64) → r .programmed ≡ false → Starts g r (O.ProgramSecurity d)
+
+-- what every frame leaves as it is: the registers n after it have of r what only a busy end, a cut or a pin move changes
+pub record Fixed (r n : Registers) : Type 0 where
+  pub protection : n .protection ≡ r .protection
+  pub lockdown : n .lockdown ≡ r .lockdown
+  pub user : n .user ≡ r .user
+  pub factory : n .factory ≡ r .factory
+  pub programmed : n .programmed ≡ r .programmed
+  pub wp : n .wp ≡ r .wp
+
+-- the registers' lengths: "protection (16 bytes), lockdown (16), security (64 user bytes, 64 factory bytes ..)"
+pub record Lengths (r : Registers) : Type 0 where
+  pub protection : length (r .protection) ≡ 16
+  pub lockdown : length (r .lockdown) ≡ 16
+  pub user : length (r .user) ≡ 64
+  pub factory : length (r .factory) ≡ 64

@@ -1,0 +1,678 @@
+// What frames, busy ends and cuts do to the registers. Nothing here sees a buffer's bytes, the array or the compare bit.
+// Internal to this repository: a caller here meets each `requires`; no entry point is in this crate.
+ghost use mathlib.Core.Path.{_≡_};
+ghost use Prim.Native.Nat.{ℕ, _+_, _*_, _≤_, _<_};
+ghost use mathlib.Core.Bool.{true};
+ghost use lib.ListN.{length, take};
+ghost use Rattle.slices.specs.Lists.{over, andOver};
+ghost use Rattle.commands.specs.Room.{room, takes};
+ghost use Rattle.geometry.specs.Parts.{Sized, addressAt, pageAt, byteAt};
+ghost use Rattle.registers.specs.Data.{bytes16};
+ghost use Rattle.registers.specs.Fields.{withProtection, withLockdown, withUser};
+ghost use Rattle.registers.specs.Operations.{within};
+ghost use Rattle.registers.specs.Protection.{lockedBytes};
+ghost use Rattle.control.specs.Obeyed.{classOf, usageOf, sameBuffer, allowed, isWake, obeyed};
+ghost use Rattle.control.specs.Control.{decided, ignored, started, startedOn, rowOf, protectionDisabled, protectionErased, protectionProgrammed, sectorLocked, securityProgrammed, control};
+ghost use Rattle.control.specs.Completion.{completedBy, completed};
+ghost use Rattle.control.specs.PowerLoss.{afterBuffers, reaching, lostBy, lost};
+use commands::Buffer;
+use commands::Effect;
+use geometry::Geometry;
+use registers::Data16;
+use registers::Data64;
+use registers::Operation;
+use registers::Registers;
+
+// What matters of a command for whether it is obeyed.
+pub enum Class {
+    Status,
+    Id,
+    Wake,
+    OfBuffer { buffer: Buffer },
+    Other,
+}
+
+// What matters of the operation under way for what is obeyed: none; one that uses no buffer; one that uses a buffer; one
+// during which only the status is told.
+pub enum Usage {
+    Free,
+    NoBuffer,
+    Uses { buffer: Buffer },
+    Exclusive,
+}
+
+// What a frame asks of the memory.
+pub enum Action {
+    // Nothing: every reply byte is FFh.
+    Silent,
+    ReadPage { page: usize, start: usize },
+    // From an array address on.
+    ReadArray { start: usize },
+    ReadBuffer { buffer: Buffer, start: usize },
+    WriteBuffer { buffer: Buffer, start: usize },
+    // The data of an FC or 9B overwrite the beginning of buffer 1.
+    LoadProtection { data: Data16 },
+    LoadSecurity { data: Data64 },
+    ReadProtection,
+    ReadLockdown,
+    ReadSecurity,
+    ReadStatus,
+    ReadId,
+}
+
+// The registers that a frame leaves, and what it asks of the memory; its data begin after the lead.
+pub struct Decision {
+    pub registers: Registers,
+    pub action: Action,
+    pub lead: usize,
+}
+
+// ---- obeyed or not
+
+fn class_of(e: Effect) -> Class
+    ensures { λ r. ⌜ r ≡ classOf e ⌝ }
+{
+    match e {
+        Effect::ReadPage => Class::Other,
+        Effect::ReadArray => Class::Other,
+        Effect::ReadBuffer { buffer } => Class::OfBuffer { buffer: buffer },
+        Effect::WriteBuffer { buffer } => Class::OfBuffer { buffer: buffer },
+        Effect::Program { buffer: _ } => Class::Other,
+        Effect::ProgramOver { buffer: _ } => Class::Other,
+        Effect::ProgramThrough { buffer: _ } => Class::Other,
+        Effect::ErasePage => Class::Other,
+        Effect::EraseBlock => Class::Other,
+        Effect::EraseSector => Class::Other,
+        Effect::EraseChip => Class::Other,
+        Effect::Transfer { buffer: _ } => Class::Other,
+        Effect::Compare { buffer: _ } => Class::Other,
+        Effect::Rewrite { buffer: _ } => Class::Other,
+        Effect::EnableProtection => Class::Other,
+        Effect::DisableProtection => Class::Other,
+        Effect::EraseProtection => Class::Other,
+        Effect::ProgramProtection => Class::Other,
+        Effect::LockSector => Class::Other,
+        Effect::ProgramSecurity => Class::Other,
+        Effect::ReadProtection => Class::Other,
+        Effect::ReadLockdown => Class::Other,
+        Effect::ReadSecurity => Class::Other,
+        Effect::ReadStatus => Class::Status,
+        Effect::ReadId => Class::Id,
+        Effect::PowerDown => Class::Other,
+        Effect::Resume => Class::Wake,
+        Effect::Unlisted => Class::Other,
+    }
+}
+
+fn usage_of(o: Operation) -> Usage
+    ensures { λ r. ⌜ r ≡ usageOf o ⌝ }
+{
+    match o {
+        Operation::Idle => Usage::Free,
+        Operation::Program { buffer, page: _ } => Usage::Uses { buffer: buffer },
+        Operation::ProgramOver { buffer, page: _ } => Usage::Uses { buffer: buffer },
+        Operation::Transfer { buffer, page: _ } => Usage::Uses { buffer: buffer },
+        Operation::Compare { buffer, page: _ } => Usage::Uses { buffer: buffer },
+        Operation::Rewrite { buffer, page: _ } => Usage::Uses { buffer: buffer },
+        Operation::ErasePage { page: _ } => Usage::NoBuffer,
+        Operation::EraseBlock { block: _ } => Usage::NoBuffer,
+        Operation::EraseSector { sector: _ } => Usage::NoBuffer,
+        Operation::EraseChip { sectors: _ } => Usage::NoBuffer,
+        Operation::EraseProtection => Usage::Exclusive,
+        Operation::ProgramProtection { data: _ } => Usage::Exclusive,
+        Operation::LockSector { sector: _ } => Usage::Exclusive,
+        Operation::ProgramSecurity { data: _ } => Usage::Exclusive,
+    }
+}
+
+fn is_same(a: Buffer, b: Buffer) -> bool
+    ensures { λ r. ⌜ r ≡ sameBuffer a b ⌝ }
+{
+    match a {
+        Buffer::One => match b {
+            Buffer::One => true,
+            Buffer::Two => false,
+        },
+        Buffer::Two => match b {
+            Buffer::One => false,
+            Buffer::Two => true,
+        },
+    }
+}
+
+fn is_allowed(u: Usage, c: Class) -> bool
+    ensures { λ r. ⌜ r ≡ allowed u c ⌝ }
+{
+    match u {
+        Usage::Free => true,
+        Usage::NoBuffer => match c {
+            Class::Status => true,
+            Class::Id => true,
+            Class::Wake => false,
+            Class::OfBuffer { buffer: _ } => true,
+            Class::Other => false,
+        },
+        Usage::Uses { buffer } => match c {
+            Class::Status => true,
+            Class::Id => true,
+            Class::Wake => false,
+            Class::OfBuffer { buffer: other } => !is_same(buffer, other),
+            Class::Other => false,
+        },
+        Usage::Exclusive => match c {
+            Class::Status => true,
+            Class::Id => false,
+            Class::Wake => false,
+            Class::OfBuffer { buffer: _ } => false,
+            Class::Other => false,
+        },
+    }
+}
+
+fn is_wake(c: Class) -> bool
+    ensures { λ r. ⌜ r ≡ isWake c ⌝ }
+{
+    match c {
+        Class::Status => false,
+        Class::Id => false,
+        Class::Wake => true,
+        Class::OfBuffer { buffer: _ } => false,
+        Class::Other => false,
+    }
+}
+
+fn is_obeyed(r: Registers, e: Effect) -> bool
+    ensures { λ b. ⌜ b ≡ obeyed r e ⌝ }
+{
+    let c = class_of(e);
+    if r.deep {
+        if !is_wake(c) {
+            return false;
+        }
+    }
+    let o = r.operation;
+    is_allowed(usage_of(o), c)
+}
+
+// ---- the command table's rows
+
+fn decide(r: Registers, a: Action, lead: usize) -> Decision
+    ensures { λ d. ⌜ d ≡ decided r a lead ⌝ }
+{
+    Decision {
+        registers: r,
+        action: a,
+        lead: lead,
+    }
+}
+
+fn ignore(r: Registers) -> Decision
+    ensures { λ d. ⌜ d ≡ ignored r ⌝ }
+{
+    decide(r, Action::Silent, 0)
+}
+
+fn start(r: Registers, o: Operation) -> Decision
+    ensures { λ d. ⌜ d ≡ started r o ⌝ }
+{
+    decide(registers::with_operation(r, o), Action::Silent, 0)
+}
+
+// A program or erase: ignored where it names a sealed sector.
+fn start_on(r: Registers, page: usize, o: Operation) -> Decision
+    requires { ⌜ page < 4096 ⌝ }
+    ensures { λ d. ⌜ d ≡ startedOn r page o ⌝ }
+{
+    if registers::is_write_protected(r, geometry::sector_of(page)) {
+        return ignore(r);
+    }
+    start(r, o)
+}
+
+// The page of the address from index `at` on.
+fn page_named(g: Geometry, frame: &[u8], at: usize) -> usize
+    requires { ⌜ (Sized g (g .pages * g .size)) × (at + 3 ≤ length (now frame)) ⌝ }
+    ensures { λ r. ⌜ (r ≡ pageAt g (addressAt (now (frame .entry)) at)) × (r < g .pages) ⌝ }
+{
+    geometry::page_at(g, geometry::address_at(frame, at))
+}
+
+// The byte of the frame's first address.
+fn byte_named(g: Geometry, frame: &[u8]) -> usize
+    requires { ⌜ (Sized g (g .pages * g .size)) × (4 ≤ length (now frame)) ⌝ }
+    ensures { λ r. ⌜ (r ≡ byteAt g (addressAt (now (frame .entry)) 1)) × (r < g .size) ⌝ }
+{
+    geometry::byte_at(g, geometry::address_at(frame, 1))
+}
+
+// D2.
+fn read_page(g: Geometry, r: Registers, frame: &[u8], lead: usize) -> Decision
+    requires { ⌜ (Sized g (g .pages * g .size)) × (4 ≤ length (now frame)) ⌝ }
+    ensures { λ d. ⌜ d ≡ rowOf g r (now (frame .entry)) lead Effect.ReadPage ⌝ }
+{
+    let page = page_named(g, frame, 1);
+    let start = byte_named(g, frame);
+    decide(
+        r,
+        Action::ReadPage {
+            page: page,
+            start: start,
+        },
+        lead,
+    )
+}
+
+// 03, 0B.
+fn read_array(g: Geometry, r: Registers, frame: &[u8], lead: usize) -> Decision
+    requires { ⌜ (Sized g (g .pages * g .size)) × (4 ≤ length (now frame)) ⌝ }
+    ensures { λ d. ⌜ d ≡ rowOf g r (now (frame .entry)) lead Effect.ReadArray ⌝ }
+{
+    let page = page_named(g, frame, 1);
+    let start = geometry::page_start(g, page) + byte_named(g, frame);
+    decide(r, Action::ReadArray { start: start }, lead)
+}
+
+// D1/D3, D4/D6.
+fn read_buffer(g: Geometry, r: Registers, frame: &[u8], lead: usize, buffer: Buffer) -> Decision
+    requires { ⌜ (Sized g (g .pages * g .size)) × (4 ≤ length (now frame)) ⌝ }
+    ensures { λ d. ⌜ d ≡ rowOf g r (now (frame .entry)) lead (Effect.ReadBuffer buffer) ⌝ }
+{
+    let start = byte_named(g, frame);
+    decide(
+        r,
+        Action::ReadBuffer {
+            buffer: buffer,
+            start: start,
+        },
+        lead,
+    )
+}
+
+// 84/87.
+fn write_buffer(g: Geometry, r: Registers, frame: &[u8], lead: usize, buffer: Buffer) -> Decision
+    requires { ⌜ (Sized g (g .pages * g .size)) × (4 ≤ length (now frame)) ⌝ }
+    ensures { λ d. ⌜ d ≡ rowOf g r (now (frame .entry)) lead (Effect.WriteBuffer buffer) ⌝ }
+{
+    let start = byte_named(g, frame);
+    decide(
+        r,
+        Action::WriteBuffer {
+            buffer: buffer,
+            start: start,
+        },
+        lead,
+    )
+}
+
+// 83/86.
+fn program(g: Geometry, r: Registers, frame: &[u8], lead: usize, buffer: Buffer) -> Decision
+    requires { ⌜ (Sized g (g .pages * g .size)) × (4 ≤ length (now frame)) ⌝ }
+    ensures { λ d. ⌜ d ≡ rowOf g r (now (frame .entry)) lead (Effect.Program buffer) ⌝ }
+{
+    let page = page_named(g, frame, 1);
+    start_on(
+        r,
+        page,
+        Operation::Program {
+            buffer: buffer,
+            page: page,
+        },
+    )
+}
+
+// 88/89.
+fn program_over(g: Geometry, r: Registers, frame: &[u8], lead: usize, buffer: Buffer) -> Decision
+    requires { ⌜ (Sized g (g .pages * g .size)) × (4 ≤ length (now frame)) ⌝ }
+    ensures { λ d. ⌜ d ≡ rowOf g r (now (frame .entry)) lead (Effect.ProgramOver buffer) ⌝ }
+{
+    let page = page_named(g, frame, 1);
+    start_on(
+        r,
+        page,
+        Operation::ProgramOver {
+            buffer: buffer,
+            page: page,
+        },
+    )
+}
+
+// 82/85: sealed, no buffer is written either.
+fn program_through(g: Geometry, r: Registers, frame: &[u8], lead: usize, buffer: Buffer) -> Decision
+    requires { ⌜ (Sized g (g .pages * g .size)) × (4 ≤ length (now frame)) ⌝ }
+    ensures { λ d. ⌜ d ≡ rowOf g r (now (frame .entry)) lead (Effect.ProgramThrough buffer) ⌝ }
+{
+    let page = page_named(g, frame, 1);
+    if registers::is_write_protected(r, geometry::sector_of(page)) {
+        return ignore(r);
+    }
+    let n = registers::with_operation(
+        r,
+        Operation::Program {
+            buffer: buffer,
+            page: page,
+        },
+    );
+    let start = byte_named(g, frame);
+    decide(
+        n,
+        Action::WriteBuffer {
+            buffer: buffer,
+            start: start,
+        },
+        lead,
+    )
+}
+
+// 81.
+fn erase_page(g: Geometry, r: Registers, frame: &[u8], lead: usize) -> Decision
+    requires { ⌜ (Sized g (g .pages * g .size)) × (4 ≤ length (now frame)) ⌝ }
+    ensures { λ d. ⌜ d ≡ rowOf g r (now (frame .entry)) lead Effect.ErasePage ⌝ }
+{
+    let page = page_named(g, frame, 1);
+    start_on(r, page, Operation::ErasePage { page: page })
+}
+
+// 50.
+fn erase_block(g: Geometry, r: Registers, frame: &[u8], lead: usize) -> Decision
+    requires { ⌜ (Sized g (g .pages * g .size)) × (4 ≤ length (now frame)) ⌝ }
+    ensures { λ d. ⌜ d ≡ rowOf g r (now (frame .entry)) lead Effect.EraseBlock ⌝ }
+{
+    let page = page_named(g, frame, 1);
+    start_on(r, page, Operation::EraseBlock { block: page / 8 })
+}
+
+// 7C.
+fn erase_sector(g: Geometry, r: Registers, frame: &[u8], lead: usize) -> Decision
+    requires { ⌜ (Sized g (g .pages * g .size)) × (4 ≤ length (now frame)) ⌝ }
+    ensures { λ d. ⌜ d ≡ rowOf g r (now (frame .entry)) lead Effect.EraseSector ⌝ }
+{
+    let page = page_named(g, frame, 1);
+    start_on(
+        r,
+        page,
+        Operation::EraseSector {
+            sector: geometry::sector_of(page),
+        },
+    )
+}
+
+// 53/55.
+fn transfer(g: Geometry, r: Registers, frame: &[u8], lead: usize, buffer: Buffer) -> Decision
+    requires { ⌜ (Sized g (g .pages * g .size)) × (4 ≤ length (now frame)) ⌝ }
+    ensures { λ d. ⌜ d ≡ rowOf g r (now (frame .entry)) lead (Effect.Transfer buffer) ⌝ }
+{
+    let page = page_named(g, frame, 1);
+    start(
+        r,
+        Operation::Transfer {
+            buffer: buffer,
+            page: page,
+        },
+    )
+}
+
+// 60/61.
+fn compare(g: Geometry, r: Registers, frame: &[u8], lead: usize, buffer: Buffer) -> Decision
+    requires { ⌜ (Sized g (g .pages * g .size)) × (4 ≤ length (now frame)) ⌝ }
+    ensures { λ d. ⌜ d ≡ rowOf g r (now (frame .entry)) lead (Effect.Compare buffer) ⌝ }
+{
+    let page = page_named(g, frame, 1);
+    start(
+        r,
+        Operation::Compare {
+            buffer: buffer,
+            page: page,
+        },
+    )
+}
+
+// 58/59.
+fn rewrite(g: Geometry, r: Registers, frame: &[u8], lead: usize, buffer: Buffer) -> Decision
+    requires { ⌜ (Sized g (g .pages * g .size)) × (4 ≤ length (now frame)) ⌝ }
+    ensures { λ d. ⌜ d ≡ rowOf g r (now (frame .entry)) lead (Effect.Rewrite buffer) ⌝ }
+{
+    let page = page_named(g, frame, 1);
+    start_on(
+        r,
+        page,
+        Operation::Rewrite {
+            buffer: buffer,
+            page: page,
+        },
+    )
+}
+
+// 3D 2A 7F 9A.
+fn disable_protection(r: Registers) -> Decision
+    ensures { λ d. ⌜ d ≡ protectionDisabled r ⌝ }
+{
+    if r.wp {
+        return decide(registers::with_enabled(r, false), Action::Silent, 0);
+    }
+    ignore(r)
+}
+
+// 3D 2A 7F CF.
+fn erase_protection(r: Registers) -> Decision
+    ensures { λ d. ⌜ d ≡ protectionErased r ⌝ }
+{
+    if r.wp {
+        return start(r, Operation::EraseProtection);
+    }
+    ignore(r)
+}
+
+// 3D 2A 7F FC.
+fn program_protection(r: Registers, frame: &[u8]) -> Decision
+    requires { ⌜ 4 ≤ length (now frame) ⌝ }
+    ensures { λ d. ⌜ d ≡ protectionProgrammed r (now (frame .entry)) ⌝ }
+{
+    if r.wp {
+        let data = registers::protection_data(frame);
+        let n = registers::with_operation(r, Operation::ProgramProtection { data: data });
+        return decide(n, Action::LoadProtection { data: data }, 0);
+    }
+    ignore(r)
+}
+
+// 3D 2A 7F 30: the page is in the last three bytes of the lead.
+fn lock_sector(g: Geometry, r: Registers, frame: &[u8]) -> Decision
+    requires { ⌜ (Sized g (g .pages * g .size)) × (7 ≤ length (now frame)) ⌝ }
+    ensures { λ d. ⌜ d ≡ sectorLocked g r (now (frame .entry)) ⌝ }
+{
+    let page = page_named(g, frame, 4);
+    start(
+        r,
+        Operation::LockSector {
+            sector: geometry::sector_of(page),
+        },
+    )
+}
+
+// 9B 00 00 00.
+fn program_security(r: Registers, frame: &[u8]) -> Decision
+    requires { ⌜ 4 ≤ length (now frame) ⌝ }
+    ensures { λ d. ⌜ d ≡ securityProgrammed r (now (frame .entry)) ⌝ }
+{
+    if r.programmed {
+        return ignore(r);
+    }
+    let data = registers::security_data(frame);
+    let n = registers::with_operation(r, Operation::ProgramSecurity { data: data });
+    decide(n, Action::LoadSecurity { data: data }, 0)
+}
+
+// A row of the command table, for a frame that is obeyed.
+fn row(g: Geometry, r: Registers, frame: &[u8], lead: usize, e: Effect) -> Decision
+    requires { ⌜ (Sized g (g .pages * g .size)) × (room e ≤ length (now frame)) × (takes e ≡ true → 4 ≤ length (now frame)) ⌝ }
+    ensures { λ d. ⌜ d ≡ rowOf g r (now (frame .entry)) lead e ⌝ }
+{
+    match e {
+        Effect::ReadPage => read_page(g, r, frame, lead),
+        Effect::ReadArray => read_array(g, r, frame, lead),
+        Effect::ReadBuffer { buffer } => read_buffer(g, r, frame, lead, buffer),
+        Effect::WriteBuffer { buffer } => write_buffer(g, r, frame, lead, buffer),
+        Effect::Program { buffer } => program(g, r, frame, lead, buffer),
+        Effect::ProgramOver { buffer } => program_over(g, r, frame, lead, buffer),
+        Effect::ProgramThrough { buffer } => program_through(g, r, frame, lead, buffer),
+        Effect::ErasePage => erase_page(g, r, frame, lead),
+        Effect::EraseBlock => erase_block(g, r, frame, lead),
+        Effect::EraseSector => erase_sector(g, r, frame, lead),
+        Effect::EraseChip => start(
+            r,
+            Operation::EraseChip {
+                sectors: registers::unprotected_set(g, r),
+            },
+        ),
+        Effect::Transfer { buffer } => transfer(g, r, frame, lead, buffer),
+        Effect::Compare { buffer } => compare(g, r, frame, lead, buffer),
+        Effect::Rewrite { buffer } => rewrite(g, r, frame, lead, buffer),
+        Effect::EnableProtection => decide(registers::with_enabled(r, true), Action::Silent, 0),
+        Effect::DisableProtection => disable_protection(r),
+        Effect::EraseProtection => erase_protection(r),
+        Effect::ProgramProtection => program_protection(r, frame),
+        Effect::LockSector => lock_sector(g, r, frame),
+        Effect::ProgramSecurity => program_security(r, frame),
+        Effect::ReadProtection => decide(r, Action::ReadProtection, lead),
+        Effect::ReadLockdown => decide(r, Action::ReadLockdown, lead),
+        Effect::ReadSecurity => decide(r, Action::ReadSecurity, lead),
+        Effect::ReadStatus => decide(r, Action::ReadStatus, lead),
+        Effect::ReadId => decide(r, Action::ReadId, lead),
+        Effect::PowerDown => decide(registers::with_deep(r, true), Action::Silent, 0),
+        Effect::Resume => decide(registers::with_deep(r, false), Action::Silent, 0),
+        Effect::Unlisted => ignore(r),
+    }
+}
+
+// ---- frames, busy ends and cuts
+
+// What a frame does to the registers, and what it asks of the memory.
+pub fn control_frame(g: Geometry, r: Registers, frame: &[u8]) -> Decision
+    requires { ⌜ Sized g (g .pages * g .size) ⌝ }
+    ensures { λ d. ⌜ d ≡ control g r (now (frame .entry)) ⌝ }
+{
+    let d = commands::decode(frame);
+    let e = d.effect;
+    if is_obeyed(r, e) {
+        return row(g, r, frame, d.lead, e);
+    }
+    ignore(r)
+}
+
+// FC: protection AND data.
+fn finish_protection(r: Registers, data: Data16) -> Registers
+    ensures { λ n. ⌜ n ≡ withProtection r (andOver (r .protection) (bytes16 «data»)) ⌝ }
+{
+    let mut bytes = r.protection;
+    let mask = registers::unpacked16(data);
+    slices::and_into(&mut bytes, &mask);
+    registers::with_protection(r, bytes)
+}
+
+fn lock(r: Registers, sector: usize) -> Registers
+    requires { ⌜ sector < 17 ⌝ }
+    ensures { λ n. ⌜ n ≡ withLockdown r (lockedBytes (r .lockdown) sector) ⌝ }
+{
+    let lockdown = r.lockdown;
+    registers::with_lockdown(r, registers::locked_bytes(lockdown, sector))
+}
+
+// What the operation does to the registers as it ends.
+fn finish(g: Geometry, r: Registers, o: Operation) -> Registers
+    requires { ⌜ (Sized g (g .pages * g .size)) × (within g o ≡ true) ⌝ }
+    ensures { λ n. ⌜ n ≡ completedBy o r ⌝ }
+{
+    match o {
+        Operation::Idle => r,
+        Operation::Program { buffer: _, page: _ } => r,
+        Operation::ProgramOver { buffer: _, page: _ } => r,
+        Operation::Transfer { buffer: _, page: _ } => r,
+        Operation::Compare { buffer: _, page: _ } => r,
+        Operation::Rewrite { buffer: _, page: _ } => r,
+        Operation::ErasePage { page: _ } => r,
+        Operation::EraseBlock { block: _ } => r,
+        Operation::EraseSector { sector: _ } => r,
+        Operation::EraseChip { sectors: _ } => r,
+        Operation::EraseProtection => registers::with_protection(r, [255u8; 16]),
+        Operation::ProgramProtection { data } => finish_protection(r, data),
+        Operation::LockSector { sector } => lock(r, sector),
+        Operation::ProgramSecurity { data } => registers::with_user(r, registers::unpacked64(data)),
+    }
+}
+
+// The registers after a busy end.
+pub fn complete(g: Geometry, r: Registers) -> Registers
+    requires { ⌜ (Sized g (g .pages * g .size)) × (within g (r .operation) ≡ true) ⌝ }
+    ensures { λ n. ⌜ n ≡ completed r ⌝ }
+{
+    let o = r.operation;
+    registers::with_operation(finish(g, r, o), Operation::Idle)
+}
+
+// A cut during CF or FC: protection becomes junk.
+fn lose_protection(g: Geometry, r: Registers, junk: &[u8]) -> Registers
+    requires { ⌜ 2 * g .size + 64 ≤ length (now junk) ⌝ }
+    ensures { λ n. ⌜ n ≡ withProtection r (over (take 16 (afterBuffers g (now (junk .entry)))) (r .protection)) ⌝ }
+{
+    let mut bytes = r.protection;
+    let a = 2 * g.size;
+    let e = a + 16;
+    slices::copy(&mut bytes, &junk[a..e]);
+    registers::with_protection(r, bytes)
+}
+
+// A cut during 9B: the user bytes become junk.
+fn lose_security(g: Geometry, r: Registers, junk: &[u8]) -> Registers
+    requires { ⌜ 2 * g .size + 64 ≤ length (now junk) ⌝ }
+    ensures { λ n. ⌜ n ≡ withUser r (over (take 64 (afterBuffers g (now (junk .entry)))) (r .user)) ⌝ }
+{
+    let mut bytes = r.user;
+    let a = 2 * g.size;
+    let e = a + 64;
+    slices::copy(&mut bytes, &junk[a..e]);
+    registers::with_user(r, bytes)
+}
+
+// A cut during a lock: the sector locks if the first junk byte after the buffers' is at least 80h.
+fn lose_lock(g: Geometry, r: Registers, junk: &[u8], sector: usize) -> Registers
+    requires { ⌜ (2 * g .size + 64 ≤ length (now junk)) × (sector < 17) ⌝ }
+    ensures { λ n. ⌜ n ≡ lostBy (Operation.LockSector sector) (reaching g (Operation.LockSector sector) (now (junk .entry))) r ⌝ }
+{
+    let a = 2 * g.size;
+    if 128 <= junk[a] {
+        return lock(r, sector);
+    }
+    r
+}
+
+// What a cut during the operation does to the registers.
+fn lose_operation(g: Geometry, r: Registers, o: Operation, junk: &[u8]) -> Registers
+    requires { ⌜ (Sized g (g .pages * g .size)) × (within g o ≡ true) × (2 * g .size + 64 ≤ length (now junk)) ⌝ }
+    ensures { λ n. ⌜ n ≡ lostBy o (reaching g o (now (junk .entry))) r ⌝ }
+{
+    match o {
+        Operation::Idle => r,
+        Operation::Program { buffer: _, page: _ } => r,
+        Operation::ProgramOver { buffer: _, page: _ } => r,
+        Operation::Transfer { buffer: _, page: _ } => r,
+        Operation::Compare { buffer: _, page: _ } => r,
+        Operation::Rewrite { buffer: _, page: _ } => r,
+        Operation::ErasePage { page: _ } => r,
+        Operation::EraseBlock { block: _ } => r,
+        Operation::EraseSector { sector: _ } => r,
+        Operation::EraseChip { sectors: _ } => r,
+        Operation::EraseProtection => lose_protection(g, r, junk),
+        Operation::ProgramProtection { data: _ } => lose_protection(g, r, junk),
+        Operation::LockSector { sector } => lose_lock(g, r, junk, sector),
+        Operation::ProgramSecurity { data: _ } => lose_security(g, r, junk),
+    }
+}
+
+// The registers after a cut.
+pub fn lose(g: Geometry, r: Registers, junk: &[u8]) -> Registers
+    requires { ⌜ (Sized g (g .pages * g .size)) × (within g (r .operation) ≡ true) × (2 * g .size + 64 ≤ length (now junk)) ⌝ }
+    ensures { λ n. ⌜ n ≡ lost r (reaching g (r .operation) (now (junk .entry))) ⌝ }
+{
+    let o = r.operation;
+    registers::restart(lose_operation(g, r, o, junk))
+}

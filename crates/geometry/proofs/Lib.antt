@@ -1,0 +1,5 @@
+pub mod Pages
+pub mod Runs
+pub mod Sectors
+pub mod Addresses
+pub mod Bench

@@ -1,0 +1,4 @@
+pub mod Pages
+pub mod Sectors
+pub mod Replies
+mod Lent

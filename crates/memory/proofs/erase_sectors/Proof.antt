@@ -1,0 +1,62 @@
+-- `memory::erase_sectors` meets its contract: before sector s the sectors below it are done, and what is left of the set is that set divided by 2 s times.
+-- Assumes nothing.
+use mathlib.Core.Path.{ap, _∙_}
+use mathlib.Core.Logic.{⊎-elim}
+use Prim.Native.Nat.{_-_}
+use lib.ListN.{length}
+use borrow.Author.Needs.{needs}
+use Rattle.memory.specs.Pages.{erased}
+use Rattle.memory.proofs.Lent.{Passed, passed-none, passed-done, passed-by, passed-all}
+use Rattle.memory.proofs.erase_sectors.Statement.{statement}
+use Rattle.memory.proofs.erase_sectors.Tie as tie
+
+abbrev Inv-loop : tie.InvT-loop
+Inv-loop g array₀ sectors s₀ m₀ array s m = Passed (erased g) g sectors array₀ s m array
+
+abbrev μ-loop : tie.MeasureT-loop
+μ-loop g array₀ sectors s₀ m₀ array s m = 17 - s
+
+loop-holds : tie.Need-loop-holds Inv-loop μ-loop
+loop-holds c = passed-none
+
+sector-run-requires : tie.Need-sector-run-requires Inv-loop μ-loop
+sector-run-requires c κs = search needs
+
+erase-requires : tie.Need-erase-requires Inv-loop μ-loop
+erase-requires c κs = (rw (c .before .before .before .before .loop .inv .long) (c .before .before .before .before .before .before .pre), c .sector-run .ensures .1)
+
+add-s : tie.Need-add-s Inv-loop μ-loop
+add-s c = search needs
+
+loop-less : tie.Need-loop-less Inv-loop μ-loop
+loop-less c = search needs
+
+loop-again : tie.Need-loop-again Inv-loop μ-loop
+loop-again c =
+    let p = c .before .before .loop .inv in
+    let t = c .before .loop-test .taken in
+    ⊎-elim
+    (λ w. passed-done p t (w .0 .taken) (w .2 .ensures .0) (ap length (w .6) ∙ w .3 .kept .1 .0) (w .6 ∙ w .3 .ensures))
+    (λ w. passed-by p t (w .0 .left) (w .1))
+    (c .if1 .came)
+
+same-length : tie.Need-same-length Inv-loop μ-loop
+same-length c = search needs
+
+returns : tie.Need-returns Inv-loop μ-loop
+returns c = passed-all (c .before .loop .inv) (c .loop-test .left)
+
+pub erase-sectors-spec : {M : Type 1} → statement M
+erase-sectors-spec =
+    tie.close
+    (tie.spec
+    Inv-loop
+    μ-loop
+    loop-holds
+    sector-run-requires
+    erase-requires
+    add-s
+    loop-less
+    loop-again
+    same-length
+    returns)

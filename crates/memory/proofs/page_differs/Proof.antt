@@ -1,0 +1,59 @@
+-- `memory::page_differs` meets its contract: the parts that are compared are the buffer's first bytes and the page.
+-- Assumes nothing.
+use mathlib.Core.Path.{sym, ap, _∙_}
+use mathlib.Core.Bool.{not}
+use mathlib.Core.List.{List}
+use Prim.Native.Nat.{ℕ}
+use lib.ListN.{take}
+use lib.Seq.{length-take-le}
+use borrow.Author.Needs.{needs}
+use Rattle.slices.specs.Lists.{same}
+use Rattle.memory.specs.Pages.{differing}
+use Rattle.memory.proofs.Lent.{page-end, page-part}
+use Rattle.memory.proofs.page_differs.Statement.{statement}
+use Rattle.memory.proofs.page_differs.Tie as tie
+
+page-start-requires : tie.Need-page-start-requires
+page-start-requires c κs = search needs
+
+add-e : tie.Need-add-e
+add-e c = search needs
+
+slice-aggregate-differs : tie.Need-slice-aggregate-differs
+slice-aggregate-differs c =
+    let s = c .before .before .before .before in
+    sym (length-take-le (s .args .g .size) (s .args .buffer .now) (s .pre .2))
+
+sub-differs : tie.Need-sub-differs
+sub-differs c = search needs
+
+part-differs-start : tie.Need-part-differs-start
+part-differs-start c = search needs
+
+part-differs-end : tie.Need-part-differs-end
+part-differs-end c =
+    let s = c .before .before .before .before in
+    page-end (s .args .array .now) (s .pre .0) (s .pre .1) (c .before .page-start .ensures .0)
+
+differs-requires : tie.Need-differs-requires
+differs-requires c κs = search needs
+
+returns : tie.Need-returns
+unfolding differing
+returns c =
+    let a = c .before .before .before .before .before .before .args in
+    c .differs .ensures
+    ∙ ap (λ (l : List ℕ). not (same (take (a .g .size) (a .buffer .now)) l)) (page-part (a .g) (a .page) (a .array .now) (c .before .before .before .page-start .ensures .0))
+
+pub page-differs-spec : {M : Type 1} → statement M
+page-differs-spec =
+    tie.close
+    (tie.spec
+    page-start-requires
+    add-e
+    slice-aggregate-differs
+    sub-differs
+    part-differs-start
+    part-differs-end
+    differs-requires
+    returns)

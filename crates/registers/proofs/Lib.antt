@@ -1,0 +1,5 @@
+pub mod Data
+pub mod Sets
+pub mod Protection
+pub mod Operations
+pub mod Places

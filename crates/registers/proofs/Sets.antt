@@ -1,0 +1,104 @@
+-- Sets of sectors, held as numbers: bit s is sector s. A number is its last bit and twice the rest, so what holds of its bits goes
+-- by recursion on their place.
+-- Assumes nothing.
+use mathlib.Core.Path.{_≡_, sym, ap, _∙_}
+use mathlib.Core.Bool.{Bool, true, false, cond, not}
+use Prim.Native.Nat.{ℕ, zero, suc, _+_, _-_, _*_, _/_, _%_, _^_, _<_, _≤_}
+use native.Mathlib.Nat.{add-zero, zero-add, zero-div, div-eq-of-lt, lt-of-lt-of-le, pow-suc}
+use native.Mathlib.Numerals.{one-add}
+use native.Mathlib.Omega.{arith}
+use lib.Dec.{eqb}
+use lib.Pow.{pow-mono, shr-shr}
+use Rattle.geometry.specs.declared.Geometry.{Geometry}
+use Rattle.geometry.specs.Sectors.{sectorCount}
+use Rattle.registers.specs.declared.Registers.{Registers}
+use Rattle.registers.specs.Operations.{inSet}
+use Rattle.registers.specs.Protection.{writeProtected, unprotectedFrom, unprotectedSet}
+
+-- a number below 2 ^ n has none of the sectors from n on
+pub in-beyond : (sectors n s : ℕ) → sectors < 2 ^ n → n ≤ s → inSet sectors s ≡ false
+unfolding inSet
+in-beyond sectors n s l h =
+    ap (λ (m : ℕ). eqb (m % 2) 1) (div-eq-of-lt {n = sectors} {m = 2 ^ s} (lt-of-lt-of-le l (pow-mono h)))
+
+-- the empty set has none
+pub in-none : (s : ℕ) → inSet 0 s ≡ false
+unfolding inSet
+in-none s = ap (λ (m : ℕ). eqb (m % 2) 1) (zero-div (2 ^ s))
+
+last : (b : Bool) (m : ℕ) → inSet (cond b 0 1 + 2 * m) 0 ≡ not b
+unfolding inSet
+last true m = let e : (0 + 2 * m) / 1 % 2 ≡ 0 = omega arith in ap (λ (k : ℕ). eqb k 1) e
+last false m = let e : (1 + 2 * m) / 1 % 2 ≡ 1 = omega arith in ap (λ (k : ℕ). eqb k 1) e
+
+half : (b : Bool) (m : ℕ) → (cond b 0 1 + 2 * m) / 2 ≡ m
+half true m = omega arith
+half false m = omega arith
+
+rest : (b : Bool) (m k : ℕ) → inSet (cond b 0 1 + 2 * m) (suc k) ≡ inSet m k
+unfolding inSet
+rest b m k =
+    let n : ℕ = cond b 0 1 + 2 * m in
+    ap (λ (j : ℕ). eqb (n / 2 ^ j % 2) 1) (sym (one-add k))
+    ∙ ap (λ (j : ℕ). eqb (j % 2) 1) (sym (shr-shr n 1 k) ∙ ap (λ (j : ℕ). j / 2 ^ k) (half b m))
+
+from-has : (r : Registers) (n s k : ℕ) → k < n → inSet (unprotectedFrom r n s) k ≡ not (writeProtected r (s + k))
+unfolding unprotectedFrom
+from-has r zero s k l = absurd (omega arith)
+from-has r (suc n) s zero l = last (writeProtected r s) (unprotectedFrom r n (s + 1)) ∙ ap (λ (t : ℕ). not (writeProtected r t)) (sym (add-zero s))
+from-has r (suc n) s (suc k) l =
+    let e : s + 1 + k ≡ s + suc k = omega arith in
+    rest (writeProtected r s) (unprotectedFrom r n (s + 1)) k ∙ from-has r n (s + 1) k (omega arith) ∙ ap (λ (t : ℕ). not (writeProtected r t)) e
+
+bit : (b : Bool) → cond b 0 1 ≤ 1
+bit true = omega arith
+bit false = omega arith
+
+-- n sectors make a number below 2 ^ n
+pub from-small : (r : Registers) (n s : ℕ) → unprotectedFrom r n s < 2 ^ n
+unfolding unprotectedFrom
+from-small r zero s = omega arith
+from-small r (suc n) s = omega (arith, pow-suc 2 n, from-small r n (s + 1), bit (writeProtected r s))
+
+-- .. and 17 of them one of 17 bits
+pub from-most : (r : Registers) (n s : ℕ) → n ≤ 17 → unprotectedFrom r n s < 131072
+from-most r n s l = omega (arith, from-small r n s, pow-mono {i = n} {j = 17} l)
+
+-- one sector more, before the others
+pub from-more : (r : Registers) (n s : ℕ) → 0 < s → s ≤ n
+    → unprotectedFrom r (n - (s - 1)) (s - 1) ≡ cond (writeProtected r (s - 1)) 0 1 + 2 * unprotectedFrom r (n - s) s
+unfolding unprotectedFrom
+from-more r n s l h =
+    let e : n - (s - 1) ≡ suc (n - s) = omega arith in
+    let f : s - 1 + 1 ≡ s = omega arith in
+    ap (λ (m : ℕ). unprotectedFrom r m (s - 1)) e ∙ ap (λ (t : ℕ). cond (writeProtected r (s - 1)) 0 1 + 2 * unprotectedFrom r (n - s) t) f
+
+-- ---- a loop over the sectors from the last to the first
+pub from-none : (r : Registers) (n : ℕ) → 0 ≡ unprotectedFrom r (n - n) n
+unfolding unprotectedFrom
+from-none r n = let e : 0 ≡ n - n = omega arith in ap (λ (k : ℕ). unprotectedFrom r k n) e
+
+pub from-free : (r : Registers) (n s m : ℕ) → 0 < s → s ≤ n → writeProtected r (s - 1) ≡ false → m ≡ unprotectedFrom r (n - s) s
+    → 2 * m + 1 ≡ unprotectedFrom r (n - (s - 1)) (s - 1)
+from-free r n s m l h p e = omega (arith, from-more r n s l h, ap (λ (b : Bool). cond {A = ℕ} b 0 1) p)
+
+pub from-sealed : (r : Registers) (n s m : ℕ) → 0 < s → s ≤ n → writeProtected r (s - 1) ≡ true → m ≡ unprotectedFrom r (n - s) s
+    → 2 * m ≡ unprotectedFrom r (n - (s - 1)) (s - 1)
+from-sealed r n s m l h p e = omega (arith, from-more r n s l h, ap (λ (b : Bool). cond {A = ℕ} b 0 1) p)
+
+pub from-all : (g : Geometry) (r : Registers) (n s m : ℕ) → n ≡ sectorCount g → s ≤ 0 → m ≡ unprotectedFrom r (n - s) s → m ≡ unprotectedSet g r
+unfolding unprotectedSet
+from-all g r n s m e l h =
+    let d : n - s ≡ sectorCount g = omega arith in
+    let z : s ≡ 0 = omega arith in
+    h ∙ ap (λ (k : ℕ). unprotectedFrom r k s) d ∙ ap (λ (t : ℕ). unprotectedFrom r (sectorCount g) t) z
+
+-- ---- the sectors that a Chip Erase finds unsealed
+pub unprotected-small : (g : Geometry) (r : Registers) → unprotectedSet g r < 2 ^ sectorCount g
+unfolding unprotectedSet
+unprotected-small g r = from-small r (sectorCount g) 0
+
+-- the set has the part's sectors that are not sealed
+pub unprotected-has : (g : Geometry) (r : Registers) (s : ℕ) → s < sectorCount g → inSet (unprotectedSet g r) s ≡ not (writeProtected r s)
+unfolding unprotectedSet
+unprotected-has g r s l = from-has r (sectorCount g) 0 s l ∙ ap (λ (t : ℕ). not (writeProtected r t)) (zero-add s)

@@ -1,0 +1,44 @@
+-- `registers::bits` meets its contract: each sector's bits as the definition has them.
+-- Assumes nothing.
+use Rattle.registers.specs.Protection.{bitsOf}
+use Rattle.registers.proofs.Protection.{bits-high}
+use mathlib.Core.Path.{sym}
+use native.Mathlib.Omega.{arith}
+use borrow.Author.Needs.{needs}
+use Rattle.registers.proofs.bits.Statement.{statement}
+use Rattle.registers.proofs.bits.Tie as tie
+
+array-read-result : tie.Need-array-read-result
+array-read-result c = search needs
+
+array-read-result-2 : tie.Need-array-read-result-2
+array-read-result-2 c = search needs
+
+sub-result : tie.Need-sub-result
+sub-result c = search needs
+
+array-read-result-3 : tie.Need-array-read-result-3
+array-read-result-3 c = search needs
+
+returns : tie.Need-returns
+unfolding bitsOf
+returns c = rw (c .match .keys1)
+
+returns-2 : tie.Need-returns-2
+unfolding bitsOf
+returns-2 c = rw (c .match .keys2)
+
+returns-3 : tie.Need-returns-3
+returns-3 c = sym (bits-high (c .before .args .t1) (c .before .args .sector) (omega arith))
+
+pub bits-spec : {M : Type 1} → statement M
+bits-spec =
+    tie.close
+    (tie.spec
+    array-read-result
+    array-read-result-2
+    sub-result
+    array-read-result-3
+    returns
+    returns-2
+    returns-3)

@@ -1,0 +1,90 @@
+-- `registers::unprotected_set` meets its contract. The loop's invariant: m is the set of the sectors from s on. Assumes nothing.
+use borrow.Author.Needs.{needs}
+use borrow.Author.Tests.{not-true, not-false}
+use mathlib.Core.Path.{_≡_, sym, _∙_}
+use Prim.Native.Nat.{_-_, _≤_}
+use native.Mathlib.Omega.{arith}
+use Rattle.geometry.proofs.Sectors.{sector-most}
+use Rattle.registers.specs.Protection.{unprotectedFrom}
+use Rattle.registers.proofs.Sets.{from-none, from-most, from-free, from-sealed, from-all}
+use Rattle.registers.proofs.unprotected_set.Statement.{statement}
+use Rattle.registers.proofs.unprotected_set.Tie as tie
+
+abbrev Inv-loop : tie.InvT-loop
+Inv-loop r s₀ m₀ s m = (s ≤ s₀) × (m ≡ unprotectedFrom r (s₀ - s) s)
+
+abbrev μ-loop : tie.MeasureT-loop
+μ-loop r s₀ m₀ s m = s
+
+sector-count-requires : tie.Need-sector-count-requires Inv-loop μ-loop
+sector-count-requires c κs = omega (arith, c .pre .blocks)
+
+loop-holds : tie.Need-loop-holds Inv-loop μ-loop
+loop-holds c = (omega arith, from-none (c .before .args .r) (c .sector-count .result))
+
+sub-s : tie.Need-sub-s Inv-loop μ-loop
+sub-s c = search needs
+
+mul-m : tie.Need-mul-m Inv-loop μ-loop
+mul-m c =
+    let s = c .before .before .before in
+    let l = c .before .loop in
+    let n = c .before .before .sector-count in
+    omega (arith, from-most (s .args .r) (n .result - l .s) (l .s) (omega (arith, sector-most (s .args .g) (s .pre .few))))
+
+is-write-protected-requires : tie.Need-is-write-protected-requires Inv-loop μ-loop
+is-write-protected-requires c κs = let s = c .before .before .before in omega (arith, sector-most (s .args .g) (s .pre .few))
+
+add-m : tie.Need-add-m Inv-loop μ-loop
+add-m c =
+    let s = c .before .before .before .before .before in
+    let l = c .before .before .before .loop in
+    let n = c .before .before .before .before .sector-count in
+    omega (arith, from-most (s .args .r) (n .result - l .s) (l .s) (omega (arith, sector-most (s .args .g) (s .pre .few))))
+
+loop-less : tie.Need-loop-less Inv-loop μ-loop
+loop-less c = search needs
+
+loop-again : tie.Need-loop-again Inv-loop μ-loop
+loop-again c =
+    let l = c .before .before .before .loop in
+    let p = c .before .is-write-protected in
+    let n = c .before .before .before .before .sector-count .result in
+    let e = sym (p .ensures) ∙ not-true (p .result) (c .if1 .taken) in
+    (omega arith, from-free (c .before .before .before .before .before .args .r) n (l .s) (l .m) (omega arith) (omega arith) e (l .inv .1))
+
+loop-less-2 : tie.Need-loop-less-2 Inv-loop μ-loop
+loop-less-2 c = search needs
+
+loop-again-2 : tie.Need-loop-again-2 Inv-loop μ-loop
+loop-again-2 c =
+    let l = c .before .before .before .loop in
+    let p = c .before .is-write-protected in
+    let n = c .before .before .before .before .sector-count .result in
+    let e = sym (p .ensures) ∙ not-false (p .result) (c .if1 .left) in
+    (omega arith, from-sealed (c .before .before .before .before .before .args .r) n (l .s) (l .m) (omega arith) (omega arith) e (l .inv .1))
+
+returns : tie.Need-returns Inv-loop μ-loop
+returns c =
+    let s = c .before .before .before .args in
+    let n = c .before .before .sector-count in
+    let l = c .before .loop in
+    from-all (s .g) (s .r) (n .result) (l .s) (l .m) (n .ensures) (omega arith) (l .inv .1)
+
+pub unprotected-set-spec : {M : Type 1} → statement M
+unprotected-set-spec =
+    tie.close
+    (tie.spec
+    Inv-loop
+    μ-loop
+    sector-count-requires
+    loop-holds
+    sub-s
+    mul-m
+    is-write-protected-requires
+    add-m
+    loop-less
+    loop-again
+    loop-less-2
+    loop-again-2
+    returns)

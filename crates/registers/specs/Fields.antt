@@ -1,0 +1,122 @@
+-- The registers with one field changed.
+-- Assumes nothing.
+use Prim.Native.Nat.{ℕ}
+use mathlib.Core.Bool.{Bool, true, false}
+use mathlib.Core.List.{List}
+use Rattle.registers.specs.declared.Operation.{Operation}
+use Rattle.registers.specs.declared.Operation.the-variants.{Idle}
+use Rattle.registers.specs.declared.Registers.{Registers}
+
+abbrev pub withProtection : Registers → List ℕ → Registers
+withProtection r bytes =
+    record {
+      protection = bytes;
+      lockdown = r .lockdown;
+      user = r .user;
+      factory = r .factory;
+      programmed = r .programmed;
+      enabled = r .enabled;
+      wp = r .wp;
+      deep = r .deep;
+      operation = r .operation;
+    }
+
+abbrev pub withLockdown : Registers → List ℕ → Registers
+withLockdown r bytes =
+    record {
+      protection = r .protection;
+      lockdown = bytes;
+      user = r .user;
+      factory = r .factory;
+      programmed = r .programmed;
+      enabled = r .enabled;
+      wp = r .wp;
+      deep = r .deep;
+      operation = r .operation;
+    }
+
+-- the user bytes written: the used mark is set with them
+abbrev pub withUser : Registers → List ℕ → Registers
+withUser r bytes =
+    record {
+      protection = r .protection;
+      lockdown = r .lockdown;
+      user = bytes;
+      factory = r .factory;
+      programmed = true;
+      enabled = r .enabled;
+      wp = r .wp;
+      deep = r .deep;
+      operation = r .operation;
+    }
+
+abbrev pub withEnabled : Registers → Bool → Registers
+withEnabled r on =
+    record {
+      protection = r .protection;
+      lockdown = r .lockdown;
+      user = r .user;
+      factory = r .factory;
+      programmed = r .programmed;
+      enabled = on;
+      wp = r .wp;
+      deep = r .deep;
+      operation = r .operation;
+    }
+
+abbrev pub withWp : Registers → Bool → Registers
+withWp r high =
+    record {
+      protection = r .protection;
+      lockdown = r .lockdown;
+      user = r .user;
+      factory = r .factory;
+      programmed = r .programmed;
+      enabled = r .enabled;
+      wp = high;
+      deep = r .deep;
+      operation = r .operation;
+    }
+
+abbrev pub withDeep : Registers → Bool → Registers
+withDeep r on =
+    record {
+      protection = r .protection;
+      lockdown = r .lockdown;
+      user = r .user;
+      factory = r .factory;
+      programmed = r .programmed;
+      enabled = r .enabled;
+      wp = r .wp;
+      deep = on;
+      operation = r .operation;
+    }
+
+abbrev pub withOperation : Registers → Operation → Registers
+withOperation r o =
+    record {
+      protection = r .protection;
+      lockdown = r .lockdown;
+      user = r .user;
+      factory = r .factory;
+      programmed = r .programmed;
+      enabled = r .enabled;
+      wp = r .wp;
+      deep = r .deep;
+      operation = o;
+    }
+
+-- what a cut does to every chip: "Marks for protect and deep .. go to 0, the chip is idle"
+abbrev pub restarted : Registers → Registers
+restarted r =
+    record {
+      protection = r .protection;
+      lockdown = r .lockdown;
+      user = r .user;
+      factory = r .factory;
+      programmed = r .programmed;
+      enabled = false;
+      wp = r .wp;
+      deep = false;
+      operation = Idle;
+    }

@@ -1,0 +1,4 @@
+pub mod Data
+pub mod Fields
+pub mod Protection
+pub mod Operations

@@ -1,0 +1,48 @@
+-- Listed, locked and sealed sectors (01, "The chip"). Sectors are numbered 0 to 16: 0 is 0a, 1 is 0b, j + 1 is sector j.
+-- Assumes nothing.
+use Prim.Native.Nat.{ℕ, zero, suc, _+_, _-_, _*_, _/_, _%_}
+use mathlib.Core.Bool.{Bool, cond, not, _&&_, _||_}
+use mathlib.Core.List.{List}
+use lib.ListN.{getD, set}
+use lib.Dec.{eqb}
+use lib.Bits.{bitOr}
+use Rattle.geometry.specs.declared.Geometry.{Geometry}
+use Rattle.geometry.specs.Sectors.{sectorCount}
+use Rattle.registers.specs.declared.Registers.{Registers}
+
+-- "Byte j serves sector j; in byte 0, bits 7-6 serve 0a and bits 5-4 serve 0b": the bits that serve a sector
+unfoldable pub bitsOf : List ℕ → ℕ → ℕ
+bitsOf bytes zero = getD bytes 0 0 / 64
+bitsOf bytes (suc zero) = getD bytes 0 0 / 16 % 4
+bitsOf bytes (suc (suc j)) = getD bytes (suc j) 0
+
+-- "A sector is locked, or listed, if its bits are not all 0": by the lockdown bytes, or the protection bytes
+unfoldable pub marked : List ℕ → ℕ → Bool
+marked bytes s = not (eqb (bitsOf bytes s) 0)
+
+-- "while the mark is set or WP is low"
+abbrev pub guarded : Registers → Bool
+guarded r = r .enabled || not (r .wp)
+
+-- "It is sealed if locked, or if listed while the mark is set or WP is low."
+unfoldable pub writeProtected : Registers → ℕ → Bool
+writeProtected r s = marked (r .lockdown) s || (marked (r .protection) s && guarded r)
+
+-- the sectors from s on, n of them, that are not sealed: bit i is sector s + i
+unfoldable pub unprotectedFrom : Registers → ℕ → ℕ → ℕ
+unprotectedFrom r zero s = 0
+unprotectedFrom r (suc n) s = cond (writeProtected r s) 0 1 + 2 * unprotectedFrom r n (s + 1)
+
+-- "the sectors of the part that a Chip Erase found unsealed": bit i is sector i
+unfoldable pub unprotectedSet : Geometry → Registers → ℕ
+unprotectedSet g r = unprotectedFrom r (sectorCount g) 0
+
+-- the bits that serve a sector, all set: "C0h (0a), 30h (0b) or FFh"
+unfoldable pub maskOf : ℕ → ℕ
+maskOf zero = 0xC0
+maskOf (suc zero) = 0x30
+maskOf (suc (suc j)) = 0xFF
+
+-- "Locking sets C0h (0a), 30h (0b) or FFh, over bits already set." 0a and 0b are both in byte 0
+unfoldable pub lockedBytes : List ℕ → ℕ → List ℕ
+lockedBytes bytes s = set bytes (s - 1) (bitOr (getD bytes (s - 1) 0) (maskOf s))

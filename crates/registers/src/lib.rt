@@ -1,0 +1,448 @@
+// The chip's registers and the operation under way: what they hold, which sectors are protected, what an operation names.
+// Internal to this repository: a caller here meets each `requires`; no entry point is in this crate.
+ghost use mathlib.Core.Path.{_≡_};
+ghost use mathlib.Core.Bool.{true, false};
+ghost use Prim.Native.Nat.{_+_, _*_, _≤_, _<_, _^_};
+ghost use lib.ListN.{length, drop};
+ghost use Rattle.geometry.specs.Parts.{Sized};
+ghost use Rattle.registers.specs.Data.{padded, pack16, pack64, bytes16, bytes64};
+ghost use Rattle.registers.specs.Fields.{withProtection, withLockdown, withUser, withEnabled, withWp, withDeep, withOperation, restarted};
+ghost use Rattle.registers.specs.Protection.{bitsOf, marked, guarded, writeProtected, unprotectedSet, maskOf, lockedBytes};
+ghost use Rattle.registers.specs.Operations.{within, placed, runOf, sectorsOf, bufferUsed};
+use commands::Buffer;
+use geometry::Geometry;
+use geometry::Part;
+use geometry::Run;
+
+// The 16 data bytes of an FC, as words, first byte highest.
+pub struct Data16 {
+    pub a: u64,
+    pub b: u64,
+}
+
+// The 64 data bytes of a 9B, as words, first byte highest.
+pub struct Data64 {
+    pub a: u64,
+    pub b: u64,
+    pub c: u64,
+    pub d: u64,
+    pub e: u64,
+    pub f: u64,
+    pub g: u64,
+    pub h: u64,
+}
+
+// The operation under way, with the page, block, sector or register that it names, and its data.
+pub enum Operation {
+    Idle,
+    // 83/86, 82/85.
+    Program { buffer: Buffer, page: usize },
+    // 88/89.
+    ProgramOver { buffer: Buffer, page: usize },
+    // 53/55.
+    Transfer { buffer: Buffer, page: usize },
+    // 60/61.
+    Compare { buffer: Buffer, page: usize },
+    // 58/59.
+    Rewrite { buffer: Buffer, page: usize },
+    // 81, 50, 7C.
+    ErasePage { page: usize },
+    EraseBlock { block: usize },
+    EraseSector { sector: usize },
+    // C7 94 80 9A, with the sectors that it found unsealed: bit i is sector i.
+    EraseChip { sectors: u32 },
+    // CF, FC, 30, 9B.
+    EraseProtection,
+    ProgramProtection { data: Data16 },
+    LockSector { sector: usize },
+    ProgramSecurity { data: Data64 },
+}
+
+pub struct Registers {
+    pub protection: [u8; 16],
+    pub lockdown: [u8; 16],
+    // Security: user bytes, factory bytes, and 01's used mark.
+    pub user: [u8; 64],
+    pub factory: [u8; 64],
+    pub programmed: bool,
+    // 01's software-protect mark.
+    pub enabled: bool,
+    // WP level: high.
+    pub wp: bool,
+    // 01's deep mark: deep power-down.
+    pub deep: bool,
+    pub operation: Operation,
+}
+
+// ---- the data of an FC or 9B
+
+pub fn packed16(bytes: &[u8; 16]) -> Data16
+    ensures { λ r. ⌜ r ≡ pack16 (now (bytes .entry)) ⌝ }
+{
+    Data16 {
+        a: slices::word_at(bytes, 0),
+        b: slices::word_at(bytes, 8),
+    }
+}
+
+pub fn packed64(bytes: &[u8; 64]) -> Data64
+    ensures { λ r. ⌜ r ≡ pack64 (now (bytes .entry)) ⌝ }
+{
+    Data64 {
+        a: slices::word_at(bytes, 0),
+        b: slices::word_at(bytes, 8),
+        c: slices::word_at(bytes, 16),
+        d: slices::word_at(bytes, 24),
+        e: slices::word_at(bytes, 32),
+        f: slices::word_at(bytes, 40),
+        g: slices::word_at(bytes, 48),
+        h: slices::word_at(bytes, 56),
+    }
+}
+
+// An FC's data: the frame's bytes after the first four, wrapping at 16, FFh where none was sent.
+pub fn protection_data(frame: &[u8]) -> Data16
+    requires { ⌜ 4 ≤ length (now frame) ⌝ }
+    ensures { λ r. ⌜ r ≡ pack16 (padded 16 (drop 4 (now (frame .entry)))) ⌝ }
+{
+    let mut bytes = [255u8; 16];
+    slices::ring_write(&mut bytes, 16, 0, &frame[4..]);
+    packed16(&bytes)
+}
+
+// A 9B's data likewise, wrapping at 64.
+pub fn security_data(frame: &[u8]) -> Data64
+    requires { ⌜ 4 ≤ length (now frame) ⌝ }
+    ensures { λ r. ⌜ r ≡ pack64 (padded 64 (drop 4 (now (frame .entry)))) ⌝ }
+{
+    let mut bytes = [255u8; 64];
+    slices::ring_write(&mut bytes, 64, 0, &frame[4..]);
+    packed64(&bytes)
+}
+
+pub fn unpacked16(data: Data16) -> [u8; 16]
+    ensures { λ r. ⌜ r ≡ bytes16 «data» ⌝ }
+{
+    let mut bytes = [0u8; 16];
+    slices::put_word(&mut bytes, 0, data.a);
+    slices::put_word(&mut bytes, 8, data.b);
+    bytes
+}
+
+pub fn unpacked64(data: Data64) -> [u8; 64]
+    ensures { λ r. ⌜ r ≡ bytes64 «data» ⌝ }
+{
+    let mut bytes = [0u8; 64];
+    slices::put_word(&mut bytes, 0, data.a);
+    slices::put_word(&mut bytes, 8, data.b);
+    slices::put_word(&mut bytes, 16, data.c);
+    slices::put_word(&mut bytes, 24, data.d);
+    slices::put_word(&mut bytes, 32, data.e);
+    slices::put_word(&mut bytes, 40, data.f);
+    slices::put_word(&mut bytes, 48, data.g);
+    slices::put_word(&mut bytes, 56, data.h);
+    bytes
+}
+
+// ---- the registers with one field changed
+
+pub fn with_protection(r: Registers, bytes: [u8; 16]) -> Registers
+    ensures { λ n. ⌜ n ≡ withProtection r bytes ⌝ }
+{
+    let mut n = r;
+    n.protection = bytes;
+    n
+}
+
+pub fn with_lockdown(r: Registers, bytes: [u8; 16]) -> Registers
+    ensures { λ n. ⌜ n ≡ withLockdown r bytes ⌝ }
+{
+    let mut n = r;
+    n.lockdown = bytes;
+    n
+}
+
+pub fn with_user(r: Registers, bytes: [u8; 64]) -> Registers
+    ensures { λ n. ⌜ n ≡ withUser r bytes ⌝ }
+{
+    let mut n = r;
+    n.user = bytes;
+    n.programmed = true;
+    n
+}
+
+pub fn with_enabled(r: Registers, on: bool) -> Registers
+    ensures { λ n. ⌜ n ≡ withEnabled r on ⌝ }
+{
+    let mut n = r;
+    n.enabled = on;
+    n
+}
+
+pub fn with_wp(r: Registers, high: bool) -> Registers
+    ensures { λ n. ⌜ n ≡ withWp r high ⌝ }
+{
+    let mut n = r;
+    n.wp = high;
+    n
+}
+
+pub fn with_deep(r: Registers, on: bool) -> Registers
+    ensures { λ n. ⌜ n ≡ withDeep r on ⌝ }
+{
+    let mut n = r;
+    n.deep = on;
+    n
+}
+
+pub fn with_operation(r: Registers, o: Operation) -> Registers
+    ensures { λ n. ⌜ n ≡ withOperation r o ⌝ }
+{
+    let protection = r.protection;
+    let lockdown = r.lockdown;
+    let user = r.user;
+    let factory = r.factory;
+    Registers {
+        protection: protection,
+        lockdown: lockdown,
+        user: user,
+        factory: factory,
+        programmed: r.programmed,
+        enabled: r.enabled,
+        wp: r.wp,
+        deep: r.deep,
+        operation: o,
+    }
+}
+
+// What a cut does to every chip: both marks off, idle.
+pub fn restart(r: Registers) -> Registers
+    ensures { λ n. ⌜ n ≡ restarted r ⌝ }
+{
+    with_deep(
+        with_enabled(with_operation(r, Operation::Idle), false),
+        false,
+    )
+}
+
+// ---- protection
+
+fn bits(bytes: [u8; 16], sector: usize) -> u8
+    requires { ⌜ sector < 17 ⌝ }
+    ensures { λ r. ⌜ r ≡ bitsOf bytes sector ⌝ }
+{
+    match sector {
+        0 => bytes[0] / 64,
+        1 => bytes[0] / 16 % 4,
+        _ => bytes[sector - 1],
+    }
+}
+
+fn is_marked(bytes: [u8; 16], sector: usize) -> bool
+    requires { ⌜ sector < 17 ⌝ }
+    ensures { λ r. ⌜ r ≡ marked bytes sector ⌝ }
+{
+    bits(bytes, sector) != 0
+}
+
+// The software-protect mark is set, or WP is low.
+pub fn is_guarded(r: Registers) -> bool
+    ensures { λ b. ⌜ b ≡ guarded r ⌝ }
+{
+    if r.enabled {
+        return true;
+    }
+    !r.wp
+}
+
+// 01's sealed.
+pub fn is_write_protected(r: Registers, sector: usize) -> bool
+    requires { ⌜ sector < 17 ⌝ }
+    ensures { λ b. ⌜ b ≡ writeProtected r sector ⌝ }
+{
+    let lockdown = r.lockdown;
+    if is_marked(lockdown, sector) {
+        return true;
+    }
+    let protection = r.protection;
+    if is_marked(protection, sector) {
+        return is_guarded(r);
+    }
+    false
+}
+
+// The sectors of the part that are not sealed: bit i is sector i.
+pub fn unprotected_set(g: Geometry, r: Registers) -> u32
+    requires { ⌜ Sized g (g .pages * g .size) ⌝ }
+    ensures { λ m. ⌜ m ≡ unprotectedSet g r ⌝ }
+{
+    let mut s = geometry::sector_count(g);
+    let mut m: u32 = 0;
+    while 0 < s {
+        s -= 1;
+        m = 2 * m;
+        if !is_write_protected(r, s) {
+            m += 1;
+        }
+    }
+    m
+}
+
+fn mask(sector: usize) -> u8
+    ensures { λ r. ⌜ r ≡ maskOf sector ⌝ }
+{
+    match sector {
+        0 => 0xC0,
+        1 => 0x30,
+        _ => 0xFF,
+    }
+}
+
+// The lockdown bytes with the sector's bits set, over bits already set.
+pub fn locked_bytes(bytes: [u8; 16], sector: usize) -> [u8; 16]
+    requires { ⌜ sector < 17 ⌝ }
+    ensures { λ r. ⌜ r ≡ lockedBytes bytes sector ⌝ }
+{
+    let mut l = bytes;
+    let i = if sector == 0 { 0 } else { sector - 1 };
+    l[i] = l[i] | mask(sector);
+    l
+}
+
+// ---- the operation under way
+
+// 2 to the n.
+fn power(n: usize) -> u32
+    requires { ⌜ n ≤ 17 ⌝ }
+    ensures { λ r. ⌜ r ≡ 2 ^ n ⌝ }
+{
+    let mut p: u32 = 1;
+    let mut i = 0;
+    while i < n {
+        p = 2 * p;
+        i += 1;
+    }
+    p
+}
+
+fn is_within(g: Geometry, o: Operation) -> bool
+    requires { ⌜ Sized g (g .pages * g .size) ⌝ }
+    ensures { λ r. ⌜ r ≡ within g o ⌝ }
+{
+    let pages = g.pages;
+    match o {
+        Operation::Idle => true,
+        Operation::Program { buffer: _, page } => page < pages,
+        Operation::ProgramOver { buffer: _, page } => page < pages,
+        Operation::Transfer { buffer: _, page } => page < pages,
+        Operation::Compare { buffer: _, page } => page < pages,
+        Operation::Rewrite { buffer: _, page } => page < pages,
+        Operation::ErasePage { page } => page < pages,
+        Operation::EraseBlock { block } => block < pages / 8,
+        Operation::EraseSector { sector } => sector < geometry::sector_count(g),
+        Operation::EraseChip { sectors } => sectors < power(geometry::sector_count(g)),
+        Operation::EraseProtection => true,
+        Operation::ProgramProtection { data: _ } => true,
+        Operation::LockSector { sector } => sector < geometry::sector_count(g),
+        Operation::ProgramSecurity { data: _ } => true,
+    }
+}
+
+// The part, if the array's length is one of the two and the operation names nothing beyond it.
+pub fn place(length: usize, o: Operation) -> Part
+    ensures { λ r. ⌜ r ≡ placed length o ⌝ }
+{
+    let p = geometry::part_of(length);
+    match p {
+        Part::Known(g) => {
+            if is_within(g, o) {
+                Part::Known(g)
+            } else {
+                Part::Unknown
+            }
+        }
+        Part::Unknown => Part::Unknown,
+    }
+}
+
+// The pages that the operation erases or programs, but for a Chip Erase.
+pub fn run_of(g: Geometry, o: Operation) -> Run
+    requires { ⌜ (Sized g (g .pages * g .size)) × (within g o ≡ true) ⌝ }
+    ensures { λ r. ⌜ (r ≡ runOf g o) × (r .first + r .count ≤ g .pages) ⌝ }
+{
+    match o {
+        Operation::Idle => Run { first: 0, count: 0 },
+        Operation::Program { buffer: _, page } => Run {
+            first: page,
+            count: 1,
+        },
+        Operation::ProgramOver { buffer: _, page } => Run {
+            first: page,
+            count: 1,
+        },
+        Operation::Transfer { buffer: _, page: _ } => Run { first: 0, count: 0 },
+        Operation::Compare { buffer: _, page: _ } => Run { first: 0, count: 0 },
+        Operation::Rewrite { buffer: _, page } => Run {
+            first: page,
+            count: 1,
+        },
+        Operation::ErasePage { page } => Run {
+            first: page,
+            count: 1,
+        },
+        Operation::EraseBlock { block } => Run {
+            first: 8 * block,
+            count: 8,
+        },
+        Operation::EraseSector { sector } => geometry::sector_run(g, sector),
+        Operation::EraseChip { sectors: _ } => Run { first: 0, count: 0 },
+        Operation::EraseProtection => Run { first: 0, count: 0 },
+        Operation::ProgramProtection { data: _ } => Run { first: 0, count: 0 },
+        Operation::LockSector { sector: _ } => Run { first: 0, count: 0 },
+        Operation::ProgramSecurity { data: _ } => Run { first: 0, count: 0 },
+    }
+}
+
+// The sectors that a Chip Erase found unsealed; none for any other operation.
+pub fn sectors_of(o: Operation) -> u32
+    ensures { λ r. ⌜ r ≡ sectorsOf o ⌝ }
+{
+    match o {
+        Operation::Idle => 0,
+        Operation::Program { buffer: _, page: _ } => 0,
+        Operation::ProgramOver { buffer: _, page: _ } => 0,
+        Operation::Transfer { buffer: _, page: _ } => 0,
+        Operation::Compare { buffer: _, page: _ } => 0,
+        Operation::Rewrite { buffer: _, page: _ } => 0,
+        Operation::ErasePage { page: _ } => 0,
+        Operation::EraseBlock { block: _ } => 0,
+        Operation::EraseSector { sector: _ } => 0,
+        Operation::EraseChip { sectors } => sectors,
+        Operation::EraseProtection => 0,
+        Operation::ProgramProtection { data: _ } => 0,
+        Operation::LockSector { sector: _ } => 0,
+        Operation::ProgramSecurity { data: _ } => 0,
+    }
+}
+
+// The buffer that the operation uses; buffer 1 where it uses none.
+pub fn buffer_used(o: Operation) -> Buffer
+    ensures { λ r. ⌜ r ≡ bufferUsed o ⌝ }
+{
+    match o {
+        Operation::Idle => Buffer::One,
+        Operation::Program { buffer, page: _ } => buffer,
+        Operation::ProgramOver { buffer, page: _ } => buffer,
+        Operation::Transfer { buffer, page: _ } => buffer,
+        Operation::Compare { buffer, page: _ } => buffer,
+        Operation::Rewrite { buffer, page: _ } => buffer,
+        Operation::ErasePage { page: _ } => Buffer::One,
+        Operation::EraseBlock { block: _ } => Buffer::One,
+        Operation::EraseSector { sector: _ } => Buffer::One,
+        Operation::EraseChip { sectors: _ } => Buffer::One,
+        Operation::EraseProtection => Buffer::One,
+        Operation::ProgramProtection { data: _ } => Buffer::One,
+        Operation::LockSector { sector: _ } => Buffer::One,
+        Operation::ProgramSecurity { data: _ } => Buffer::One,
+    }
+}

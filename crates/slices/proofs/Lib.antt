@@ -1,0 +1,5 @@
+pub mod Laws
+pub mod Loops
+pub mod Rings
+pub mod Words
+mod Runs

@@ -1,0 +1,9 @@
+pub mod Accepted
+pub mod Blind
+pub mod Status
+pub mod Replies
+pub mod Lengths
+pub mod Loads
+pub mod Keeps
+pub mod Placed
+pub mod Arms

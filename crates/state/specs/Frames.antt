@@ -1,0 +1,107 @@
+-- What a frame does to the memory, and its reply: given what control decided of the frame.
+-- Assumes nothing.
+use Prim.Native.Nat.{ℕ, _+_}
+use mathlib.Core.Bool.{Bool, true, false, cond}
+use mathlib.Core.List.{List, [], _∷_, _++_}
+use lib.ListN.{length, drop}
+use Rattle.slices.specs.Lists.{over, ringWrite}
+use Rattle.geometry.specs.declared.Geometry.{Geometry}
+use Rattle.geometry.specs.Parts.{pageOf}
+use Rattle.commands.specs.declared.Buffer.{Buffer}
+use Rattle.commands.specs.declared.Buffer.the-variants.{One}
+use Rattle.registers.specs.declared.Operation.{Operation}
+use Rattle.registers.specs.declared.Operation.the-variants.{Idle, Program, ProgramOver, Transfer, Compare, Rewrite, ErasePage, EraseBlock, EraseSector, EraseChip, EraseProtection, ProgramProtection, LockSector, ProgramSecurity}
+use Rattle.registers.specs.declared.Registers.{Registers}
+use Rattle.registers.specs.Data.{bytes16, bytes64}
+use Rattle.registers.specs.Protection.{guarded}
+use Rattle.control.specs.declared.Action.{Action}
+use Rattle.control.specs.declared.Action.the-variants.{Silent, ReadPage, ReadArray, ReadBuffer, WriteBuffer, LoadProtection, LoadSecurity, ReadProtection, ReadLockdown, ReadSecurity, ReadStatus, ReadId}
+use Rattle.control.specs.Control.{control}
+use Rattle.memory.specs.Replies.{replied, noData, onceData, ringData}
+use Rattle.state.specs.declared.Chip.{Chip}
+use Rattle.state.specs.Memory.{Memory, bufferIn, putBuffer, bufferOf, withBuffer}
+
+unfoldable pub isIdle : Operation → Bool
+isIdle Idle = true
+isIdle (Program b page) = false
+isIdle (ProgramOver b page) = false
+isIdle (Transfer b page) = false
+isIdle (Compare b page) = false
+isIdle (Rewrite b page) = false
+isIdle (ErasePage page) = false
+isIdle (EraseBlock block) = false
+isIdle (EraseSector s) = false
+isIdle (EraseChip sectors) = false
+isIdle EraseProtection = false
+isIdle (ProgramProtection d) = false
+isIdle (LockSector s) = false
+isIdle (ProgramSecurity d) = false
+
+-- "Status: bit 7 ready, bit 6 compare, bits 5-2 = 1001, bit 1 = mark set or WP low, bit 0 = 0."
+unfoldable pub statusOf : Bool → Bool → Bool → ℕ
+statusOf ready compare protect = cond ready 0x80 0 + cond compare 0x40 0 + 0x24 + cond protect 0x02 0
+
+-- 9F: "1F 25 00 00"
+abbrev pub identity : List ℕ
+identity = 0x1F ∷ 0x25 ∷ 0x00 ∷ 0x00 ∷ []
+
+-- byte i of the data that a frame reads; FFh where it reads none
+unfoldable pub dataOf : Geometry → Registers → Memory → Action → ℕ → ℕ
+dataOf g r m Silent = noData
+dataOf g r m (ReadPage page start) = ringData (g .size) start (pageOf g page (m .array))
+dataOf g r m (ReadArray start) = ringData (length (m .array)) start (m .array)
+dataOf g r m (ReadBuffer b start) = ringData (g .size) start (bufferIn b m)
+dataOf g r m (WriteBuffer b start) = noData
+dataOf g r m (LoadProtection d) = noData
+dataOf g r m (LoadSecurity d) = noData
+dataOf g r m ReadProtection = onceData (r .protection)
+dataOf g r m ReadLockdown = onceData (r .lockdown)
+dataOf g r m ReadSecurity = onceData (r .user ++ r .factory)
+dataOf g r m ReadStatus = λ i. statusOf (isIdle (r .operation)) (m .compare) (guarded r)
+dataOf g r m ReadId = onceData identity
+
+-- the reply to a frame: "Reply length equals frame length"
+unfoldable pub replyOf : Geometry → Registers → Memory → List ℕ → List ℕ
+replyOf g r m f = replied (length f) (control g r f .lead) (dataOf g r m (control g r f .action))
+
+-- the buffer that an action writes; One where it writes none
+unfoldable pub bufferWritten : Action → Buffer
+bufferWritten Silent = One
+bufferWritten (ReadPage page start) = One
+bufferWritten (ReadArray start) = One
+bufferWritten (ReadBuffer b start) = One
+bufferWritten (WriteBuffer b start) = b
+bufferWritten (LoadProtection d) = One
+bufferWritten (LoadSecurity d) = One
+bufferWritten ReadProtection = One
+bufferWritten ReadLockdown = One
+bufferWritten ReadSecurity = One
+bufferWritten ReadStatus = One
+bufferWritten ReadId = One
+
+-- what an action makes of that buffer. 84/87: "write buffer 1/2 from byte, wrapping"; FC, 9B: "at the start the 16 or 64 bytes
+-- also overwrite the beginning of buffer 1"
+unfoldable pub written : Geometry → Action → List ℕ → List ℕ → List ℕ
+written g Silent bytes buffer = buffer
+written g (ReadPage page start) bytes buffer = buffer
+written g (ReadArray start) bytes buffer = buffer
+written g (ReadBuffer b start) bytes buffer = buffer
+written g (WriteBuffer b start) bytes buffer = ringWrite (g .size) start bytes buffer
+written g (LoadProtection d) bytes buffer = over (bytes16 d) buffer
+written g (LoadSecurity d) bytes buffer = over (bytes64 d) buffer
+written g ReadProtection bytes buffer = buffer
+written g ReadLockdown bytes buffer = buffer
+written g ReadSecurity bytes buffer = buffer
+written g ReadStatus bytes buffer = buffer
+written g ReadId bytes buffer = buffer
+
+unfoldable pub acted : Geometry → Action → List ℕ → Memory → Memory
+acted g a bytes m = putBuffer (bufferWritten a) (written g a bytes (bufferIn (bufferWritten a) m)) m
+
+-- the memory after a frame
+unfoldable pub sentMemory : Geometry → Registers → List ℕ → Memory → Memory
+sentMemory g r f m = acted g (control g r f .action) (drop (control g r f .lead) f) m
+
+-- the same of the chip record
+unfoldable pub actedChip : Geometry → Action → List ℕ → Chip → Chip
+actedChip g a bytes c = withBuffer c (bufferWritten a) (written g a bytes (bufferOf c (bufferWritten a)))

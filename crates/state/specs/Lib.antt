@@ -1,0 +1,6 @@
+pub mod Answers
+pub mod Memory
+pub mod Frames
+pub mod Completion
+pub mod PowerLoss
+pub mod Outcomes

@@ -1,0 +1,365 @@
+//! Lines of document 01 about the chip, with the values typed from it.
+
+use at45db081d_model::command::decode;
+use at45db081d_model::part::{sector_bits, sector_of};
+use at45db081d_model::{answer, record, Buffer, Chip, Operation, Part, Record, RECORD_LEN};
+
+const FACTORY: [u8; 64] = [0x5A; 64];
+
+/// A fresh chip and its array.
+fn fresh(part: Part) -> (Chip, Vec<u8>) {
+    let mut array = vec![0; part.array_len()];
+    let chip = Chip::fresh(&FACTORY, &mut array).expect("a known part");
+    (chip, array)
+}
+
+/// Sends a frame that must be accepted; hands back the reply.
+fn send(chip: &mut Chip, array: &[u8], frame: &[u8]) -> Vec<u8> {
+    let mut reply = vec![0xEE; frame.len()];
+    assert_eq!(chip.send(array, frame, &mut reply), answer::ACCEPTED);
+    reply
+}
+
+fn status(chip: &mut Chip, array: &[u8]) -> u8 {
+    send(chip, array, &[0xD7, 0x00])[1]
+}
+
+fn page_named(frame: &[u8], part: Part) -> u16 {
+    part.page_of(decode(frame).expect("a known frame").address)
+}
+
+/// 84 with all 264 bytes alike, then 83 of the page with its busy end.
+fn program(chip: &mut Chip, array: &mut [u8], page: u16, byte: u8) {
+    let mut frame = vec![byte; 268];
+    frame[..4].copy_from_slice(&[0x84, 0, 0, 0]);
+    send(chip, array, &frame);
+    let [high, low] = (page * 2).to_be_bytes();
+    send(chip, array, &[0x83, high, low, 0]);
+    assert_eq!(chip.end_busy(array), answer::ACCEPTED);
+}
+
+#[test]
+fn parts_have_their_lengths() {
+    assert_eq!(Part::FULL.array_len(), 1_081_344);
+    assert_eq!(Part::SHORT.array_len(), 33_792);
+    assert_eq!(Part::from_array_len(1_081_344), Some(Part::FULL));
+    assert_eq!(Part::from_array_len(33_792), Some(Part::SHORT));
+    for len in [0, 1, 33_791, 33_793, 1_048_576, 1_081_343, 1_081_345] {
+        assert_eq!(Part::from_array_len(len), None);
+    }
+    assert_eq!(Part::FULL.junk_len(), 1_081_872);
+    assert_eq!(Part::SHORT.junk_len(), 34_320);
+}
+
+#[test]
+fn addresses_name_pages_and_bytes() {
+    assert_eq!(page_named(&[0x83, 0x00, 0x0A, 0x00], Part::FULL), 5);
+    assert_eq!(page_named(&[0x83, 0x1F, 0xFE, 0x00], Part::FULL), 4095);
+    assert_eq!(page_named(&[0x83, 0xFF, 0xFE, 0x00], Part::FULL), 4095);
+    assert_eq!(page_named(&[0x83, 0xFF, 0xFE, 0x00], Part::SHORT), 127);
+    assert_eq!(Part::FULL.byte_of(263), 263);
+    assert_eq!(Part::FULL.byte_of(264), 0);
+    assert_eq!(Part::FULL.byte_of(511), 247);
+    assert_eq!(Part::FULL.byte_of(512), 0);
+}
+
+#[test]
+fn pages_lie_in_their_sectors() {
+    assert_eq!([7, 8, 255, 256].map(sector_of), [0, 1, 1, 2]);
+    assert_eq!(sector_of(4095), 16);
+    assert_eq!(Part::FULL.sectors(), 17);
+    assert_eq!(Part::SHORT.sectors(), 2);
+    assert_eq!(Part::FULL.sector_range(0), 0..8 * 264);
+    assert_eq!(Part::FULL.sector_range(1), 8 * 264..256 * 264);
+    assert_eq!(Part::SHORT.sector_range(1), 8 * 264..128 * 264);
+    assert_eq!(Part::FULL.sector_range(16), 3840 * 264..4096 * 264);
+    assert_eq!(sector_bits(0), (0, 0xC0));
+    assert_eq!(sector_bits(1), (0, 0x30));
+    assert_eq!(sector_bits(16), (15, 0xFF));
+}
+
+#[test]
+fn fresh_chip_is_as_listed() {
+    let (chip, array) = fresh(Part::SHORT);
+    assert!(array.iter().all(|&byte| byte == 0xFF));
+    assert_eq!(chip.user, [0xFF; 64]);
+    assert_eq!(chip.factory, FACTORY);
+    assert_eq!(chip.buffers, [[0; 264]; 2]);
+    assert_eq!((chip.protection, chip.lockdown), ([0; 16], [0; 16]));
+    assert!(chip.wp_high && chip.operation == Operation::Idle && !chip.compare);
+    assert!(!chip.security_programmed && !chip.protection_enabled && !chip.deep_power_down);
+}
+
+#[test]
+fn status_is_a4_a6_24() {
+    let (mut chip, array) = fresh(Part::FULL);
+    assert_eq!(status(&mut chip, &array), 0xA4);
+    send(&mut chip, &array, &[0x3D, 0x2A, 0x7F, 0xA9]);
+    assert_eq!(status(&mut chip, &array), 0xA6);
+    send(&mut chip, &array, &[0x3D, 0x2A, 0x7F, 0x9A]);
+    send(&mut chip, &array, &[0x83, 0x00, 0x0A, 0x00]);
+    assert_eq!(status(&mut chip, &array), 0x24);
+    chip.move_pin(false);
+    assert_eq!(status(&mut chip, &array), 0x26);
+    assert_eq!(send(&mut chip, &array, &[0xD7]), [0xFF]);
+}
+
+#[test]
+fn frame_83_programs_page_5_at_the_busy_end() {
+    let (mut chip, mut array) = fresh(Part::FULL);
+    send(&mut chip, &array, &[0x84, 0, 0, 0, 0x11]);
+    send(&mut chip, &array, &[0x83, 0x00, 0x0A, 0x00]);
+    assert_eq!(array[5 * 264], 0xFF);
+    chip.end_busy(&mut array);
+    assert_eq!(array[5 * 264], 0x11);
+    assert_eq!(array[5 * 264 + 1..6 * 264], [0; 263]);
+    assert_eq!((array[5 * 264 - 1], array[6 * 264]), (0xFF, 0xFF));
+}
+
+#[test]
+fn frame_88_ands_f0_with_3c_to_30() {
+    let (mut chip, mut array) = fresh(Part::SHORT);
+    program(&mut chip, &mut array, 5, 0xF0);
+    let mut write = vec![0x3C; 268];
+    write[..4].copy_from_slice(&[0x84, 0, 0, 0]);
+    send(&mut chip, &array, &write);
+    send(&mut chip, &array, &[0x88, 0x00, 0x0A, 0x00]);
+    chip.end_busy(&mut array);
+    assert_eq!(array[5 * 264..6 * 264], [0x30; 264]);
+}
+
+#[test]
+fn reads_wrap_where_listed() {
+    let (mut chip, mut array) = fresh(Part::SHORT);
+    for (i, byte) in array.iter_mut().enumerate() {
+        *byte = (i / 264 + i % 264) as u8;
+    }
+    // Page 127, byte 263: the page's byte 0 follows, or the array's.
+    let page = send(
+        &mut chip,
+        &array,
+        &[0xD2, 0x00, 0xFF, 0x07, 0, 0, 0, 0, 0, 0],
+    );
+    assert_eq!(page[8..], [134, 127]);
+    let on = send(&mut chip, &array, &[0x03, 0x00, 0xFF, 0x07, 0, 0]);
+    assert_eq!(on[4..], [134, 0]);
+    let on = send(&mut chip, &array, &[0x0B, 0x00, 0xFF, 0x07, 0, 0, 0]);
+    assert_eq!(on[5..], [134, 0]);
+}
+
+#[test]
+fn registers_and_identification_end_in_ff() {
+    let (mut chip, array) = fresh(Part::SHORT);
+    chip.protection = [0x21; 16];
+    chip.lockdown = [0x43; 16];
+    chip.user = [0x65; 64];
+    let reply = send(&mut chip, &array, &[0x9F, 0, 0, 0, 0, 0]);
+    assert_eq!(reply, [0xFF, 0x1F, 0x25, 0x00, 0x00, 0xFF]);
+    let mut frame = [0; 140];
+    for (opcode, length, expected) in [(0x32, 16, 0x21), (0x35, 16, 0x43)] {
+        frame[0] = opcode;
+        let reply = send(&mut chip, &array, &frame);
+        assert!(reply[4..4 + length].iter().all(|&byte| byte == expected));
+        assert_eq!((reply[3], reply[4 + length]), (0xFF, 0xFF));
+    }
+    frame[0] = 0x77;
+    let reply = send(&mut chip, &array, &frame);
+    assert_eq!(reply[4..68], [0x65; 64]);
+    assert_eq!(reply[68..132], FACTORY);
+    assert_eq!(reply[132..], [0xFF; 8]);
+}
+
+#[test]
+fn sealed_sectors_take_no_program() {
+    let (mut chip, mut array) = fresh(Part::FULL);
+    // A single bit lists 0a; the low bits of byte 0 serve nobody.
+    chip.protection[0] = 0x4F;
+    chip.move_pin(false);
+    let before = chip.clone();
+    send(&mut chip, &array, &[0x82, 0x00, 0x0E, 0x00, 0x77]);
+    send(&mut chip, &array, &[0x58, 0x00, 0x0E, 0x00]);
+    assert_eq!(chip, before);
+    send(&mut chip, &array, &[0x82, 0x00, 0x10, 0x00, 0x77]);
+    assert_eq!(chip.buffers[0][0], 0x77);
+    chip.end_busy(&mut array);
+    assert_eq!(array[8 * 264], 0x77);
+    // A Chip Erase takes what is not sealed: here all but 0a.
+    send(&mut chip, &array, &[0xC7, 0x94, 0x80, 0x9A]);
+    assert_eq!(chip.operation, Operation::EraseChip { sectors: 0x1_FFFE });
+}
+
+#[test]
+fn locking_sets_c0_30_or_ff() {
+    let (mut chip, mut array) = fresh(Part::FULL);
+    for page in [[0x00, 0x00, 0x00], [0x00, 0x10, 0x00], [0x1F, 0xFE, 0x00]] {
+        let mut frame = vec![0x3D, 0x2A, 0x7F, 0x30];
+        frame.extend(page);
+        send(&mut chip, &array, &frame);
+        chip.end_busy(&mut array);
+    }
+    assert_eq!((chip.lockdown[0], chip.lockdown[15]), (0xF0, 0xFF));
+    assert_eq!(chip.lockdown[1..15], [0; 14]);
+}
+
+#[test]
+fn protection_is_programmed_by_and() {
+    let (mut chip, mut array) = fresh(Part::SHORT);
+    chip.protection = [0xF0; 16];
+    let mut frame = vec![0x3D, 0x2A, 0x7F, 0xFC];
+    frame.extend([0x3C; 17]);
+    frame[4 + 16] = 0x11;
+    send(&mut chip, &array, &frame);
+    assert_eq!(
+        chip.buffers[0][..17],
+        [[0x11, 0x3C].as_slice(), &[0x3C; 14], &[0]].concat()
+    );
+    // Only status is obeyed meanwhile.
+    assert_eq!(send(&mut chip, &array, &[0x9F, 0]), [0xFF, 0xFF]);
+    assert_eq!(status(&mut chip, &array), 0x24);
+    chip.end_busy(&mut array);
+    assert_eq!((chip.protection[0], chip.protection[1]), (0x10, 0x30));
+}
+
+#[test]
+fn security_is_programmed_once() {
+    let (mut chip, mut array) = fresh(Part::SHORT);
+    send(&mut chip, &array, &[0x9B, 0, 0, 0, 0x42]);
+    chip.end_busy(&mut array);
+    assert!(chip.security_programmed);
+    assert_eq!((chip.user[0], chip.user[1]), (0x42, 0xFF));
+    send(&mut chip, &array, &[0x9B, 0, 0, 0, 0x00]);
+    assert_eq!(
+        (chip.operation, chip.buffers[0][0]),
+        (Operation::Idle, 0x42)
+    );
+}
+
+#[test]
+fn compare_bit_tells_a_difference() {
+    let (mut chip, mut array) = fresh(Part::SHORT);
+    send(&mut chip, &array, &[0x60, 0, 0, 0]);
+    chip.end_busy(&mut array);
+    assert_eq!(status(&mut chip, &array), 0xE4);
+    send(&mut chip, &array, &[0x53, 0, 0, 0]);
+    chip.end_busy(&mut array);
+    send(&mut chip, &array, &[0x60, 0, 0, 0]);
+    chip.end_busy(&mut array);
+    assert_eq!(status(&mut chip, &array), 0xA4);
+}
+
+#[test]
+fn deep_power_down_obeys_ab_alone() {
+    let (mut chip, array) = fresh(Part::SHORT);
+    send(&mut chip, &array, &[0xB9]);
+    assert_eq!(status(&mut chip, &array), 0xFF);
+    send(&mut chip, &array, &[0xAB]);
+    assert_eq!(status(&mut chip, &array), 0xA4);
+}
+
+#[test]
+fn cut_keeps_lockdown_and_wp() {
+    let (mut chip, mut array) = fresh(Part::SHORT);
+    chip.lockdown = [0x99; 16];
+    chip.protection = [0x88; 16];
+    chip.protection_enabled = true;
+    chip.deep_power_down = true;
+    chip.compare = true;
+    chip.wp_high = false;
+    chip.operation = Operation::EraseBlock { block: 1 };
+    let mut junk = vec![0x07; Part::SHORT.junk_len()];
+    junk[528 + 8 * 264] = 0x08;
+    assert_eq!(chip.cut(&mut array, &junk), answer::ACCEPTED);
+    assert_eq!(chip.buffers, [[0x07; 264]; 2]);
+    assert_eq!((chip.lockdown, chip.protection), ([0x99; 16], [0x88; 16]));
+    assert!(!chip.protection_enabled && !chip.deep_power_down && !chip.compare && !chip.wp_high);
+    assert_eq!((array[8 * 264 - 1], array[8 * 264]), (0xFF, 0x08));
+    assert_eq!((array[16 * 264 - 1], array[16 * 264]), (0x07, 0xFF));
+}
+
+#[test]
+fn cut_locks_from_80h_on() {
+    for (byte, expected) in [(0x7F, 0x00), (0x80, 0x30)] {
+        let (mut chip, mut array) = fresh(Part::SHORT);
+        chip.operation = Operation::LockSector { sector: 1 };
+        let mut junk = vec![0; Part::SHORT.junk_len()];
+        junk[528] = byte;
+        assert_eq!(chip.cut(&mut array, &junk), answer::ACCEPTED);
+        assert_eq!(chip.lockdown[0], expected);
+    }
+}
+
+#[test]
+fn refusals_come_in_order_and_change_nothing() {
+    let (mut chip, mut array) = fresh(Part::SHORT);
+    let before = chip.clone();
+    let mut reply = [0xEE; 4];
+    assert_eq!(chip.send(&array[1..], &[], &mut reply), answer::PART);
+    assert_eq!(chip.send(&array, &[], &mut []), answer::FRAME);
+    assert_eq!(chip.send(&array, &[0xD7, 0], &mut reply), answer::FRAME);
+    assert_eq!(chip.send(&array, &[0; 1101], &mut [0; 1101]), answer::FRAME);
+    assert_eq!(chip.cut(&mut array[1..], &[]), answer::PART);
+    assert_eq!(chip.cut(&mut array, &[]), answer::SCRIPT);
+    assert_eq!((chip, reply), (before, [0xEE; 4]));
+}
+
+#[test]
+fn operations_beyond_the_part_are_refused() {
+    let (mut chip, mut array) = fresh(Part::SHORT);
+    for operation in [
+        Operation::Transfer {
+            buffer: Buffer::Two,
+            page: 128,
+        },
+        Operation::EraseBlock { block: 16 },
+        Operation::LockSector { sector: 2 },
+        Operation::EraseChip { sectors: 4 },
+        Operation::Unknown,
+    ] {
+        chip.operation = operation;
+        assert_eq!(chip.end_busy(&mut array), answer::PART);
+        assert_eq!(chip.operation, operation);
+    }
+}
+
+#[test]
+fn record_block_is_canonical_after_a_call() {
+    let mut block: Record = [0xA5; RECORD_LEN];
+    let mut array = vec![0; Part::SHORT.array_len()];
+    assert_eq!(
+        record::fresh(&mut block, &FACTORY, &mut array),
+        answer::ACCEPTED
+    );
+    let mut frame = vec![0x3D, 0x2A, 0x7F, 0xFC];
+    frame.extend([0x3C; 16]);
+    assert_eq!(
+        record::send(&mut block, &array, &frame, &mut [0; 20]),
+        answer::ACCEPTED
+    );
+    let mut expected = [0; RECORD_LEN];
+    expected[32..96].fill(0xFF);
+    expected[96..160].copy_from_slice(&FACTORY);
+    expected[162] = 1;
+    expected[164] = 0xFC;
+    expected[172..188].fill(0x3C);
+    expected[236..252].fill(0x3C);
+    assert_eq!(block, expected);
+}
+
+#[test]
+fn unreadable_tag_meets_1_but_lets_the_pin_move() {
+    let mut block: Record = [0; RECORD_LEN];
+    let mut array = vec![0; Part::SHORT.array_len()];
+    for (tag, buffer) in [(0x86, 1), (0x83, 0), (0x83, 3), (0x00, 1), (0xFF, 0)] {
+        (block[164], block[165], block[162]) = (tag, buffer, 0x5A);
+        let before = block;
+        assert_eq!(
+            record::send(&mut block, &array, &[0xD7], &mut [0]),
+            answer::PART
+        );
+        assert_eq!(record::end_busy(&mut block, &mut array), answer::PART);
+        assert_eq!(record::cut(&mut block, &mut array, &[]), answer::PART);
+        assert_eq!(block, before);
+        assert_eq!(record::move_pin(&mut block, true), answer::ACCEPTED);
+        assert_eq!(block[162], 1);
+    }
+}

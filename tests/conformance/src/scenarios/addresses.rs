@@ -1,0 +1,62 @@
+//! Every row with an address: byte fields and pages at their edges, top bits
+//! set, lengths at which data ends or wraps; then the busy end.
+
+use at45db081d_model::record::field;
+use at45db081d_model::Part;
+
+use crate::frames::{self, Row, BYTE_FIELDS};
+use crate::pair::{Mismatch, Pair};
+use crate::records;
+use crate::rng::{Digits, Rng};
+use crate::runner::Scenario;
+use crate::step::Step;
+
+pub const ADDRESSES: Scenario = Scenario {
+    name: "every_address_edge",
+    cases,
+    run,
+};
+
+/// Page fields of fifteen bits.
+const PAGE_FIELDS: [u32; 16] = [
+    0, 1, 7, 8, 126, 127, 128, 135, 255, 256, 4094, 4095, 4096, 0x7F80, 0x7FF7, 0x7FFF,
+];
+
+/// Numbers of data bytes.
+const DATA_LENGTHS: [usize; 10] = [0, 1, 2, 16, 17, 64, 65, 264, 265, 529];
+
+/// Whole lengths.
+const LENGTHS: [usize; 11] = [264, 265, 266, 267, 268, 269, 270, 271, 272, 1099, 1100];
+
+fn cases(_: Part) -> u64 {
+    let lengths = DATA_LENGTHS.len() + LENGTHS.len();
+    (frames::ROWS.len() * BYTE_FIELDS.len() * PAGE_FIELDS.len() * lengths) as u64
+}
+
+fn length(row: &Row, index: usize) -> usize {
+    match index.checked_sub(DATA_LENGTHS.len()) {
+        None => row.lead + DATA_LENGTHS[index],
+        Some(index) => LENGTHS[index],
+    }
+}
+
+fn run(pair: &mut Pair, case: u64) -> Result<(), Mismatch> {
+    let (part, mut digits, mut rng) = (pair.part, Digits::new(case), Rng::new(case));
+    let row = digits.pick(&frames::ROWS);
+    let address = digits.pick(&PAGE_FIELDS) << 9 | digits.pick(&BYTE_FIELDS);
+    let len = length(&row, digits.below(DATA_LENGTHS.len() + LENGTHS.len()));
+    let mut record = records::random(&mut rng);
+    record[field::PROTECTION].fill(0);
+    record[field::LOCKDOWN].fill(0);
+    record[field::DEEP_POWER_DOWN] = 0;
+    record[field::SECURITY_PROGRAMMED] = 0;
+    record[field::WP_HIGH] = 1;
+    let frame = row.frame(&mut rng, address, len);
+    let array_len = part.array_len();
+    pair.step(Step::Load(Box::new(record)))?;
+    pair.step(Step::send(array_len, frame))?;
+    if pair.record()[field::TAG] != 0 {
+        pair.step(Step::EndBusy { array_len })?;
+    }
+    Ok(())
+}

@@ -1,0 +1,30 @@
+//! The scenarios: which cases are tried.
+
+use crate::runner::Scenario;
+
+mod addresses;
+mod busy_ends;
+mod caller_records;
+mod random_run;
+mod refusals;
+mod rows;
+mod seals;
+
+pub use addresses::ADDRESSES;
+pub use busy_ends::BUSY_ENDS;
+pub use caller_records::CALLER_RECORDS;
+pub use random_run::RANDOM_RUN;
+pub use refusals::REFUSALS;
+pub use rows::ROWS;
+pub use seals::SEALS;
+
+/// Every scenario.
+pub const ALL: [Scenario; 7] = [
+    ROWS,
+    SEALS,
+    ADDRESSES,
+    BUSY_ENDS,
+    CALLER_RECORDS,
+    REFUSALS,
+    RANDOM_RUN,
+];
