@@ -1,0 +1,171 @@
+-- Of a run's state the open half goes its way alone: whatever the closed half holds, the next open half is the same. Frames are alike
+-- but for the data of an 84, which neither the outline shows nor the registers heed; of replies control hears no compare bit and no data.
+-- Assumes nothing.
+use Prim.Native.Nat.{ℕ, zero, suc, _+_, _-_, _/_, _%_}
+use mathlib.Core.Path.{_≡_, refl, sym, ap, subst, _∙_}
+use mathlib.Core.Bool.{Bool, true, false, cond}
+use mathlib.Core.List.{List, [], _∷_, _++_}
+use lib.ListN.{length, getD, replicate}
+use lib.Dec.{eqb, lit<, lit≤}
+use Rattle.slices.specs.Lists.{tabulate}
+use Rattle.slices.proofs.Laws.{length-tabulate, tabulate-append}
+use Rattle.geometry.specs.declared.Geometry.{Geometry}
+use Rattle.commands.specs.declared.Decoded.{Decoded}
+use Rattle.commands.specs.Decode.{decodeOf}
+use Rattle.commands.proofs.Frames.{decode-protection, decode-lockdown}
+use Rattle.registers.specs.declared.Registers.{Registers}
+use Rattle.registers.specs.Protection.{guarded}
+use Rattle.control.specs.declared.Decision.{Decision}
+use Rattle.control.specs.Control.{control, rowOf, rowDecided}
+use Rattle.control.proofs.Rows.{control-cases}
+use Rattle.control.proofs.Frames.{load-keeps}
+use Rattle.memory.specs.Replies.{replied}
+use Rattle.state.specs.Memory.{Memory}
+use Rattle.state.specs.Frames.{isIdle, statusOf, dataOf, replyOf}
+use Rattle.state.proofs.Replies.{status-byte, reply-status-deep}
+use Rattle.slots.specs.declared.Heard.{Heard}
+use Rattle.slots.specs.declared.Phase.{Phase}
+use Rattle.slots.specs.declared.Phase.the-variants.{Opening, AskProtection, AskLockdown, Reading, Loading, Programming, Between, Erasing, Closing, Ended}
+use Rattle.slots.specs.declared.Shape.{Shape}
+use Rattle.slots.specs.Driver.{Asked, Holding, shapeOf, frameByte, loaded, frameOf, statusHeard, heardIn, isEnded}
+use Rattle.slots.specs.Calls.{Request, Open, Closed, outline, openAfter, stepOpen, stepClosed, run}
+
+-- ---- frames
+
+-- the frame of a phase
+abbrev frameIn : Geometry → Phase → Asked → ℕ → Holding → List ℕ
+frameIn g p a page h =
+    tabulate (shapeOf g p (a .slot) page .length) (frameByte (shapeOf g p (a .slot) page) (loaded g (a .kind) (h .verdict) h page))
+
+tabulate-at : (n : ℕ) (f h : ℕ → ℕ) (i d : ℕ) → f i ≡ h i → getD (tabulate n f) i d ≡ getD (tabulate n h) i d
+unfolding tabulate
+tabulate-at zero f h i d e = refl
+tabulate-at (suc n) f h zero d e = e
+tabulate-at (suc n) f h (suc i) d e = tabulate-at n (λ k. f (suc k)) (λ k. h (suc k)) i d e
+
+-- the outline shows the length and the first four bytes: no data
+outline-same : (s : Shape) (x y : ℕ → ℕ) → outline (tabulate (s .length) (frameByte s x)) ≡ outline (tabulate (s .length) (frameByte s y))
+unfolding outline frameByte
+outline-same s x y =
+    let n = s .length in
+    let l : length (tabulate n (frameByte s x)) ≡ length (tabulate n (frameByte s y)) =
+    length-tabulate n (frameByte s x) ∙ sym (length-tabulate n (frameByte s y)) in
+    let b0 = tabulate-at n (frameByte s x) (frameByte s y) 0 255 refl in
+    let b1 = tabulate-at n (frameByte s x) (frameByte s y) 1 255 refl in
+    let b2 = tabulate-at n (frameByte s x) (frameByte s y) 2 255 refl in
+    let b3 = tabulate-at n (frameByte s x) (frameByte s y) 3 255 refl in
+    λ i. l i / 256 ∷ l i % 256 ∷ b0 i ∷ b1 i ∷ b2 i ∷ b3 i ∷ []
+
+-- a frame that carries no data is the same whatever is held
+byte-same : (s : Shape) (x y : ℕ → ℕ) (i : ℕ) → s .loads ≡ false → frameByte s x i ≡ frameByte s y i
+unfolding frameByte
+byte-same s x y i e = with-loads x ∙ sym (with-loads y)
+  where
+    with-loads : (z : ℕ → ℕ) → cond (eqb i 0) (s .opcode) (cond (eqb i 1) (s .high) (cond (eqb i 2) (s .middle) (cond (eqb i 3) (s .low) (cond (s .loads) (z (i - 4)) 0))))
+        ≡ cond (eqb i 0) (s .opcode) (cond (eqb i 1) (s .high) (cond (eqb i 2) (s .middle) (cond (eqb i 3) (s .low) 0)))
+    with-loads z =
+        ap (λ (b : Bool). cond (eqb i 0) (s .opcode) (cond (eqb i 1) (s .high) (cond (eqb i 2) (s .middle) (cond (eqb i 3) (s .low) (cond b (z (i - 4)) 0))))) e
+
+plain-same : (s : Shape) (x y : ℕ → ℕ) → s .loads ≡ false → tabulate (s .length) (frameByte s x) ≡ tabulate (s .length) (frameByte s y)
+plain-same s x y e = λ j. tabulate (s .length) (λ i. byte-same s x y i e j)
+
+-- ---- the registers
+
+-- an 84 leaves the registers, whatever its data
+load-registers : (g : Geometry) (r : Registers) (a : Asked) (page : ℕ) (h : Holding) → control g r (frameIn g Loading a page h) .registers ≡ r
+unfolding shapeOf frameByte tabulate
+load-registers g r a page h =
+    ap (λ (f : List ℕ). control g r f .registers)
+    (tabulate-append 4 (g .size) (frameByte (shapeOf g Loading (a .slot) page) (loaded g (a .kind) (h .verdict) h page)))
+    ∙ load-keeps g r 0 0 0 _
+
+control-blind : (g : Geometry) (r : Registers) (p : Phase) (a : Asked) (page : ℕ) (h k : Holding)
+    → control g r (frameIn g p a page h) .registers ≡ control g r (frameIn g p a page k) .registers
+unfolding shapeOf
+control-blind g r Opening a page h k = ap (λ (f : List ℕ). control g r f .registers) (plain-same (shapeOf g Opening (a .slot) page) _ _ refl)
+control-blind g r AskProtection a page h k = ap (λ (f : List ℕ). control g r f .registers) (plain-same (shapeOf g AskProtection (a .slot) page) _ _ refl)
+control-blind g r AskLockdown a page h k = ap (λ (f : List ℕ). control g r f .registers) (plain-same (shapeOf g AskLockdown (a .slot) page) _ _ refl)
+control-blind g r Reading a page h k = ap (λ (f : List ℕ). control g r f .registers) (plain-same (shapeOf g Reading (a .slot) page) _ _ refl)
+control-blind g r Loading a page h k = load-registers g r a page h ∙ sym (load-registers g r a page k)
+control-blind g r Programming a page h k = ap (λ (f : List ℕ). control g r f .registers) (plain-same (shapeOf g Programming (a .slot) page) _ _ refl)
+control-blind g r Between a page h k = ap (λ (f : List ℕ). control g r f .registers) (plain-same (shapeOf g Between (a .slot) page) _ _ refl)
+control-blind g r Erasing a page h k = ap (λ (f : List ℕ). control g r f .registers) (plain-same (shapeOf g Erasing (a .slot) page) _ _ refl)
+control-blind g r Closing a page h k = ap (λ (f : List ℕ). control g r f .registers) (plain-same (shapeOf g Closing (a .slot) page) _ _ refl)
+control-blind g r (Ended n) a page h k = ap (λ (f : List ℕ). control g r f .registers) (plain-same (shapeOf g (Ended n) (a .slot) page) _ _ refl)
+
+-- ---- what is heard
+
+-- of a status: not the compare bit
+pub status-heard : (i d c : Bool) → statusHeard (statusOf i d c) ≡ record { density = true; ready = i; guarded = c; held = false }
+unfolding statusOf
+status-heard true true true = refl
+status-heard true true false = refl
+status-heard true false true = refl
+status-heard true false false = refl
+status-heard false true true = refl
+status-heard false true false = refl
+status-heard false false true = refl
+status-heard false false false = refl
+
+poll-blind : (g : Geometry) (r : Registers) (m o : Memory)
+    → statusHeard (getD (replyOf g r m (0xD7 ∷ 0 ∷ [])) 1 255) ≡ statusHeard (getD (replyOf g r o (0xD7 ∷ 0 ∷ [])) 1 255)
+poll-blind g r m o = go (r .deep) refl
+  where
+    go : (b : Bool) → r .deep ≡ b → statusHeard (getD (replyOf g r m (0xD7 ∷ 0 ∷ [])) 1 255) ≡ statusHeard (getD (replyOf g r o (0xD7 ∷ 0 ∷ [])) 1 255)
+    go true e =
+        ap (λ (l : List ℕ). statusHeard (getD l 1 255)) (reply-status-deep g r m (0 ∷ []) e ∙ sym (reply-status-deep g r o (0 ∷ []) e))
+    go false e =
+        ap statusHeard (status-byte g r m (0 ∷ []) 1 255 e (lit≤ tt) (lit< tt)) ∙ status-heard (isIdle (r .operation)) (m .compare) (guarded r)
+        ∙ sym (ap statusHeard (status-byte g r o (0 ∷ []) 1 255 e (lit≤ tt) (lit< tt)) ∙ status-heard (isIdle (r .operation)) (o .compare) (guarded r))
+
+-- a reply is made of the registers where the frame's row, if it is obeyed, asks nothing of the memory
+reply-blind : (g : Geometry) (r : Registers) (m o : Memory) (f : List ℕ) (d : Decoded) → decodeOf f ≡ d
+    → dataOf g r m (rowOf g r f (d .lead) (d .effect) .action) ≡ dataOf g r o (rowOf g r f (d .lead) (d .effect) .action) → replyOf g r m f ≡ replyOf g r o f
+unfolding replyOf dataOf
+reply-blind g r m o f d e h =
+    control-cases g r f (λ c. replied (length f) (c .lead) (dataOf g r m (c .action)) ≡ replied (length f) (c .lead) (dataOf g r o (c .action))) refl
+    (λ _. subst (λ (c : Decoded). replied (length f) (rowOf g r f (c .lead) (c .effect) .lead) (dataOf g r m (rowOf g r f (c .lead) (c .effect) .action))
+    ≡ replied (length f) (rowOf g r f (c .lead) (c .effect) .lead) (dataOf g r o (rowOf g r f (c .lead) (c .effect) .action)))
+    (sym e) (λ i. replied (length f) (rowOf g r f (d .lead) (d .effect) .lead) (h i)))
+
+protection-blind : (g : Geometry) (r : Registers) (m o : Memory) (t : List ℕ) → replyOf g r m (0x32 ∷ 0 ∷ 0 ∷ 0 ∷ t) ≡ replyOf g r o (0x32 ∷ 0 ∷ 0 ∷ 0 ∷ t)
+unfolding dataOf rowDecided
+protection-blind g r m o t = reply-blind g r m o (0x32 ∷ 0 ∷ 0 ∷ 0 ∷ t) _ (decode-protection 0 0 0 t) refl
+
+lockdown-blind : (g : Geometry) (r : Registers) (m o : Memory) (t : List ℕ) → replyOf g r m (0x35 ∷ 0 ∷ 0 ∷ 0 ∷ t) ≡ replyOf g r o (0x35 ∷ 0 ∷ 0 ∷ 0 ∷ t)
+unfolding dataOf rowDecided
+lockdown-blind g r m o t = reply-blind g r m o (0x35 ∷ 0 ∷ 0 ∷ 0 ∷ t) _ (decode-lockdown 0 0 0 t) refl
+
+hear-blind : (g : Geometry) (r : Registers) (p : Phase) (a : Asked) (page : ℕ) (h k : Holding) (m o : Memory)
+    → heardIn p (a .slot) (replyOf g r m (frameIn g p a page h)) ≡ heardIn p (a .slot) (replyOf g r o (frameIn g p a page k))
+unfolding shapeOf frameByte tabulate heardIn
+hear-blind g r Opening a page h k m o = poll-blind g r m o
+hear-blind g r AskProtection a page h k m o = ap (heardIn AskProtection (a .slot)) (protection-blind g r m o (replicate 16 0))
+hear-blind g r AskLockdown a page h k m o = ap (heardIn AskLockdown (a .slot)) (lockdown-blind g r m o (replicate 16 0))
+hear-blind g r Reading a page h k m o = refl
+hear-blind g r Loading a page h k m o = refl
+hear-blind g r Programming a page h k m o = refl
+hear-blind g r Between a page h k m o = poll-blind g r m o
+hear-blind g r Erasing a page h k m o = refl
+hear-blind g r Closing a page h k m o = poll-blind g r m o
+hear-blind g r (Ended n) a page h k m o = refl
+
+-- ---- one step, and any number of them
+
+pub step-blind : (g : Geometry) (v : Request) (p : Open) (q w : Closed) → stepOpen g v p q ≡ stepOpen g v p w
+unfolding stepOpen frameOf
+step-blind g v p q w =
+    let a = v .asked in
+    let c = p .course in
+    let s = shapeOf g (c .phase) (a .slot) (c .page) in
+    let line = outline-same s (loaded g (a .kind) (q .holding .verdict) (q .holding) (c .page)) (loaded g (a .kind) (w .holding .verdict) (w .holding) (c .page)) in
+    let registers = control-blind g (p .registers) (c .phase) a (c .page) (q .holding) (w .holding) in
+    let heard = hear-blind g (p .registers) (c .phase) a (c .page) (q .holding) (w .holding) (q .memory) (w .memory) in
+    λ i. cond (isEnded (c .phase)) p (openAfter v p (line i) (registers i) (heard i))
+
+pub run-blind : (n : ℕ) (g : Geometry) (v : Request) (p : Open) (q w : Closed) → run n g v p q .0 ≡ run n g v p w .0
+unfolding run
+run-blind zero g v p q w = refl
+run-blind (suc n) g v p q w =
+    run-blind n g v (stepOpen g v p q) (stepClosed g v p q) (stepClosed g v p w)
+    ∙ ap (λ (o : Open). run n g v o (stepClosed g v p w) .0) (step-blind g v p q w)

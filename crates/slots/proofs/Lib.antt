@@ -1,0 +1,6 @@
+pub mod Blind
+pub mod Size
+pub mod TwoRuns
+pub mod SameJunk
+pub mod Answers
+pub mod Refusals

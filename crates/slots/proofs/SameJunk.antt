@@ -1,0 +1,118 @@
+-- The premise of two_runs can be met: lists with the same junk are alike along any two runs, whatever the recipes are. An example puts
+-- recipes of 1 and of 2,109 bytes.
+-- Assumes nothing.
+use Prim.Native.Nat.{ℕ, _+_, _-_, _*_}
+use mathlib.Core.Path.{_≡_, refl, sym, ap, subst, _∙_}
+use mathlib.Core.Bool.{Bool, true, false, cond, _&&_}
+use mathlib.Core.List.{List, [], _∷_}
+use lib.ListN.{length, replicate, length-replicate}
+use lib.Dec.{eqb, ltb}
+use native.Mathlib.Omega.{arith}
+use Rattle.geometry.specs.declared.Geometry.{Geometry}
+use Rattle.geometry.specs.declared.Part.{Part}
+use Rattle.geometry.specs.declared.Part.the-variants.{Known, Unknown}
+use Rattle.geometry.specs.Parts.{partOf}
+use Rattle.registers.proofs.Places.{placed-known}
+use Rattle.control.specs.Control.{control}
+use Rattle.control.specs.PowerLoss.{reaching}
+use Rattle.state.specs.Answers.{numberOf}
+use Rattle.slots.specs.declared.Kind.the-variants.{Put, Patch, Get, Wipe}
+use Rattle.slots.specs.Records.{slotSize, limitOf}
+use Rattle.slots.specs.Calls.{State, Request, Secret, partIn, ran, scripted}
+use Rattle.slots.specs.Lists.{Op, put, patch, get, wipe, raw, straight, pin, busyEnd, cut, cutFits, runList, nextOf}
+use Rattle.slots.specs.Alike.{Twins, Given, puts, patches, gets, wipes, raws, straights, pins, ends, cuts, oversize, callJunk, junkOn, junkBy, junkOf, Alike, AlikeLists, AllSame}
+use Rattle.slots.proofs.TwoRuns.{ran-blind, raw-refusal, part-same, next-twins, two-runs}
+
+-- the junk that a call or an event is given
+unfoldable pub junkIn : Op → List ℕ
+junkIn (put slot limit script recipe junk log) = junk
+junkIn (patch slot limit place script bytes junk log) = junk
+junkIn (get slot limit script junk log buffer) = junk
+junkIn (wipe slot limit script junk log) = junk
+junkIn (raw frame script junk log reply) = junk
+junkIn (straight frame reply) = []
+junkIn (pin high) = []
+junkIn busyEnd = []
+junkIn (cut junk) = junk
+
+call-junk : (g : Geometry) {v w : Request} (e : v ≡ w) (x y : Secret) (s t : State) → Twins s t → x .junk ≡ y .junk → callJunk g v x s ≡ callJunk g w y t
+unfolding callJunk
+call-junk g {v} {w} e x y s t h j =
+    let b = ran-blind g e x y s t h in
+    λ i. cond (b i .cut) (reaching g (b i .registers .operation) (j i)) []
+
+on-junk : (g : Geometry) {o u : Op} → Given o u → oversize g o ≡ oversize g u → (s t : State) → Twins s t → junkIn o ≡ junkIn u → junkOn g o s ≡ junkOn g u t
+unfolding junkOn oversize junkIn cutFits
+on-junk g (puts slot limit script ej el) e s t h j =
+    call-junk g (λ i. record { asked = record { kind = Put; slot = slot; limit = limit }; script = script; log = el i; junk = ej i; oversize = e i }) _ _ s t h j
+on-junk g (patches slot limit script ej el) e s t h j =
+    call-junk g (λ i. record { asked = record { kind = Patch; slot = slot; limit = limit }; script = script; log = el i; junk = ej i; oversize = e i }) _ _ s t h j
+on-junk g (gets slot limit script ej el ea) e s t h j =
+    call-junk g (λ i. record { asked = record { kind = Get; slot = slot; limit = limit }; script = script; log = el i; junk = ej i; oversize = ltb (ea i) (limitOf g) }) _ _ s t h j
+on-junk g (wipes slot limit script ej el) e s t h j =
+    call-junk g (λ i. record { asked = record { kind = Wipe; slot = slot; limit = limit }; script = script; log = el i; junk = ej i; oversize = false }) _ _ s t h j
+on-junk g (raws frame script {j = x} {k = y} {l} {m} {a} {b} ej el ea) e s t h j =
+    let z = raw-refusal g frame script x y l m a b s t ej el ea h in
+    λ i. cond (eqb (numberOf (z i)) 0 && eqb (scripted script 0) 2) (reaching g (control g (h .registers i) frame .registers .operation) (j i)) []
+on-junk g (straights frame ea) e s t h j = refl
+on-junk g (pins high) e s t h j = refl
+on-junk g ends e s t h j = refl
+on-junk g (cuts ej) e s t h j = λ i. cond (eqb (ej i) (2 * g .size + h .size i)) (reaching g (h .registers i .operation) (j i)) []
+
+by-junk : (p : Part) {o u : Op} → Given o u → ((g : Geometry) → p ≡ Known g → oversize g o ≡ oversize g u) → (s t : State) → Twins s t → junkIn o ≡ junkIn u
+    → junkBy p o s ≡ junkBy p u t
+unfolding junkBy
+by-junk (Known g) d e s t h j = on-junk g d (e g refl) s t h j
+by-junk Unknown d e s t h j = refl
+
+-- alike in all that is public, with the same junk; 5 is met in both or in neither, whatever the part is
+abbrev pub SameJunk : List Op → List Op → Type 0
+SameJunk [] [] = Unit {0}
+SameJunk [] (u ∷ us) = ⊥
+SameJunk (o ∷ os) [] = ⊥
+SameJunk (o ∷ os) (u ∷ us) = Given o u × ((n : ℕ) (g : Geometry) → partOf n ≡ Known g → oversize g o ≡ oversize g u) × (junkIn o ≡ junkIn u) × SameJunk os us
+
+alike : (o u : Op) (s t : State) → Twins s t → Given o u → ((n : ℕ) (g : Geometry) → partOf n ≡ Known g → oversize g o ≡ oversize g u) → junkIn o ≡ junkIn u → Alike o u s t
+unfolding junkOf
+alike o u s t h d e j =
+    let z : (g : Geometry) → partIn s ≡ Known g → oversize g o ≡ oversize g u =
+    λ g k. e (length (s .memory .array)) g (placed-known (length (s .memory .array)) (s .registers .operation) g k .0) in
+    record {
+      given = d;
+      size = z;
+      junk = subst (λ (p : Part). junkBy (partIn s) o s ≡ junkBy p u t) (part-same s t h) (by-junk (partIn s) d z s t h j);
+    }
+
+alike-lists : (os us : List Op) (s t : State) → Twins s t → SameJunk os us → AlikeLists os us s t
+alike-lists [] [] s t h a = tt
+alike-lists [] (u ∷ us) s t h a = a
+alike-lists (o ∷ os) [] s t h a = a
+alike-lists (o ∷ os) (u ∷ us) s t h a =
+    let z = alike o u s t h (a .0) (a .1) (a .2) in
+    (z, alike-lists os us (nextOf o s) (nextOf u t) (next-twins o u s t h z) (a .3))
+
+pub two-runs-same-junk : (os us : List Op) (s t : State) → Twins s t → SameJunk os us → AllSame (runList os s) (runList us t)
+two-runs-same-junk os us s t h a = two-runs os us s t h (alike-lists os us s t h a)
+
+-- ---- an example
+
+page-size : (n : ℕ) (g : Geometry) → partOf n ≡ Known g → g .size ≡ 264
+unfolding partOf
+page-size n g e = go (eqb n 1081344) (eqb n 33792) e
+  where
+    go : (b c : Bool) → cond b (Known (record { size = 264; pages = 4096; field = 512 })) (cond c (Known (record { size = 264; pages = 128; field = 512 })) Unknown) ≡ Known g → g .size ≡ 264
+    go true c k = let z : record { size = 264; pages = 4096; field = 512 } ≡ g = cc in ap (λ (x : Geometry). x .size) (sym z)
+    go false true k = let z : record { size = 264; pages = 128; field = 512 } ≡ g = cc in ap (λ (x : Geometry). x .size) (sym z)
+    go false false k = let z : _≡_ {A = ℕ} 0 1 = cc in absurd (omega arith)
+
+-- recipes of 1 and of 2,109 bytes, put by alike calls on any two chips that are alike: the same outlines, counts and answers
+pub example : (log log' : List ℕ) → length log ≡ length log' → (s t : State) → Twins s t
+    → AllSame (runList (put 3 1 [] (7 ∷ []) [] log ∷ busyEnd ∷ []) s) (runList (put 3 1 [] (replicate 2109 9) [] log' ∷ busyEnd ∷ []) t)
+unfolding oversize junkIn limitOf slotSize
+example log log' l s t h =
+    two-runs-same-junk _ _ s t h (
+      puts 3 1 [] refl l,
+      (λ n g k. ap (λ (z : ℕ). ltb (8 * z - 3) 1) (page-size n g k) ∙ sym (ap (λ (z : ℕ). ltb (8 * z - 3) (length (replicate {A = ℕ} 2109 9))) (page-size n g k))),
+      refl,
+      (ends, (λ n g k. refl), refl, tt),
+    )
