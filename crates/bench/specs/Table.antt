@@ -5,11 +5,10 @@ use mathlib.Core.Path.{_≡_}
 use mathlib.Core.Bool.{false}
 use mathlib.Core.List.{List, [], _∷_, _++_}
 use lib.ListN.{length, take, replicate}
-use Rattle.slices.specs.Lists.{andOver}
 use Rattle.commands.specs.declared.Buffer.the-variants.{One}
 use Rattle.registers.specs.declared.Operation.the-variants.{Program}
 use Rattle.slots.specs.Calls.{State, Out}
-use Rattle.slots.specs.Lists.{Op, put, patch, get, wipe, straight, outOf, nextOf}
+use Rattle.slots.specs.Lists.{Op, put, patch, get, wipe, straight, busyEnd, outOf, nextOf, leftBy}
 use Rattle.bench.specs.Start.{freshShort, log, answers}
 
 -- the reply to a frame sent straight
@@ -34,6 +33,16 @@ stored recipe = take 2112 (nextOf (putFresh recipe) freshShort .memory .array)
 abbrev pub lentBuffer : List ℕ
 lentBuffer = replicate 2109 0
 
+-- a frame sent straight, as a list's element
+abbrev pub sending : List ℕ → Op
+sending f = straight f (replicate (length f) 0)
+
+-- page 0's first byte becomes F0h by 84 and 83, then 88 with 3Ch in the buffer
+abbrev pub overF0 : List Op
+overF0 =
+    sending (0x84 ∷ 0x00 ∷ 0x00 ∷ 0x00 ∷ 0xF0 ∷ []) ∷ sending (0x83 ∷ 0x00 ∷ 0x00 ∷ 0x00 ∷ []) ∷ busyEnd
+    ∷ sending (0x84 ∷ 0x00 ∷ 0x00 ∷ 0x00 ∷ 0x3C ∷ []) ∷ sending (0x88 ∷ 0x00 ∷ 0x00 ∷ 0x00 ∷ []) ∷ busyEnd ∷ []
+
 pub record Bench : Type 0 where
   -- "Frame 83 00 0A 00 names page 5"
   pub page-5 : sent (0x83 ∷ 0x00 ∷ 0x0A ∷ 0x00 ∷ []) freshShort .registers .operation ≡ Program One 5
@@ -42,7 +51,7 @@ pub record Bench : Type 0 where
   pub status-marked : replyTo status (sent (0x3D ∷ 0x2A ∷ 0x7F ∷ 0xA9 ∷ []) freshShort) ≡ 0xFF ∷ 0xA6 ∷ []
   pub status-busy : replyTo status (sent (0x83 ∷ 0x00 ∷ 0x0A ∷ 0x00 ∷ []) freshShort) ≡ 0xFF ∷ 0x24 ∷ []
   -- "88 over F0h with 3Ch gives 30h"
-  pub over : andOver (0xF0 ∷ []) (0x3C ∷ []) ≡ 0x30 ∷ []
+  pub over : replyTo (0xD2 ∷ replicate 8 0x00) (leftBy overF0 freshShort) ≡ replicate 8 0xFF ++ 0x30 ∷ []
   -- "Recipe 41h 42h is stored 01 00 02 41 42 and 2,107 zeros; none, 01 00 00; 2,109 bytes begin 01 08 3D; 2,110 meet 5"
   pub two-bytes : stored (0x41 ∷ 0x42 ∷ []) ≡ 0x01 ∷ 0x00 ∷ 0x02 ∷ 0x41 ∷ 0x42 ∷ replicate 2107 0
   pub no-byte : stored [] ≡ 0x01 ∷ 0x00 ∷ 0x00 ∷ replicate 2109 0

@@ -52,15 +52,15 @@ early a = leb 1 (numberOf a) && leb (numberOf a) 7
 
 -- ---- a refused call
 
-picked : {A : Type 0} (b : Bool) (x y : A) → b ≡ true → cond b x y ≡ x
+pub picked : {A : Type 0} (b : Bool) (x y : A) → b ≡ true → cond b x y ≡ x
 picked true x y e = refl
 picked false x y e = let z : _≡_ {A = ℕ} 0 1 = ap (λ (b : Bool). cond b 1 0) e in absurd (omega arith)
 
-step-ended : (g : Geometry) (v : Request) (p : Open) (q : Closed) → isEnded (p .course .phase) ≡ true → (stepOpen g v p q ≡ p) × (stepClosed g v p q ≡ q)
+pub step-ended : (g : Geometry) (v : Request) (p : Open) (q : Closed) → isEnded (p .course .phase) ≡ true → (stepOpen g v p q ≡ p) × (stepClosed g v p q ≡ q)
 unfolding stepOpen stepClosed
 step-ended g v p q e = (picked (isEnded (p .course .phase)) p _ e, picked (isEnded (p .course .phase)) q _ e)
 
-run-ended : (n : ℕ) (g : Geometry) (v : Request) (p : Open) (q : Closed) → isEnded (p .course .phase) ≡ true → (run n g v p q .0 ≡ p) × (run n g v p q .1 ≡ q)
+pub run-ended : (n : ℕ) (g : Geometry) (v : Request) (p : Open) (q : Closed) → isEnded (p .course .phase) ≡ true → (run n g v p q .0 ≡ p) × (run n g v p q .1 ≡ q)
 unfolding run
 run-ended zero g v p q e = (refl, refl)
 run-ended (suc n) g v p q e =

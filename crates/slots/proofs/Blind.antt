@@ -33,7 +33,7 @@ use Rattle.slots.specs.Calls.{Request, Open, Closed, outline, openAfter,
 -- ---- frames
 
 -- the frame of a phase
-abbrev frameIn : Geometry → Phase → Asked → ℕ → Holding → List ℕ
+abbrev pub frameIn : Geometry → Phase → Asked → ℕ → Holding → List ℕ
 frameIn g p a page h =
     tabulate (shapeOf g p (a .slot) page .length) (frameByte (shapeOf g p (a .slot) page) (loaded g (a .kind) (h .verdict) h page))
 

@@ -4,3 +4,15 @@ pub mod TwoRuns
 pub mod SameJunk
 pub mod Answers
 pub mod Refusals
+pub mod Follow
+pub mod Kept
+pub mod Sent
+pub mod Accepted
+pub mod Stores
+pub mod Written
+pub mod Image
+pub mod GetReads
+pub mod ReadBack
+pub mod Elsewhere
+pub mod Bound
+pub mod Listed

@@ -35,7 +35,7 @@ use Rattle.slots.specs.Calls.{State, Out, Request, Secret, Open, Closed,
 use Rattle.slots.specs.Lists.{Op, cutFits, straightOut, outOn, outOff, outBy, outOf, nextOn, nextOff, nextBy, nextOf, runList}
 use Rattle.slots.specs.Alike.{Twins, Given, puts, patches, gets, wipes, raws, straights, pins, ends, cuts, oversize, callJunk, junkOn, junkBy, junkOf, Alike, AlikeLists, Soft, Same, AllSame}
 use Rattle.slots.proofs.Blind.{run-blind}
-use Rattle.slots.proofs.Size.{by-long}
+use Rattle.slots.proofs.Size.{by-array}
 
 -- ---- answers
 
@@ -247,7 +247,7 @@ next-twins o u s t h a =
       registers =
           subst (λ (q : Part). nextBy (partIn s) o s .registers ≡ nextBy q u t .registers) p
           (registers-by (partIn s) (a .given) (a .size) s t h (subst (λ (q : Part). junkBy (partIn s) o s ≡ junkBy q u t) (sym p) (a .junk)));
-      size = by-long (partIn s) o s ∙ h .size ∙ sym (by-long (partIn t) u t);
+      size = by-array (partIn s) o s ∙ h .size ∙ sym (by-array (partIn t) u t);
     }
 
 -- DEMAND 3

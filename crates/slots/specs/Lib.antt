@@ -5,3 +5,5 @@ pub mod Calls
 pub mod Lists
 pub mod Alike
 pub mod Quiet
+pub mod Bounds
+pub mod Listed

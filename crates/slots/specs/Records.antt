@@ -33,7 +33,7 @@ isRecord g bytes = eqb (getD bytes 0 0) 1 && leb (lengthIn bytes) (limitOf g)
 -- byte i of the slot in which a recipe is stored; past the recipe's end zeros
 unfoldable pub image : List ℕ → ℕ → ℕ
 image recipe i =
-    cond (eqb i 0) 1 (cond (eqb i 1) (length recipe / 256) (cond (eqb i 2) (length recipe % 256) (getD recipe (i - headSize) 0)))
+    cond (eqb i 0) 1 (cond (eqb i 1) (length recipe / 256 % 256) (cond (eqb i 2) (length recipe % 256) (getD recipe (i - headSize) 0)))
 
 -- byte i of a slot that held `old` there, patched: "A patch puts bytes at a place counted from the recipe's first; its length stays"
 unfoldable pub patched : ℕ → List ℕ → ℕ → ℕ → ℕ
