@@ -1,6 +1,7 @@
 /*
  * slipknoll.h: an AT45DB081D data flash chip with 264-byte pages, as document
- * 01 condenses it, held and driven through libslipknoll.a.
+ * 01 condenses it, held and driven through libslipknoll.a; and the slot driver
+ * that keeps recipes in such a chip, held here or real.
  *
  * The library keeps no state and allocates nothing. The caller holds a chip as
  * two pieces of memory:
@@ -13,14 +14,27 @@
  * A copy of both is a copy of the chip. Calls on chips that share no memory
  * may run at the same time.
  *
- * Answers. Each function returns the number of an answer in 01's table. 0 is
- * accepted. With any other answer the call changed nothing: record, array and
- * reply are as they were, byte for byte.
+ * There are three groups of functions:
+ *
+ *   the chip         slipknoll_fresh, _send, _end_busy, _move_pin, _cut
+ *   the slot calls   slipknoll_put, _patch, _get, _wipe, _raw: recipes in the
+ *                    slots of a chip that is held here
+ *   the slot driver  slipknoll_driver_*: the same without the chip, for a real
+ *                    one; the caller carries the frames
+ *
+ * examples/c/recipes.c uses all three, and says how to compile it.
+ *
+ * Answers. A function that returns uint8_t returns the number of an answer in
+ * 01's table. 0 is accepted. With 1 to 7 the call changed nothing: record,
+ * array, reply, log and get buffer are as they were, byte for byte. 8 to 13,
+ * which only the slot calls and the driver have, end a call that was under
+ * way; what its frames have done stays.
  *
  * Pointers. None may be null, and those of one call must not overlap. `record`
- * points to 765 bytes and `factory` to 64. Any other pointer comes with its
- * length; with length 0 it may be any non-null pointer. A pointer to const is
- * only read. No alignment is needed. Nothing is kept after the call.
+ * points to 765 bytes, `factory` to 64, `counts` to three aligned uint64_t, and
+ * what the driver is lent to the lengths given there. Any other pointer comes
+ * with its length; with length 0 it may be any non-null pointer. A pointer to
+ * const is only read. Bytes need no alignment. Nothing is kept after the call.
  */
 #ifndef SLIPKNOLL_H
 #define SLIPKNOLL_H
@@ -43,6 +57,19 @@ extern "C" {
 #define SLIPKNOLL_FRAME_MAX 1100         /* a frame has 1 to 1,100 bytes */
 /* The junk of a cut: 264 bytes for each buffer, then one for each of the array. */
 #define SLIPKNOLL_JUNK_LEN(array_len) (528 + (array_len))
+#define SLIPKNOLL_SLOT_LEN 2112          /* a slot: eight pages */
+/* The number of slots: 512, or 16 in the short part. */
+#define SLIPKNOLL_SLOTS(array_len) ((array_len) / SLIPKNOLL_SLOT_LEN)
+#define SLIPKNOLL_RECIPE_MAX 2109        /* a recipe has 0 to 2,109 bytes */
+#define SLIPKNOLL_POLL_LIMIT_MAX 1000    /* a poll limit is 1 to 1,000 */
+/* The shortest log of a call with poll limit b: six bytes for each frame that it can send. */
+#define SLIPKNOLL_PUT_LOG_LEN(b) (6 * (9 * (b) + 18))
+#define SLIPKNOLL_PATCH_LOG_LEN(b) (6 * (9 * (b) + 26))
+#define SLIPKNOLL_GET_LOG_LEN(b) (6 * ((b) + 8))
+#define SLIPKNOLL_WIPE_LOG_LEN(b) (6 * (2 * (b) + 3))
+#define SLIPKNOLL_RAW_LOG_LEN 6
+#define SLIPKNOLL_DRIVER_LEN 48          /* the driver's state */
+#define SLIPKNOLL_DRIVER_FRAME_LEN 272   /* the longest frame of the driver */
 
 /* ---- Answers, with 01's words. */
 
@@ -52,16 +79,39 @@ extern "C" {
 #define SLIPKNOLL_PART 1
 /* frame: length outside 1 to 1,100, or the reply's length is another */
 #define SLIPKNOLL_FRAME 2
-/* script: junk of another length than 528 + array_len */
+/* slot: no such slot */
+#define SLIPKNOLL_SLOT 3
+/* limit: poll limit outside 1 to 1,000 */
+#define SLIPKNOLL_LIMIT 4
+/* size: recipe over 2,109 bytes, end of the patch over 2,109, or get buffer
+   under 2,109 */
+#define SLIPKNOLL_SIZE 5
+/* log: shorter than six times the number of frames that the call can send */
+#define SLIPKNOLL_LOG 6
+/* script: a byte over 2; or a cut, and junk of another length than
+   528 + array_len */
 #define SLIPKNOLL_SCRIPT 7
+/* chip: a status whose bits 5-2 are not 1001: no AT45DB081D, or a deep one */
+#define SLIPKNOLL_CHIP 8
+/* busy: as many polls as the limit allows, and not ready */
+#define SLIPKNOLL_BUSY 9
+/* sealed: the slot's sector is locked or protected; nothing was written */
+#define SLIPKNOLL_SEALED 10
+/* cut: the script cut the supply */
+#define SLIPKNOLL_CUT 11
+/* blank: the slot's version is not 1, or its length is over 2,109 */
+#define SLIPKNOLL_BLANK 12
+/* end: the patch would end beyond the stored length */
+#define SLIPKNOLL_END 13
 
 /*
  * ---- The record: where each field begins.
  *
  * Every content of the 765 bytes reads as some chip. A mark is one byte: 0 is
- * off and anything else on. Numbers are big-endian. An accepted call writes
- * the whole record: marks as 0 or 1, and 0 in the fields that the operation
- * under way does not have. A pin move writes the WP mark alone.
+ * off and anything else on. Numbers are big-endian. A call that is not
+ * answered with 1 to 7 writes the whole record: marks as 0 or 1, and 0 in the
+ * fields that the operation under way does not have. A pin move writes the WP
+ * mark alone.
  *
  * The fields from SLIPKNOLL_AT_TAG to SLIPKNOLL_AT_DATA are the operation
  * under way.
@@ -111,7 +161,7 @@ extern "C" {
 #define SLIPKNOLL_TAG_PROGRAM_SECURITY 0x9B    /* data: 64 bytes */
 
 /*
- * ---- Calls.
+ * ---- The chip.
  *
  * A fresh short part is asked for its status:
  *
@@ -141,7 +191,8 @@ extern "C" {
  *
  *     import ctypes as c
  *     lib = c.CDLL("./libslipknoll.so")
- *     for name in ("fresh", "send", "end_busy", "move_pin", "cut"):
+ *     for name in ("fresh", "send", "end_busy", "move_pin", "cut",
+ *                  "put", "patch", "get", "wipe", "raw"):
  *         getattr(lib, "slipknoll_" + name).restype = c.c_uint8
  *     record, array = (c.c_uint8 * 765)(), (c.c_uint8 * 33792)()
  *     lib.slipknoll_fresh(record, bytes(64), array, c.c_size_t(33792))
@@ -184,6 +235,221 @@ uint8_t slipknoll_move_pin(uint8_t *record, bool high);
  * else keeps. Answers 0, 1, 7.
  */
 uint8_t slipknoll_cut(uint8_t *record, uint8_t *array, size_t array_len, const uint8_t *junk, size_t junk_len);
+
+/*
+ * ---- The slot calls.
+ *
+ * Slot s is block s: pages 8s to 8s + 7, 2,112 bytes. It holds version 1, the
+ * recipe's length n in two bytes (big-endian), n recipe bytes, and zeros.
+ *
+ * A call first tests its arguments, 1 to 7 in this order, where they concern
+ * it. Then it sends frames to the chip:
+ *
+ *   wait    D7 00 until the status, the reply's second byte, has bit 7 set; at
+ *           most poll_limit times. Bits 5-2 that are not 1001 end the call with
+ *           8, before ready is looked at; poll_limit polls of a busy chip with 9.
+ *   seal    32 and 35, each with nineteen 00 behind it (20 bytes): protection
+ *           and lockdown register. If by them and by bit 1 of the last status
+ *           the slot's sector is sealed, the call ends with 10.
+ *
+ *   put     wait, seal; for each page 84 00 00 00 with 264 bytes (268), 83 with
+ *           the page's address (4), wait
+ *   patch   wait, seal; for each page D2 with its address and 00 behind it
+ *           (272), then 84, 83 and wait as put
+ *   get     wait; D2 for each page
+ *   wipe    wait, seal; 50 with the first page's address (4), wait
+ *   raw     one frame of the caller's; no wait
+ *
+ * A page's address is 512 times its number, in three bytes. Which frames are
+ * sent, and how long they are, depends on the call, slot, poll limit, script and
+ * the chip's registers, and never on recipes or on what the slots hold: a patch
+ * under 12 or 13 programs every page as it was, get always reads eight pages,
+ * and a page is programmed whether or not its bytes are there already.
+ *
+ * Script. A byte for each frame says what happens after it: 0 the busy period
+ * ends, 1 nothing, 2 the supply is cut with `junk` (as slipknoll_cut) and the
+ * call ends with 11, before any other answer is looked at. Past its end it counts
+ * as 0, so that an empty script is a chip that has done its work by the next
+ * frame. A byte over 2 anywhere in the script is answered with 7, reached or
+ * not; so is a 2 anywhere if the junk's length is not 528 + array_len. Without a
+ * 2 the junk is not looked at and may have any length.
+ *
+ * Log. Each frame sent writes six bytes: its length (two, big-endian) and its
+ * first four bytes, FFh where it is shorter. The rest of the log keeps. The log
+ * must have room for the frames that the call can send: see
+ * SLIPKNOLL_PUT_LOG_LEN and the others.
+ *
+ * Counts. Every call, a refused one too, sets all three:
+ *   counts[0]   frames that the call sent
+ *   counts[1]   polls among them: the D7 of its waits
+ *   counts[2]   of a get with answer 0, the recipe's length n; else 0
+ *
+ * A recipe is put into slot 3 of a chip and read back:
+ *
+ *     uint8_t log[SLIPKNOLL_PUT_LOG_LEN(1)], buffer[SLIPKNOLL_RECIPE_MAX], none[1];
+ *     uint64_t counts[3];
+ *     slipknoll_put(record, array, sizeof array, 3, 1, (const uint8_t *)"AB", 2,
+ *                   none, 0, none, 0, log, sizeof log, counts);          // 0; counts 27, 9, 0
+ *     slipknoll_get(record, array, sizeof array, 3, 1, buffer, sizeof buffer,
+ *                   none, 0, none, 0, log, sizeof log, counts);          // 0; counts 9, 1, 2
+ */
+
+/*
+ * Stores a recipe of up to 2,109 bytes in a slot. With answer 0 the slot holds
+ * it. With 8 to 11 pages of the slot may be old, new, or (11) junk.
+ * Answers 0, 1, 3 to 11.
+ */
+uint8_t slipknoll_put(uint8_t *record, uint8_t *array, size_t array_len, size_t slot,
+                      size_t poll_limit, const uint8_t *recipe, size_t recipe_len,
+                      const uint8_t *script, size_t script_len,
+                      const uint8_t *junk, size_t junk_len, uint8_t *log, size_t log_len,
+                      uint64_t *counts);
+
+/*
+ * Changes bytes of a slot's recipe: `bytes` from `place` on, counted from the
+ * recipe's first. The recipe's length stays; place + bytes_len may not be beyond
+ * it (13) nor beyond 2,109 (5). Under 12 and 13 all frames are sent and the slot
+ * keeps its bytes. Answers 0, 1, 3 to 13.
+ */
+uint8_t slipknoll_patch(uint8_t *record, uint8_t *array, size_t array_len, size_t slot,
+                        size_t poll_limit, size_t place, const uint8_t *bytes, size_t bytes_len,
+                        const uint8_t *script, size_t script_len,
+                        const uint8_t *junk, size_t junk_len, uint8_t *log, size_t log_len,
+                        uint64_t *counts);
+
+/*
+ * Reads a slot's recipe. With answer 0 its n bytes are the first n of `buffer`,
+ * and counts[2] is n; the rest of the buffer keeps. With any other answer the
+ * buffer keeps whole. The buffer has at least 2,109 bytes.
+ * Answers 0, 1, 3 to 9, 11, 12.
+ */
+uint8_t slipknoll_get(uint8_t *record, uint8_t *array, size_t array_len, size_t slot,
+                      size_t poll_limit, uint8_t *buffer, size_t buffer_len,
+                      const uint8_t *script, size_t script_len,
+                      const uint8_t *junk, size_t junk_len, uint8_t *log, size_t log_len,
+                      uint64_t *counts);
+
+/* Erases a slot to FFh. Answers 0, 1, 3, 4, 6 to 11. */
+uint8_t slipknoll_wipe(uint8_t *record, uint8_t *array, size_t array_len, size_t slot,
+                       size_t poll_limit, const uint8_t *script, size_t script_len,
+                       const uint8_t *junk, size_t junk_len, uint8_t *log, size_t log_len,
+                       uint64_t *counts);
+
+/*
+ * Sends one frame of the caller's, of 1 to 1,100 bytes, as slipknoll_send does,
+ * with log and script: after it an empty script ends the busy period, a script
+ * of 1 leaves the chip busy. The reply is as long as the frame; it is kept under
+ * 11. Answers 0, 1, 2, 6, 7, 11.
+ */
+uint8_t slipknoll_raw(uint8_t *record, uint8_t *array, size_t array_len,
+                      const uint8_t *frame, size_t frame_len, uint8_t *reply, size_t reply_len,
+                      const uint8_t *script, size_t script_len,
+                      const uint8_t *junk, size_t junk_len, uint8_t *log, size_t log_len,
+                      uint64_t *counts);
+
+/*
+ * ---- The slot driver alone, for a real chip.
+ *
+ * The slot calls above run this driver over the chip that the library holds.
+ * With a real AT45DB081D, say behind a radio bridge, the caller carries the
+ * frames: the driver is given the last reply and yields the next frame or the
+ * end. It knows nothing of the link and never waits by itself.
+ *
+ * The caller lends it
+ *
+ *   state     SLIPKNOLL_DRIVER_LEN bytes; where the call stands. A start writes
+ *             it whole, whatever it held. It has no pointers in it: it may be
+ *             copied, and kept while a reply is under way.
+ *   payload   the recipe of a put or the bytes of a patch, the same at every
+ *             step; of a get or wipe, anything of length 0. It is not copied.
+ *   staged    SLIPKNOLL_SLOT_LEN bytes, in which a patch and a get keep what
+ *             they have read of the slot; the caller leaves them alone between
+ *             the steps. What they hold at the start does not matter.
+ *   frame     SLIPKNOLL_DRIVER_FRAME_LEN bytes; the frame to send is written to
+ *             its beginning, and its length returned.
+ *
+ * The loop is the same for every call:
+ *
+ *     static uint8_t staged[SLIPKNOLL_SLOT_LEN];
+ *     uint8_t state[SLIPKNOLL_DRIVER_LEN];
+ *     uint8_t frame[SLIPKNOLL_DRIVER_FRAME_LEN], reply[SLIPKNOLL_DRIVER_FRAME_LEN];
+ *     size_t len, got;
+ *
+ *     slipknoll_driver_start_put(state, SLIPKNOLL_ARRAY_LEN, slot, 100, recipe, recipe_len);
+ *     len = slipknoll_driver_frame(state, recipe, recipe_len, staged, frame);
+ *     while (len != 0) {
+ *         got = exchange(frame, len, reply);        // yours; see below
+ *         len = slipknoll_driver_next(state, recipe, recipe_len, reply, got, staged, frame);
+ *     }
+ *     answer = slipknoll_driver_answer(state);      // 0, 1, 3 to 5, 8 to 10, 12, 13
+ *
+ * exchange() makes one chip-select period of the frame: CS low, len bytes out
+ * on SI while len bytes come in on SO, CS high. Programs and erases begin when
+ * CS goes high, so a frame may not be split, joined with another, or sent twice.
+ * The reply is all that came in, from the first byte on, so that it lines up
+ * with the frame: the status stands in reply[1], a page read in reply[8] to
+ * reply[271]. Bytes behind the frame's length are not looked at. If bytes are
+ * missing, hand over those that came, none at all if need be: a missing byte
+ * counts as FFh, so that a lost status ends the call with 8 and lost registers
+ * with 10. Lost bytes of a page (D2) cannot be told from FFh: if the bridge
+ * knows that a page came short, give up the call, which is done by not going on.
+ *
+ * Waiting. A busy chip is asked again at once, poll_limit times. 83 is busy for
+ * up to 35 ms and 50 for up to 75 ms (data sheet 002): let exchange() pause
+ * before a D7 frame (frame[0] == 0xD7), or choose poll_limit so that as many
+ * polls outlast this.
+ *
+ * What a listener sees of it, the frames' lengths and their first four bytes,
+ * is the same whatever the recipes are. Send each frame whole, as it is, and
+ * without pauses that depend on the recipe.
+ *
+ * At the end. After a put, patch or wipe the answer is all. After a get with
+ * answer 0 the slot's bytes are in `staged`: the recipe's length n is
+ * staged[1] * 256 + staged[2], at most 2,109, and the recipe is staged[3] to
+ * staged[2 + n]. With any other answer `staged` means nothing.
+ *
+ * If the supply or the link is lost in between, the slot may hold pages of both
+ * recipes, or of none. Start the call again from its beginning.
+ *
+ * Before the first call: wake the chip with AB if it may be in deep power-down.
+ * The driver does not look at status bit 0: a chip that is set to 256-byte pages
+ * has a 1 there and must not be driven by it.
+ *
+ * Any bytes of `state` are a state: a made-up one gives frames or the end.
+ */
+
+/*
+ * Each start tests its arguments: 1 (array_len, which tells the part:
+ * SLIPKNOLL_ARRAY_LEN for the real chip), 3, 4 and 5 in this order. A start that
+ * is refused is at its end: slipknoll_driver_frame returns 0, and
+ * slipknoll_driver_answer tells why.
+ */
+void slipknoll_driver_start_put(uint8_t *state, size_t array_len, size_t slot, size_t poll_limit,
+                                const uint8_t *recipe, size_t recipe_len);
+void slipknoll_driver_start_patch(uint8_t *state, size_t array_len, size_t slot, size_t poll_limit,
+                                  size_t place, const uint8_t *bytes, size_t bytes_len);
+/* buffer_len: room for the recipe, at least 2,109. */
+void slipknoll_driver_start_get(uint8_t *state, size_t array_len, size_t slot, size_t poll_limit,
+                                size_t buffer_len);
+void slipknoll_driver_start_wipe(uint8_t *state, size_t array_len, size_t slot, size_t poll_limit);
+
+/*
+ * Writes the frame to send now and returns its length, 2 to 272; 0 at the end.
+ * Changes no state: it may be asked again.
+ */
+size_t slipknoll_driver_frame(const uint8_t *state, const uint8_t *payload, size_t payload_len,
+                              const uint8_t *staged, uint8_t *frame);
+
+/*
+ * Takes the reply to the frame last yielded, writes the next frame and returns
+ * its length; 0 at the end. After the end it gives the end again.
+ */
+size_t slipknoll_driver_next(uint8_t *state, const uint8_t *payload, size_t payload_len,
+                             const uint8_t *reply, size_t reply_len, uint8_t *staged,
+                             uint8_t *frame);
+
+/* The answer, once there is no frame left to send. */
+uint8_t slipknoll_driver_answer(const uint8_t *state);
 
 #ifdef __cplusplus
 }

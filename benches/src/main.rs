@@ -1,6 +1,8 @@
 //! Times calls of the proved library beside the second model and beside a
 //! plain copy of as many bytes: `cargo run --release -p bench`.
 
+mod calls;
+
 use std::hint::black_box;
 use std::time::{Duration, Instant};
 
@@ -29,18 +31,16 @@ trait Subject {
 
 /// The proved library, over its record block.
 struct Library {
-    record: slipknoll::Record,
+    chip: slipknoll::Chip,
     array: Vec<u8>,
     reply: Vec<u8>,
 }
 
 impl Library {
     fn new() -> Library {
-        let mut record = [0; slipknoll::RECORD_LEN];
         let mut array = vec![0; PART.array_len()];
-        assert_eq!(slipknoll::fresh(&mut record, &FACTORY, &mut array), 0);
         Library {
-            record,
+            chip: slipknoll::Chip::fresh(&FACTORY, &mut array).expect("a known part"),
             array,
             reply: vec![0; MAX_FRAME],
         }
@@ -50,17 +50,17 @@ impl Library {
 impl Subject for Library {
     fn send(&mut self, frame: &[u8]) {
         let reply = &mut self.reply[..frame.len()];
-        let answer = slipknoll::send(&mut self.record, &self.array, frame, reply);
-        assert_eq!(answer, 0);
+        let answer = self.chip.send(&self.array, frame, reply);
+        assert_eq!(answer, Ok(()));
     }
 
     fn end_busy(&mut self) {
-        assert_eq!(slipknoll::end_busy(&mut self.record, &mut self.array), 0);
+        assert_eq!(self.chip.end_busy(&mut self.array), Ok(()));
     }
 
     fn take_back(&mut self) {
         // Tag, buffer and number of the operation under way.
-        self.record[164..168].fill(0);
+        self.chip.record_mut()[164..168].fill(0);
     }
 
     fn reply(&self) -> &[u8] {
@@ -229,4 +229,6 @@ fn main() {
         println!("{name:22} {library:12.1} {model:12.1} {copy:12.1} {bytes:12}");
     }
     assert!(library.array == model.array, "the arrays differ");
+    println!();
+    calls::run();
 }

@@ -301,7 +301,7 @@ impl Chip {
     }
 
     /// The part that the array stands for, if the operation under way fits it.
-    fn part_of(&self, array: &[u8]) -> Option<Part> {
+    pub(crate) fn part_of(&self, array: &[u8]) -> Option<Part> {
         Part::from_array_len(array.len()).filter(|&part| self.operation.fits(part))
     }
 

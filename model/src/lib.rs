@@ -8,17 +8,22 @@
 //! - [`command`]: the command table
 //! - [`operation`]: the operation under way
 //! - [`chip`]: the chip itself: frames, busy end, pin, cut
+//! - [`slot`]: what a slot holds
+//! - [`driver`]: the slot driver's frames, over any link to a chip
+//! - [`calls`]: put, patch, get, wipe and raw on the chip under a script
 //! - [`record`]: the record block of 765 bytes
-//!
-//! The slot driver's calls stand above [`Chip`] and get a module of their own.
 
 pub mod answer;
+pub mod calls;
 pub mod chip;
 pub mod command;
+pub mod driver;
 pub mod operation;
 pub mod part;
 pub mod record;
+pub mod slot;
 
+pub use calls::{Call, Lent, Outcome};
 pub use chip::Chip;
 pub use operation::{Buffer, Operation};
 pub use part::Part;

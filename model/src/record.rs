@@ -4,7 +4,7 @@ use std::ops::Range;
 
 use crate::answer;
 use crate::operation::{Buffer, Operation};
-use crate::Chip;
+use crate::{Call, Chip, Lent, Outcome};
 
 pub const RECORD_LEN: usize = 765;
 
@@ -124,6 +124,17 @@ pub fn move_pin(record: &mut Record, high: bool) -> u8 {
 /// [`Chip::cut`] over a block.
 pub fn cut(record: &mut Record, array: &mut [u8], junk: &[u8]) -> u8 {
     with_chip(record, |chip| chip.cut(array, junk))
+}
+
+/// [`Chip::call`] over a block; a refused one leaves it as it was, byte for
+/// byte.
+pub fn call(record: &mut Record, lent: Lent, call: Call) -> Outcome {
+    let mut chip = Chip::from_record(record);
+    let outcome = chip.call(lent, call);
+    if !answer::is_refusal(outcome.answer) {
+        chip.to_record(record);
+    }
+    outcome
 }
 
 /// Runs a call; a refused one leaves the block as it was, byte for byte.

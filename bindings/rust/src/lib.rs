@@ -1,7 +1,47 @@
-//! Binding to the proved AT45DB081D library, `libslipknoll.a`.
+//! The proved AT45DB081D chip and the proved slot driver, `libslipknoll.a`.
 //!
-//! The chip record is a block of [`RECORD_LEN`] bytes that the caller keeps;
-//! each call takes it and returns the answer's number of document 01.
+//! * [`Chip`] is a chip that the program holds: its record of registers and
+//!   buffers. The flash array is the caller's and is lent to each call. Frames,
+//!   busy ends, pin moves and cuts reach it one by one, recipes by
+//!   [`put`](Chip::put), [`patch`](Chip::patch), [`get`](Chip::get) and
+//!   [`wipe`](Chip::wipe).
+//! * [`Driver`] makes the same calls on a chip elsewhere, say a real one behind
+//!   a radio link: it yields frames and is given the replies.
+//!
+//! Every input is answered: 01's answers 1 to 13 are an [`Error`].
+//!
+//! ```
+//! use slipknoll::{log_len, Chip, Part, Run, FACTORY_LEN, RECIPE_MAX};
+//!
+//! let mut array = vec![0; Part::Short.array_len()];
+//! let mut chip = Chip::fresh(&[0; FACTORY_LEN], &mut array)?;
+//!
+//! let mut log = [0; log_len::put(1)];
+//! let mut run = Run::new(&mut log);
+//! chip.put(&mut array, 3, 1, b"AB", &mut run)?;
+//! assert_eq!((run.frames(), run.polls()), (27, 9));
+//!
+//! let mut buffer = [0; RECIPE_MAX];
+//! assert_eq!(chip.get(&mut array, 3, 1, &mut buffer, &mut run)?, b"AB");
+//! # Ok::<(), slipknoll::Error>(())
+//! ```
+//!
+//! What shows on the wire, the outlines of the frames, depends on nothing of
+//! the recipes; see `docs/THEOREMS.md` of the repository. [`ffi`] is the C
+//! interface as it is.
+
+mod chip;
+mod driver;
+mod error;
+pub mod ffi;
+mod part;
+mod run;
+
+pub use chip::Chip;
+pub use driver::{DriveError, Driver};
+pub use error::Error;
+pub use part::{Level, Part};
+pub use run::{log_len, script, Line, Run};
 
 /// Length of the chip record.
 pub const RECORD_LEN: usize = 765;
@@ -9,95 +49,23 @@ pub const RECORD_LEN: usize = 765;
 /// Length of the factory bytes.
 pub const FACTORY_LEN: usize = 64;
 
-/// The chip record as a block of bytes.
+/// Length of a page.
+pub const PAGE_LEN: usize = 264;
+
+/// Length of a slot: eight pages.
+pub const SLOT_LEN: usize = 8 * PAGE_LEN;
+
+/// The longest recipe.
+pub const RECIPE_MAX: usize = 2109;
+
+/// The longest frame that a chip takes.
+pub const FRAME_MAX: usize = 1100;
+
+/// The longest frame of the driver.
+pub const DRIVER_FRAME_LEN: usize = 272;
+
+/// The highest poll limit; the lowest is 1.
+pub const POLL_LIMIT_MAX: usize = 1000;
+
+/// The chip record as a block of bytes; `include/slipknoll.h` has its layout.
 pub type Record = [u8; RECORD_LEN];
-
-/// The library's functions as they are.
-pub mod raw {
-    extern "C" {
-        pub fn slipknoll_fresh(
-            record: *mut u8,
-            factory: *const u8,
-            array: *mut u8,
-            array_len: usize,
-        ) -> u8;
-
-        pub fn slipknoll_send(
-            record: *mut u8,
-            array: *const u8,
-            array_len: usize,
-            frame: *const u8,
-            frame_len: usize,
-            reply: *mut u8,
-            reply_len: usize,
-        ) -> u8;
-
-        pub fn slipknoll_end_busy(record: *mut u8, array: *mut u8, array_len: usize) -> u8;
-
-        pub fn slipknoll_move_pin(record: *mut u8, high: bool) -> u8;
-
-        pub fn slipknoll_cut(
-            record: *mut u8,
-            array: *mut u8,
-            array_len: usize,
-            junk: *const u8,
-            junk_len: usize,
-        ) -> u8;
-    }
-}
-
-/// Makes record and array those of a fresh chip; answers 0 or 1.
-pub fn fresh(record: &mut Record, factory: &[u8; FACTORY_LEN], array: &mut [u8]) -> u8 {
-    // SAFETY: each pointer comes from a reference of the length that the
-    // library expects or is told; the references do not overlap.
-    unsafe {
-        raw::slipknoll_fresh(
-            record.as_mut_ptr(),
-            factory.as_ptr(),
-            array.as_mut_ptr(),
-            array.len(),
-        )
-    }
-}
-
-/// Sends one frame; answers 0, 1 or 2.
-pub fn send(record: &mut Record, array: &[u8], frame: &[u8], reply: &mut [u8]) -> u8 {
-    // SAFETY: as in `fresh`.
-    unsafe {
-        raw::slipknoll_send(
-            record.as_mut_ptr(),
-            array.as_ptr(),
-            array.len(),
-            frame.as_ptr(),
-            frame.len(),
-            reply.as_mut_ptr(),
-            reply.len(),
-        )
-    }
-}
-
-/// Ends the busy period; answers 0 or 1.
-pub fn end_busy(record: &mut Record, array: &mut [u8]) -> u8 {
-    // SAFETY: as in `fresh`.
-    unsafe { raw::slipknoll_end_busy(record.as_mut_ptr(), array.as_mut_ptr(), array.len()) }
-}
-
-/// Moves the WP pin; answers 0.
-pub fn move_pin(record: &mut Record, high: bool) -> u8 {
-    // SAFETY: as in `fresh`.
-    unsafe { raw::slipknoll_move_pin(record.as_mut_ptr(), high) }
-}
-
-/// Cuts the supply; answers 0, 1 or 7.
-pub fn cut(record: &mut Record, array: &mut [u8], junk: &[u8]) -> u8 {
-    // SAFETY: as in `fresh`.
-    unsafe {
-        raw::slipknoll_cut(
-            record.as_mut_ptr(),
-            array.as_mut_ptr(),
-            array.len(),
-            junk.as_ptr(),
-            junk.len(),
-        )
-    }
-}

@@ -1,10 +1,24 @@
-// The C interface: a chip held in a record block of 765 bytes, its array lent by the caller. include/slipknoll.h documents it.
-// Each function returns the answer's number of document 01's table; none has a `requires`.
+// The C interface: a chip held in a record block of 765 bytes, its array lent by the caller; the calls of the slot driver on it; and
+// the driver by itself, its state held in a block of 48 bytes.
+// include/slipknoll.h documents it.
+// Each function on a chip returns the answer's number of document 01's table; no function has a `requires`.
 ghost use mathlib.Core.Path.{_≡_};
-ghost use lib.ListN.{length};
+ghost use Prim.Native.Nat.{_+_};
+ghost use mathlib.Core.Bool.{false};
+ghost use lib.ListN.{length, take};
+ghost use lib.Dec.{ltb};
+ghost use Rattle.slices.specs.Lists.{over};
+ghost use Rattle.state.specs.Answers.{numberOf};
 ghost use Rattle.state.specs.Outcomes.{freshOutcome, freshArray, sendOutcome, sendReply, endOutcome, endArray, cutOutcome, cutArray};
 ghost use Rattle.blocks.specs.Block.{decodeChip};
 ghost use Rattle.blocks.specs.Promises.{answered, storedIn, pinMoved};
+ghost use Rattle.slots.specs.Driver.{answerOf};
+ghost use Rattle.slots.specs.Lists.{Op};
+ghost use Rattle.driver.specs.Start.{limitIn, startDriver};
+ghost use Rattle.driver.specs.Step.{frameIn, stagedIn, tookIn, nextIn};
+ghost use Rattle.driver_blocks.specs.Block.{decodeDriver, encodeDriver};
+ghost use Rattle.handover.specs.Called.{Called, CalledLent};
+use slots::Kind;
 
 // A fresh chip with these factory bytes; the array becomes FFh. Answers 0, 1.
 #[no_mangle]
@@ -58,4 +72,211 @@ pub extern "C" fn slipknoll_cut(block: &mut [u8; 765], array: &mut [u8], junk: &
     let c = blocks::decode(block);
     let o = chip::cut(c, array, junk);
     blocks::store(block, o)
+}
+
+// ---- the calls. `counts` gets frames, polls and n. Answers 0 to 13.
+
+// A recipe stored in a slot.
+#[no_mangle]
+pub extern "C" fn slipknoll_put(
+    block: &mut [u8; 765],
+    array: &mut [u8],
+    slot: usize,
+    limit: usize,
+    recipe: &[u8],
+    script: &[u8],
+    junk: &[u8],
+    log: &mut [u8],
+    counts: &mut [u64; 3],
+) -> u8
+    ensures { λ r. ⌜ Called (Op.put slot limit (now (script .entry)) (now (recipe .entry)) (now (junk .entry)) (now (log .entry))) (now (block .entry)) (now (array .entry)) (now (log .entry)) r (now (block .exit)) (now (array .exit)) (now (log .exit)) (now (counts .exit)) ⌝ }
+{
+    let c = blocks::decode(block);
+    let d = calls::put(c, array, slot, limit, recipe, script, junk, log);
+    handover::hand_over(block, counts, d)
+}
+
+// Bytes put at a place of the stored recipe.
+#[no_mangle]
+pub extern "C" fn slipknoll_patch(
+    block: &mut [u8; 765],
+    array: &mut [u8],
+    slot: usize,
+    limit: usize,
+    place: usize,
+    bytes: &[u8],
+    script: &[u8],
+    junk: &[u8],
+    log: &mut [u8],
+    counts: &mut [u64; 3],
+) -> u8
+    ensures { λ r. ⌜ Called (Op.patch slot limit place (now (script .entry)) (now (bytes .entry)) (now (junk .entry)) (now (log .entry))) (now (block .entry)) (now (array .entry)) (now (log .entry)) r (now (block .exit)) (now (array .exit)) (now (log .exit)) (now (counts .exit)) ⌝ }
+{
+    let c = blocks::decode(block);
+    let d = calls::patch(c, array, slot, limit, place, bytes, script, junk, log);
+    handover::hand_over(block, counts, d)
+}
+
+// The stored recipe read into the lent buffer, under answer 0 only.
+#[no_mangle]
+pub extern "C" fn slipknoll_get(
+    block: &mut [u8; 765],
+    array: &mut [u8],
+    slot: usize,
+    limit: usize,
+    buffer: &mut [u8],
+    script: &[u8],
+    junk: &[u8],
+    log: &mut [u8],
+    counts: &mut [u64; 3],
+) -> u8
+    ensures { λ r. ⌜ CalledLent (Op.get slot limit (now (script .entry)) (now (junk .entry)) (now (log .entry)) (now (buffer .entry))) (now (block .entry)) (now (array .entry)) (now (log .entry)) r (now (block .exit)) (now (array .exit)) (now (log .exit)) (now (counts .exit)) (now (buffer .exit)) ⌝ }
+{
+    let c = blocks::decode(block);
+    let d = calls::get(c, array, slot, limit, buffer, script, junk, log);
+    handover::hand_over(block, counts, d)
+}
+
+// A slot erased.
+#[no_mangle]
+pub extern "C" fn slipknoll_wipe(
+    block: &mut [u8; 765],
+    array: &mut [u8],
+    slot: usize,
+    limit: usize,
+    script: &[u8],
+    junk: &[u8],
+    log: &mut [u8],
+    counts: &mut [u64; 3],
+) -> u8
+    ensures { λ r. ⌜ Called (Op.wipe slot limit (now (script .entry)) (now (junk .entry)) (now (log .entry))) (now (block .entry)) (now (array .entry)) (now (log .entry)) r (now (block .exit)) (now (array .exit)) (now (log .exit)) (now (counts .exit)) ⌝ }
+{
+    let c = blocks::decode(block);
+    let d = calls::wipe(c, array, slot, limit, script, junk, log);
+    handover::hand_over(block, counts, d)
+}
+
+// One frame of the caller's, its reply in the lent buffer.
+#[no_mangle]
+pub extern "C" fn slipknoll_raw(
+    block: &mut [u8; 765],
+    array: &mut [u8],
+    frame: &[u8],
+    reply: &mut [u8],
+    script: &[u8],
+    junk: &[u8],
+    log: &mut [u8],
+    counts: &mut [u64; 3],
+) -> u8
+    ensures { λ r. ⌜ CalledLent (Op.raw (now (frame .entry)) (now (script .entry)) (now (junk .entry)) (now (log .entry)) (now (reply .entry))) (now (block .entry)) (now (array .entry)) (now (log .entry)) r (now (block .exit)) (now (array .exit)) (now (log .exit)) (now (counts .exit)) (now (reply .exit)) ⌝ }
+{
+    let c = blocks::decode(block);
+    let d = calls::raw(c, array, frame, reply, script, junk, log);
+    handover::hand_over(block, counts, d)
+}
+
+// ---- the driver by itself: its state in a block of 48 bytes, for a chip whose array has `array` bytes. A refused call starts at its end.
+
+// A put of a recipe.
+#[no_mangle]
+pub extern "C" fn slipknoll_driver_start_put(
+    state: &mut [u8; 48],
+    array: usize,
+    slot: usize,
+    limit: usize,
+    recipe: &[u8],
+)
+    ensures { λ _. ⌜ now (state .exit) ≡ encodeDriver (startDriver array Kind.Put slot limit 0 (ltb (limitIn array) (length (now (recipe .entry))))) ⌝ }
+{
+    let d = driver::start_put(array, slot, limit, recipe);
+    driver_blocks::encode(state, d);
+}
+
+// A patch of bytes at a place of the recipe.
+#[no_mangle]
+pub extern "C" fn slipknoll_driver_start_patch(
+    state: &mut [u8; 48],
+    array: usize,
+    slot: usize,
+    limit: usize,
+    place: usize,
+    bytes: &[u8],
+)
+    ensures { λ _. ⌜ now (state .exit) ≡ encodeDriver (startDriver array Kind.Patch slot limit place (ltb (limitIn array) (place + length (now (bytes .entry))))) ⌝ }
+{
+    let d = driver::start_patch(array, slot, limit, place, bytes);
+    driver_blocks::encode(state, d);
+}
+
+// A get into a buffer of `buffer` bytes.
+#[no_mangle]
+pub extern "C" fn slipknoll_driver_start_get(
+    state: &mut [u8; 48],
+    array: usize,
+    slot: usize,
+    limit: usize,
+    buffer: usize,
+)
+    ensures { λ _. ⌜ now (state .exit) ≡ encodeDriver (startDriver array Kind.Get slot limit 0 (ltb buffer (limitIn array))) ⌝ }
+{
+    let d = driver::start_get(array, slot, limit, buffer);
+    driver_blocks::encode(state, d);
+}
+
+// A wipe of a slot.
+#[no_mangle]
+pub extern "C" fn slipknoll_driver_start_wipe(
+    state: &mut [u8; 48],
+    array: usize,
+    slot: usize,
+    limit: usize,
+)
+    ensures { λ _. ⌜ now (state .exit) ≡ encodeDriver (startDriver array Kind.Wipe slot limit 0 false) ⌝ }
+{
+    let d = driver::start_wipe(array, slot, limit);
+    driver_blocks::encode(state, d);
+}
+
+// The frame to send, at the beginning of the lent buffer, which keeps its other bytes; its length is the result, 0 at the end. `payload`
+// is the recipe or the patch, `staged` the bytes of the slot read so far.
+#[no_mangle]
+pub extern "C" fn slipknoll_driver_frame(
+    state: &[u8; 48],
+    payload: &[u8],
+    staged: &[u8; 2112],
+    frame: &mut [u8; 272],
+) -> usize
+    ensures { λ r. ⌜ (r ≡ length (frameIn (decodeDriver (now (state .entry))) (now (payload .entry)) (now (staged .entry)))) × (take r (now (frame .exit)) ≡ frameIn (decodeDriver (now (state .entry))) (now (payload .entry)) (now (staged .entry))) × (now (frame .exit) ≡ over (frameIn (decodeDriver (now (state .entry))) (now (payload .entry)) (now (staged .entry))) (now (frame .entry))) ⌝ }
+{
+    let d = driver_blocks::decode(state);
+    driver::write_frame(d, payload, staged, frame)
+}
+
+// Given the last reply, the next state and the next frame; the bytes that a reply to D2 carries go among those read so far. The frame's
+// length is the result, 0 at the end.
+#[no_mangle]
+pub extern "C" fn slipknoll_driver_next(
+    state: &mut [u8; 48],
+    payload: &[u8],
+    reply: &[u8],
+    staged: &mut [u8; 2112],
+    frame: &mut [u8; 272],
+) -> usize
+    ensures { λ r. ⌜ (r ≡ length (nextIn (decodeDriver (now (state .entry))) (now (payload .entry)) (now (staged .entry)) (now (reply .entry)))) × (now (state .exit) ≡ encodeDriver (tookIn (decodeDriver (now (state .entry))) (now (payload .entry)) (now (staged .entry)) (now (reply .entry)))) × (now (staged .exit) ≡ stagedIn (decodeDriver (now (state .entry))) (now (payload .entry)) (now (staged .entry)) (now (reply .entry))) × (now (frame .exit) ≡ over (nextIn (decodeDriver (now (state .entry))) (now (payload .entry)) (now (staged .entry)) (now (reply .entry))) (now (frame .entry))) ⌝ }
+{
+    let d = driver_blocks::decode(state);
+    let n = driver::next_frame(d, payload, reply, staged, frame);
+    let e = n.driver;
+    driver_blocks::encode(state, e);
+    n.length
+}
+
+// The answer's number; 9 where the call has not ended.
+#[no_mangle]
+pub extern "C" fn slipknoll_driver_answer(state: &[u8; 48]) -> u8
+    ensures { λ r. ⌜ r ≡ numberOf (answerOf (decodeDriver (now (state .entry)) .course .phase) (decodeDriver (now (state .entry)) .verdict)) ⌝ }
+{
+    let d = driver_blocks::decode(state);
+    let a = driver::answer(d);
+    state::number(a)
 }

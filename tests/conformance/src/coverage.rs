@@ -2,6 +2,11 @@
 
 use crate::frames::ROWS;
 use crate::records::OPERATIONS;
+use crate::request::KINDS;
+use crate::step::CHIP_FUNCTIONS;
+
+/// Answers 0 to 13, and one place for any other.
+const ANSWERS: usize = 15;
 
 /// How often a row was obeyed and how often it was ignored.
 #[derive(Clone, Copy, Debug, Default)]
@@ -10,22 +15,23 @@ pub struct Count {
     pub ignored: u64,
 }
 
-/// Counts by row and operation under way, and by call and answer.
+/// Counts by row and operation under way, and by function and answer.
 #[derive(Clone, Debug)]
 pub struct Coverage {
     /// By row and operation. A row counts as obeyed if it showed: the record
     /// changed or the reply has data; as ignored if the frame was complete and
     /// the model says so.
     pub rows: [[Count; OPERATIONS.len()]; ROWS.len()],
-    /// By call (fresh, send, end busy, move pin, cut) and answer.
-    pub answers: [[u64; 8]; 5],
+    /// By function (fresh, send, end busy, move pin, cut, then put, patch, get,
+    /// wipe, raw) and answer.
+    pub answers: [[u64; ANSWERS]; CHIP_FUNCTIONS + KINDS.len()],
 }
 
 impl Default for Coverage {
     fn default() -> Self {
         Coverage {
             rows: [[Count::default(); OPERATIONS.len()]; ROWS.len()],
-            answers: [[0; 8]; 5],
+            answers: [[0; ANSWERS]; CHIP_FUNCTIONS + KINDS.len()],
         }
     }
 }
@@ -39,8 +45,34 @@ impl Coverage {
         self.rows[row].iter().map(|count| count.ignored).sum()
     }
 
-    /// The answers that a call has met, in order.
-    pub fn answers_of(&self, call: usize) -> Vec<usize> {
-        (0..8).filter(|&n| self.answers[call][n] > 0).collect()
+    pub fn count_answer(&mut self, function: usize, answer: u8) {
+        self.answers[function][usize::from(answer).min(ANSWERS - 1)] += 1;
+    }
+
+    /// The answers that a function has met, in order.
+    pub fn answers_of(&self, function: usize) -> Vec<usize> {
+        (0..ANSWERS)
+            .filter(|&n| self.answers[function][n] > 0)
+            .collect()
+    }
+
+    /// How often each of put, patch, get, wipe and raw was called.
+    pub fn calls(&self) -> [u64; KINDS.len()] {
+        std::array::from_fn(|kind| self.answers[CHIP_FUNCTIONS + kind].iter().sum())
+    }
+
+    /// Adds what another run has reached.
+    pub fn add(&mut self, other: &Coverage) {
+        for (rows, others) in self.rows.iter_mut().zip(&other.rows) {
+            for (count, other) in rows.iter_mut().zip(others) {
+                count.obeyed += other.obeyed;
+                count.ignored += other.ignored;
+            }
+        }
+        for (answers, others) in self.answers.iter_mut().zip(&other.answers) {
+            for (count, other) in answers.iter_mut().zip(others) {
+                *count += other;
+            }
+        }
     }
 }

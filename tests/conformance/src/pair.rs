@@ -1,25 +1,20 @@
 //! Two devices side by side.
 
 use std::collections::VecDeque;
-use std::fmt;
 use std::ops::Range;
 
 use at45db081d_model::command::decode;
-use at45db081d_model::record::field;
-use at45db081d_model::{Chip, Part, Record, RECORD_LEN};
+use at45db081d_model::{Chip, Operation, Outcome, Part, Record, RECORD_LEN};
 
 use crate::coverage::Coverage;
 use crate::device::Device;
 use crate::frames::{row_of, ROWS};
+use crate::mismatch::{difference, Mismatch};
 use crate::records::operation_of;
+use crate::request::{CallStep, Request};
 use crate::rng::Rng;
+use crate::side::{inside, Side, GUARD};
 use crate::step::Step;
-
-/// Bytes before and behind each lent piece of memory; they must not change.
-const GUARD: usize = 32;
-
-/// The longest reply that a case lends.
-const MAX_REPLY: usize = 2300;
 
 /// Where the junk for registers ends; a cut makes all before it anew.
 const JUNK_HEAD: usize = 528 + 64;
@@ -27,94 +22,9 @@ const JUNK_HEAD: usize = 528 + 64;
 /// How many steps are kept for a report.
 const REMEMBERED: usize = 12;
 
-/// In the full part the whole array is compared after each call that may
-/// change it, and once in so many steps after the others.
+/// In the full part the whole array is compared after each busy end and cut,
+/// and once in so many steps after the others; a call's own part of it always.
 pub const WHOLE_EVERY: u64 = 64;
-
-/// A difference between the two devices, with the steps before it.
-#[derive(Debug)]
-pub struct Mismatch {
-    pub step: u64,
-    pub what: String,
-    pub last_steps: Vec<String>,
-}
-
-impl fmt::Display for Mismatch {
-    fn fmt(&self, f: &mut fmt::Formatter) -> fmt::Result {
-        writeln!(f, "step {}: {}", self.step, self.what)?;
-        writeln!(f, "last steps:")?;
-        for step in &self.last_steps {
-            writeln!(f, "  {step}")?;
-        }
-        Ok(())
-    }
-}
-
-/// A device with its own record, array and reply, each between guards.
-struct Side<'a> {
-    device: &'a mut dyn Device,
-    record: Vec<u8>,
-    array: Vec<u8>,
-    reply: Vec<u8>,
-}
-
-impl<'a> Side<'a> {
-    fn new(device: &'a mut dyn Device, pristine: &[u8]) -> Side<'a> {
-        Side {
-            device,
-            record: vec![0; RECORD_LEN + 2 * GUARD],
-            array: pristine.to_vec(),
-            reply: vec![0; MAX_REPLY + 2 * GUARD],
-        }
-    }
-
-    fn record(&mut self) -> &mut Record {
-        record_in(&mut self.record)
-    }
-
-    fn call(&mut self, step: &Step, junk: &[u8]) -> u8 {
-        let record = record_in(&mut self.record);
-        match step {
-            Step::Fresh { array_len, factory } => {
-                let array = &mut self.array[inside(*array_len)];
-                self.device.fresh(record, factory, array)
-            }
-            Step::Send {
-                array_len,
-                frame,
-                reply_len,
-            } => {
-                let array = &self.array[inside(*array_len)];
-                let reply = &mut self.reply[inside(*reply_len)];
-                self.device.send(record, array, frame, reply)
-            }
-            Step::EndBusy { array_len } => {
-                let array = &mut self.array[inside(*array_len)];
-                self.device.end_busy(record, array)
-            }
-            Step::MovePin { high } => self.device.move_pin(record, *high),
-            Step::Cut {
-                array_len,
-                junk_len,
-                ..
-            } => {
-                let array = &mut self.array[inside(*array_len)];
-                self.device.cut(record, array, &junk[..*junk_len])
-            }
-            Step::Load(_) | Step::RestoreArray => 0,
-        }
-    }
-}
-
-fn inside(len: usize) -> Range<usize> {
-    GUARD..GUARD + len
-}
-
-fn record_in(memory: &mut [u8]) -> &mut Record {
-    (&mut memory[inside(RECORD_LEN)])
-        .try_into()
-        .expect("the length of a record")
-}
 
 /// The model and a device under test, on one part.
 pub struct Pair<'a> {
@@ -124,10 +34,12 @@ pub struct Pair<'a> {
     subject: Side<'a>,
     pristine: Vec<u8>,
     junk: Vec<u8>,
-    /// Parts of the array that may differ from the pristine one.
+    /// Parts of the array that may differ from the pristine one, and how many
+    /// of them were known before the last step.
     dirty: Vec<Range<usize>>,
+    dirty_before: usize,
     recent: VecDeque<Step>,
-    /// Calls made on both devices, in all cases and in this one.
+    /// Functions called on both devices, in all cases and in this one.
     calls: u64,
     case_calls: u64,
 }
@@ -147,13 +59,14 @@ impl<'a> Pair<'a> {
             pristine,
             junk,
             dirty: Vec::new(),
+            dirty_before: 0,
             recent: VecDeque::new(),
             calls: 0,
             case_calls: 0,
         }
     }
 
-    /// The calls made so far on both devices.
+    /// The functions called so far on both devices.
     pub fn calls(&self) -> u64 {
         self.calls
     }
@@ -177,25 +90,36 @@ impl<'a> Pair<'a> {
         self.load(&blank);
     }
 
-    /// Does one step on both devices and compares them.
+    /// Does one step on both devices and compares them; hands back the answer.
     pub fn step(&mut self, step: Step) -> Result<u8, Mismatch> {
+        self.outcome(step).map(|outcome| outcome.answer)
+    }
+
+    /// Makes one call on both devices and compares them.
+    pub fn call(&mut self, call: CallStep) -> Result<Outcome, Mismatch> {
+        self.outcome(Step::call(call))
+    }
+
+    fn outcome(&mut self, step: Step) -> Result<Outcome, Mismatch> {
         match &step {
             Step::Load(record) => self.load(record),
             Step::RestoreArray => self.restore_array(),
             _ => {}
         }
         let before = self.record();
+        self.dirty_before = self.dirty.len();
         self.note_dirty(&step, &before);
         self.prepare(&step);
-        let expected = self.model.call(&step, &self.junk);
-        let answer = self.subject.call(&step, &self.junk);
-        if let Some(call) = step.call() {
+        let expected = self.model.step(&step, &self.junk);
+        let outcome = self.subject.step(&step, &self.junk);
+        if let Some(function) = step.function() {
             self.calls += 1;
             self.case_calls += 1;
-            self.count(&step, call, expected, &before);
+            self.coverage.count_answer(function, expected.answer);
+            self.count_row(&step, expected.answer, &before);
         }
         self.remember(step);
-        self.compare(expected, answer)?;
+        self.compare(expected, outcome)?;
         Ok(expected)
     }
 
@@ -217,41 +141,61 @@ impl<'a> Pair<'a> {
         }
     }
 
-    /// Notes which part of the array the step changes, by the model's rules.
+    /// Notes which part of the array the step may change, by the model's rules.
     fn note_dirty(&mut self, step: &Step, before: &Record) {
         let len = match *step {
-            Step::Fresh { array_len, .. } => {
-                self.dirty.push(inside(array_len));
-                return;
-            }
+            Step::Fresh { array_len, .. } => return self.note_range(0..array_len),
+            Step::Store { at, ref bytes } => return self.note_range(at..at + bytes.len()),
             Step::EndBusy { array_len } | Step::Cut { array_len, .. } => array_len,
+            Step::Call(ref call) => call.array_len,
             _ => return,
         };
         let operation = Chip::from_record(before).operation;
         let Some(part) = Part::from_array_len(len).filter(|&part| operation.fits(part)) else {
             return;
         };
-        let dirty = &mut self.dirty;
-        operation.each_altered_range(part, |range| {
-            dirty.push(range.start + GUARD..range.end + GUARD);
-        });
+        self.note_operation(&operation, part);
+        if let Step::Call(call) = step {
+            self.note_call(&call.request, part, before);
+        }
     }
 
-    /// Makes the junk of a cut, and fills the replies with something stale.
-    fn prepare(&mut self, step: &Step) {
-        match *step {
-            Step::Cut { seed, register, .. } => {
-                Rng::new(seed).fill(&mut self.junk[..JUNK_HEAD]);
-                self.junk[528] = register;
-            }
-            Step::Send { reply_len, .. } => {
-                let stale = (self.calls as u8).wrapping_mul(0x35);
-                for side in [&mut self.model, &mut self.subject] {
-                    side.reply[..reply_len + 2 * GUARD].fill(stale);
-                }
-            }
-            _ => {}
+    /// A call writes in its slot, a raw frame what its operation says.
+    fn note_call(&mut self, request: &Request, part: Part, before: &Record) {
+        if let Request::Raw { frame, .. } = request {
+            let mut chip = Chip::from_record(before);
+            let array = &self.model.array[inside(part.array_len())];
+            chip.send(array, frame, &mut vec![0; frame.len()]);
+            return self.note_operation(&chip.operation, part);
         }
+        if let Some(slot) = request.slot().filter(|&slot| slot < part.blocks()) {
+            self.note_range(part.block_range(slot as u16));
+        }
+    }
+
+    fn note_operation(&mut self, operation: &Operation, part: Part) {
+        operation.each_altered_range(part, |range| self.note_range(range));
+    }
+
+    fn note_range(&mut self, range: Range<usize>) {
+        self.dirty.push(range.start + GUARD..range.end + GUARD);
+    }
+
+    /// Makes the junk of a cut, and fills what is lent for output with
+    /// something stale.
+    fn prepare(&mut self, step: &Step) {
+        let junk = match *step {
+            Step::Cut { seed, register, .. } => Some((seed, register)),
+            Step::Call(ref call) if call.script.contains(&2) => Some((call.seed, call.register)),
+            _ => None,
+        };
+        if let Some((seed, register)) = junk {
+            Rng::new(seed).fill(&mut self.junk[..JUNK_HEAD]);
+            self.junk[528] = register;
+        }
+        let stale = (self.calls as u8).wrapping_mul(0x35);
+        self.model.make_stale(step, stale);
+        self.subject.make_stale(step, stale);
     }
 
     fn remember(&mut self, step: Step) {
@@ -261,8 +205,7 @@ impl<'a> Pair<'a> {
         self.recent.push_back(step);
     }
 
-    fn count(&mut self, step: &Step, call: usize, answer: u8, before: &Record) {
-        self.coverage.answers[call][usize::from(answer).min(7)] += 1;
+    fn count_row(&mut self, step: &Step, answer: u8, before: &Record) {
         let Step::Send {
             array_len, frame, ..
         } = step
@@ -286,24 +229,42 @@ impl<'a> Pair<'a> {
         count.ignored += u64::from(!obeys && !shows && frame.len() >= ROWS[row].lead);
     }
 
-    fn compare(&self, expected: u8, answer: u8) -> Result<(), Mismatch> {
-        if expected != answer {
-            return Err(self.mismatch(format!("answer: model {expected}, device {answer}")));
+    fn compare(&self, expected: Outcome, outcome: Outcome) -> Result<(), Mismatch> {
+        if expected != outcome {
+            return Err(self.mismatch(format!("model {expected:?}, device {outcome:?}")));
         }
         self.alike("record", &self.model.record, &self.subject.record)?;
-        let last = self.recent.back().expect("a step");
-        match *last {
+        match self.recent.back().expect("a step") {
             Step::Send { reply_len, .. } => {
-                let reply = ..reply_len + 2 * GUARD;
-                self.alike(
-                    "reply",
-                    &self.model.reply[reply],
-                    &self.subject.reply[reply],
-                )?;
+                self.compare_replies("reply", *reply_len)?;
+                self.compare_arrays_now_and_then()
+            }
+            Step::Call(call) => {
+                let log = ..call.log_len + 2 * GUARD;
+                self.alike("log", &self.model.log[log], &self.subject.log[log])?;
+                self.compare_replies("buffer or reply", call.request.lent_len())?;
+                self.compare_dirty()?;
                 self.compare_arrays_now_and_then()
             }
             Step::Fresh { .. } | Step::EndBusy { .. } | Step::Cut { .. } => self.compare_arrays(),
             _ => self.compare_arrays_now_and_then(),
+        }
+    }
+
+    fn compare_replies(&self, name: &str, len: usize) -> Result<(), Mismatch> {
+        let lent = ..len + 2 * GUARD;
+        self.alike(name, &self.model.reply[lent], &self.subject.reply[lent])
+    }
+
+    /// Compares the parts of the array that the last step may have changed.
+    fn compare_dirty(&self) -> Result<(), Mismatch> {
+        let alike = self.dirty[self.dirty_before..]
+            .iter()
+            .all(|range| self.model.array[range.clone()] == self.subject.array[range.clone()]);
+        if alike {
+            Ok(())
+        } else {
+            self.compare_arrays()
         }
     }
 
@@ -315,18 +276,10 @@ impl<'a> Pair<'a> {
     }
 
     fn alike(&self, name: &str, model: &[u8], subject: &[u8]) -> Result<(), Mismatch> {
-        if model == subject {
-            return Ok(());
+        match difference(name, model, subject) {
+            None => Ok(()),
+            Some(what) => Err(self.mismatch(what)),
         }
-        let at = (0..model.len())
-            .find(|&i| model[i] != subject[i])
-            .expect("a difference");
-        let place = match at.checked_sub(GUARD) {
-            Some(index) => format!("{name} byte {index}{}", field_name(name, index)),
-            None => format!("guard before the {name}"),
-        };
-        let (model, subject) = (model[at], subject[at]);
-        Err(self.mismatch(format!("{place}: model {model:02X}, device {subject:02X}")))
     }
 
     fn mismatch(&self, what: String) -> Mismatch {
@@ -336,33 +289,4 @@ impl<'a> Pair<'a> {
             last_steps: self.recent.iter().map(Step::to_string).collect(),
         }
     }
-}
-
-/// The name of the record's field that holds a byte.
-fn field_name(name: &str, index: usize) -> &'static str {
-    if name != "record" {
-        return "";
-    }
-    let fields = [
-        (field::PROTECTION.end, " (protection)"),
-        (field::LOCKDOWN.end, " (lockdown)"),
-        (field::USER.end, " (user bytes)"),
-        (field::FACTORY.end, " (factory bytes)"),
-        (field::PROTECTION_ENABLED, " (used)"),
-        (field::WP_HIGH, " (protect mark)"),
-        (field::DEEP_POWER_DOWN, " (WP)"),
-        (field::TAG, " (deep)"),
-        (field::BUFFER, " (operation tag)"),
-        (field::NUMBER.start, " (operation's buffer)"),
-        (field::SECTORS.start, " (operation's number)"),
-        (field::DATA.start, " (operation's sectors)"),
-        (field::DATA.end, " (operation's data)"),
-        (field::BUFFER_1.end, " (buffer 1)"),
-        (field::BUFFER_2.end, " (buffer 2)"),
-        (RECORD_LEN, " (compare bit)"),
-    ];
-    fields
-        .iter()
-        .find(|(end, _)| index < *end)
-        .map_or(" (guard behind it)", |(_, name)| name)
 }

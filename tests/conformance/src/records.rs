@@ -1,5 +1,7 @@
 //! Records for cases: registers, marks, operations under way.
 
+use std::ops::Range;
+
 use at45db081d_model::record::{field, tag};
 use at45db081d_model::{Part, Record, RECORD_LEN};
 
@@ -105,25 +107,54 @@ pub fn set_place(record: &mut Record, operation: (u8, u8), number: u16, sectors:
 
 /// Clears the fields that the operation under way does not have.
 fn clear_unused(record: &mut Record) {
-    let tag = record[field::TAG];
-    if matches!(
-        tag,
+    for stale in stale_fields(record[field::TAG]) {
+        record[stale].fill(0);
+    }
+}
+
+/// The fields that the operation with this tag does not have.
+fn stale_fields(tag: u8) -> [Range<usize>; 3] {
+    let number = match tag {
         tag::IDLE
-            | tag::ERASE_CHIP
-            | tag::ERASE_PROTECTION
-            | tag::PROGRAM_PROTECTION
-            | tag::PROGRAM_SECURITY
-    ) {
-        record[field::NUMBER].fill(0);
+        | tag::ERASE_CHIP
+        | tag::ERASE_PROTECTION
+        | tag::PROGRAM_PROTECTION
+        | tag::PROGRAM_SECURITY => field::NUMBER,
+        _ => 0..0,
+    };
+    let sectors = match tag {
+        tag::ERASE_CHIP => 0..0,
+        _ => field::SECTORS,
+    };
+    let data = match tag {
+        tag::PROGRAM_SECURITY => 0..0,
+        tag::PROGRAM_PROTECTION => field::DATA.start + 16..field::DATA.end,
+        _ => field::DATA,
+    };
+    [number, sectors, data]
+}
+
+/// A record alike in registers, and otherwise different: buffers, compare bit,
+/// fields that the operation does not have, and the byte that stands for a mark.
+pub fn alike_in_registers(rng: &mut Rng, record: &Record) -> Record {
+    let mut other = *record;
+    rng.fill(&mut other[field::BUFFER_1]);
+    rng.fill(&mut other[field::BUFFER_2]);
+    other[field::COMPARE] = u8::from(record[field::COMPARE] == 0);
+    for stale in stale_fields(record[field::TAG]) {
+        rng.fill(&mut other[stale]);
     }
-    if tag != tag::ERASE_CHIP {
-        record[field::SECTORS].fill(0);
+    for mark in [
+        field::SECURITY_PROGRAMMED,
+        field::PROTECTION_ENABLED,
+        field::WP_HIGH,
+        field::DEEP_POWER_DOWN,
+    ] {
+        if record[mark] != 0 {
+            other[mark] = rng.byte().max(1);
+        }
     }
-    match tag {
-        tag::PROGRAM_SECURITY => {}
-        tag::PROGRAM_PROTECTION => record[field::DATA][16..].fill(0),
-        _ => record[field::DATA].fill(0),
-    }
+    other
 }
 
 /// A page of the part; those at the edges of sectors come often.

@@ -9,12 +9,15 @@ use at45db081d_model::Part;
 
 use crate::coverage::Coverage;
 use crate::device::{Device, Model};
-use crate::pair::{Mismatch, Pair, WHOLE_EVERY};
+use crate::mismatch::Mismatch;
+use crate::pair::{Pair, WHOLE_EVERY};
 
 /// A numbered list of cases.
 #[derive(Clone, Copy)]
 pub struct Scenario {
     pub name: &'static str,
+    /// The test file that runs it.
+    pub test: &'static str,
     /// The number of cases on a part.
     pub cases: fn(Part) -> u64,
     pub run: fn(&mut Pair, u64) -> Result<(), Mismatch>,
@@ -74,6 +77,7 @@ fn gcd(a: u64, b: u64) -> u64 {
 #[derive(Debug)]
 pub struct Failure {
     pub scenario: &'static str,
+    pub test: &'static str,
     pub part: Part,
     pub case: u64,
     pub mismatch: Mismatch,
@@ -90,14 +94,14 @@ impl fmt::Display for Failure {
         write!(f, "{}", self.mismatch)?;
         write!(
             f,
-            "run it alone: SLIPKNOLL_SEED={part}:{} cargo test -p conformance --test library {}",
-            self.case, self.scenario
+            "run it alone: SLIPKNOLL_SEED={}:{part}:{} cargo test -p conformance --test {}",
+            self.scenario, self.case, self.test
         )
     }
 }
 
-/// Runs cases of a scenario against the model. Returns the number of calls
-/// compared and what they reached.
+/// Runs cases of a scenario against the model. Returns the number of functions
+/// called and compared and what they reached.
 pub fn run_cases(
     scenario: &Scenario,
     cases: Cases,
@@ -106,7 +110,7 @@ pub fn run_cases(
     let total = (scenario.cases)(cases.part);
     match chosen_case() {
         None => run_numbers(scenario, cases.part, cases.numbers(total), subject),
-        Some((part, case)) if part == cases.part => {
+        Some((name, part, case)) if name == scenario.name && part == cases.part => {
             run_numbers(scenario, part, std::iter::once(case), subject)
         }
         Some(_) => Ok((0, Coverage::default())),
@@ -124,7 +128,7 @@ fn run_numbers(
     let (calls, coverage) = run_until_failure(scenario, part, numbers, subject, &mut recent)
         .map_err(|mismatch| locate(scenario, part, &recent, subject, mismatch))?;
     println!(
-        "{} {}: {calls} calls compared in {:.1} s",
+        "{} {}: {calls} steps compared in {:.1} s",
         scenario.name,
         part_name(part),
         begin.elapsed().as_secs_f64()
@@ -173,6 +177,7 @@ fn locate(
     let (case, mismatch) = alone.unwrap_or((last, mismatch));
     Failure {
         scenario: scenario.name,
+        test: scenario.test,
         part,
         case,
         mismatch,
@@ -184,21 +189,21 @@ pub fn runs_one_case() -> bool {
     chosen_case().is_some()
 }
 
-/// Reads `SLIPKNOLL_SEED`: `short:<case>` or `full:<case>`.
-fn chosen_case() -> Option<(Part, u64)> {
+/// Reads `SLIPKNOLL_SEED`: scenario, part and case.
+fn chosen_case() -> Option<(String, Part, u64)> {
     let text = env::var("SLIPKNOLL_SEED").ok()?;
-    let chosen = text.split_once(':').and_then(|(part, case)| {
-        let part = match part {
-            "short" => Part::SHORT,
-            "full" => Part::FULL,
-            _ => return None,
-        };
-        Some((part, case.parse().ok()?))
-    });
-    Some(chosen.expect("SLIPKNOLL_SEED is short:<number> or full:<number>"))
+    let words: Vec<&str> = text.split(':').collect();
+    let chosen = match words[..] {
+        [name, "short", case] => case.parse().ok().map(|case| (Part::SHORT, name, case)),
+        [name, "full", case] => case.parse().ok().map(|case| (Part::FULL, name, case)),
+        _ => None,
+    };
+    let (part, name, case) =
+        chosen.expect("SLIPKNOLL_SEED is <scenario>:short:<number> or <scenario>:full:<number>");
+    Some((name.to_string(), part, case))
 }
 
-fn part_name(part: Part) -> &'static str {
+pub fn part_name(part: Part) -> &'static str {
     if part == Part::SHORT {
         "short"
     } else {

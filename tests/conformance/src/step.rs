@@ -5,12 +5,19 @@ use std::fmt;
 use at45db081d_model::record::field;
 use at45db081d_model::Record;
 
+use crate::request::CallStep;
+
 #[derive(Clone)]
 pub enum Step {
     /// The caller puts a record of its own in place.
     Load(Box<Record>),
     /// The caller lends the array as it was at the beginning.
     RestoreArray,
+    /// The caller writes bytes of its own into the array.
+    Store {
+        at: usize,
+        bytes: Vec<u8>,
+    },
     Fresh {
         array_len: usize,
         factory: Box<[u8; 64]>,
@@ -34,9 +41,18 @@ pub enum Step {
         seed: u64,
         register: u8,
     },
+    /// Put, patch, get, wipe or raw.
+    Call(Box<CallStep>),
 }
 
+/// The functions of the chip; the calls are counted behind them.
+pub const CHIP_FUNCTIONS: usize = 5;
+
 impl Step {
+    pub fn call(call: CallStep) -> Step {
+        Step::Call(Box::new(call))
+    }
+
     /// A frame with a reply of its own length.
     pub fn send(array_len: usize, frame: Vec<u8>) -> Step {
         let reply_len = frame.len();
@@ -47,15 +63,16 @@ impl Step {
         }
     }
 
-    /// Index for counting by kind of call; None for the caller's own doings.
-    pub fn call(&self) -> Option<usize> {
+    /// Index for counting by function; None for the caller's own doings.
+    pub fn function(&self) -> Option<usize> {
         match self {
-            Step::Load(_) | Step::RestoreArray => None,
+            Step::Load(_) | Step::RestoreArray | Step::Store { .. } => None,
             Step::Fresh { .. } => Some(0),
             Step::Send { .. } => Some(1),
             Step::EndBusy { .. } => Some(2),
             Step::MovePin { .. } => Some(3),
             Step::Cut { .. } => Some(4),
+            Step::Call(call) => Some(CHIP_FUNCTIONS + call.request.kind()),
         }
     }
 }
@@ -65,6 +82,11 @@ impl fmt::Display for Step {
         match self {
             Step::Load(record) => write!(f, "load {}", summary(record)),
             Step::RestoreArray => write!(f, "restore array"),
+            Step::Store { at, bytes } => {
+                let shown = hex(&bytes[..bytes.len().min(8)]);
+                write!(f, "store {} bytes at {at}: {shown}", bytes.len())
+            }
+            Step::Call(call) => write!(f, "{call}"),
             Step::Fresh { array_len, .. } => write!(f, "fresh, array {array_len}"),
             Step::Send {
                 array_len,

@@ -2,7 +2,7 @@
 //! for one slip each.
 
 use at45db081d_model::record::{field, tag};
-use at45db081d_model::{answer, Chip, Part, Record};
+use at45db081d_model::{answer, Call, Chip, Lent, Outcome, Part, Record};
 use conformance::runner::runs_one_case;
 use conformance::{run_cases, scenarios, Cases, Device, Failure, Model};
 
@@ -152,6 +152,10 @@ impl Device for Faulty {
         }
         self.spoil_marks(record, &before, answer);
         answer
+    }
+
+    fn call(&mut self, record: &mut Record, lent: Lent, call: Call) -> Outcome {
+        Model.call(record, lent, call)
     }
 }
 

@@ -4,42 +4,17 @@
 //! steps and with the line that runs it alone, such as
 //!
 //! ```text
-//! SLIPKNOLL_SEED=short:1234 cargo test -p conformance --test library random_runs
+//! SLIPKNOLL_SEED=random_runs:short:1234 cargo test -p conformance --test library
 //! ```
 
 use at45db081d_model::record::tag;
-use at45db081d_model::{Part, Record};
+use at45db081d_model::Part;
 use conformance::frames::ROWS;
 use conformance::records::OPERATIONS;
 use conformance::runner::runs_one_case;
-use conformance::{run_cases, scenarios, Cases, Coverage, Device, Scenario};
+use conformance::{run_cases, scenarios, Cases, Coverage, Library, Scenario};
 
-/// The proved library.
-struct Library;
-
-impl Device for Library {
-    fn fresh(&mut self, record: &mut Record, factory: &[u8; 64], array: &mut [u8]) -> u8 {
-        slipknoll::fresh(record, factory, array)
-    }
-
-    fn send(&mut self, record: &mut Record, array: &[u8], frame: &[u8], reply: &mut [u8]) -> u8 {
-        slipknoll::send(record, array, frame, reply)
-    }
-
-    fn end_busy(&mut self, record: &mut Record, array: &mut [u8]) -> u8 {
-        slipknoll::end_busy(record, array)
-    }
-
-    fn move_pin(&mut self, record: &mut Record, high: bool) -> u8 {
-        slipknoll::move_pin(record, high)
-    }
-
-    fn cut(&mut self, record: &mut Record, array: &mut [u8], junk: &[u8]) -> u8 {
-        slipknoll::cut(record, array, junk)
-    }
-}
-
-/// The calls that each test compares at least, over a million together.
+/// The steps that each test compares at least, over a million together.
 mod least {
     pub const ROWS: u64 = 500_000;
     pub const SEALS: u64 = 400_000;
@@ -67,7 +42,7 @@ fn compare<const N: usize>(
     if runs_one_case() {
         return None;
     }
-    assert!(calls >= least, "only {calls} calls were compared");
+    assert!(calls >= least, "only {calls} steps were compared");
     Some(coverage)
 }
 

@@ -4,7 +4,8 @@
 use at45db081d_model::record::{field, tag};
 use at45db081d_model::{Part, Record};
 
-use crate::pair::{Mismatch, Pair};
+use crate::mismatch::Mismatch;
+use crate::pair::Pair;
 use crate::records::{self, OPERATIONS};
 use crate::rng::{Digits, Rng};
 use crate::runner::Scenario;
@@ -12,6 +13,7 @@ use crate::step::Step;
 
 pub const BUSY_ENDS: Scenario = Scenario {
     name: "every_busy_end_and_cut",
+    test: "library",
     cases,
     run,
 };

@@ -5,7 +5,8 @@ use at45db081d_model::record::{field, tag};
 use at45db081d_model::{Part, Record};
 
 use crate::frames;
-use crate::pair::{Mismatch, Pair};
+use crate::mismatch::Mismatch;
+use crate::pair::Pair;
 use crate::records;
 use crate::rng::{Digits, Rng};
 use crate::runner::Scenario;
@@ -13,6 +14,7 @@ use crate::step::Step;
 
 pub const CALLER_RECORDS: Scenario = Scenario {
     name: "every_tag_of_a_callers_record",
+    test: "library",
     cases,
     run,
 };

@@ -5,6 +5,7 @@ use crate::runner::Scenario;
 mod addresses;
 mod busy_ends;
 mod caller_records;
+pub mod calls;
 mod random_run;
 mod refusals;
 mod rows;
@@ -13,12 +14,13 @@ mod seals;
 pub use addresses::ADDRESSES;
 pub use busy_ends::BUSY_ENDS;
 pub use caller_records::CALLER_RECORDS;
+pub use calls::CALLS;
 pub use random_run::RANDOM_RUN;
 pub use refusals::REFUSALS;
 pub use rows::ROWS;
 pub use seals::SEALS;
 
-/// Every scenario.
+/// Every scenario of the chip.
 pub const ALL: [Scenario; 7] = [
     ROWS,
     SEALS,

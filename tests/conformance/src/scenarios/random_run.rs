@@ -6,7 +6,8 @@ use at45db081d_model::{Part, Record};
 
 use super::refusals::{array_len, ARRAY_LENGTHS};
 use crate::frames::{self, Row, BYTE_FIELDS, LENGTHS, UNLISTED};
-use crate::pair::{Mismatch, Pair};
+use crate::mismatch::Mismatch;
+use crate::pair::Pair;
 use crate::records::{self, OPERATIONS};
 use crate::rng::Rng;
 use crate::runner::Scenario;
@@ -14,6 +15,7 @@ use crate::step::Step;
 
 pub const RANDOM_RUN: Scenario = Scenario {
     name: "random_runs",
+    test: "library",
     cases,
     run,
 };

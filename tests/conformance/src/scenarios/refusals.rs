@@ -3,7 +3,8 @@
 use at45db081d_model::Part;
 
 use crate::frames;
-use crate::pair::{Mismatch, Pair};
+use crate::mismatch::Mismatch;
+use crate::pair::Pair;
 use crate::records::{self, OPERATIONS};
 use crate::rng::{Digits, Rng};
 use crate::runner::Scenario;
@@ -11,6 +12,7 @@ use crate::step::Step;
 
 pub const REFUSALS: Scenario = Scenario {
     name: "every_length_refused",
+    test: "library",
     cases,
     run,
 };

@@ -5,7 +5,8 @@ use at45db081d_model::record::field;
 use at45db081d_model::Part;
 
 use crate::frames::{self, Row, BYTE_FIELDS, LENGTHS, UNLISTED};
-use crate::pair::{Mismatch, Pair};
+use crate::mismatch::Mismatch;
+use crate::pair::Pair;
 use crate::records::{self, OPERATIONS};
 use crate::rng::{Digits, Rng};
 use crate::runner::Scenario;
@@ -13,6 +14,7 @@ use crate::step::Step;
 
 pub const ROWS: Scenario = Scenario {
     name: "every_row_under_every_operation",
+    test: "library",
     cases,
     run,
 };

@@ -6,7 +6,8 @@ use at45db081d_model::record::field;
 use at45db081d_model::{Part, Record};
 
 use crate::frames::{self, Row};
-use crate::pair::{Mismatch, Pair};
+use crate::mismatch::Mismatch;
+use crate::pair::Pair;
 use crate::records::{self, PATTERNS};
 use crate::rng::{Digits, Rng};
 use crate::runner::Scenario;
@@ -14,6 +15,7 @@ use crate::step::Step;
 
 pub const SEALS: Scenario = Scenario {
     name: "every_seal_of_every_sector",
+    test: "library",
     cases,
     run,
 };

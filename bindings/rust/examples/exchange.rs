@@ -1,0 +1,78 @@
+//! Keeps recipes in a chip that is reached by exchanging the bytes of one
+//! chip-select period. Here the proved chip stands on the other side; with a
+//! real one only `Bench::exchange` is another, such as `spi.transfer`.
+//!
+//! ```text
+//! cargo run --example exchange
+//! ```
+
+use slipknoll::{Chip, Driver, Error, Part, FACTORY_LEN, RECIPE_MAX};
+
+const PART: Part = Part::Full;
+const SLOT: usize = 7;
+const POLL_LIMIT: usize = 10;
+
+/// Polls that see a busy chip before it is ready.
+const BUSY_POLLS: usize = 3;
+
+/// The chip on the other side, and what a listener has seen of the frames:
+/// their lengths.
+struct Bench {
+    chip: Chip,
+    array: Vec<u8>,
+    busy_polls: usize,
+    seen: Vec<usize>,
+}
+
+impl Bench {
+    fn new() -> Result<Bench, Error> {
+        let mut array = vec![0; PART.array_len()];
+        Ok(Bench {
+            chip: Chip::fresh(&[0; FACTORY_LEN], &mut array)?,
+            array,
+            busy_polls: 0,
+            seen: Vec::new(),
+        })
+    }
+
+    /// One chip-select period: the frame goes out while the reply comes in.
+    fn exchange(&mut self, frame: &[u8], reply: &mut [u8]) -> Result<(), Error> {
+        self.seen.push(frame.len());
+        self.chip.send(&self.array, frame, reply)?;
+        let busy = frame[0] == 0xD7 && reply[1] & 0x80 == 0;
+        if busy {
+            self.busy_polls += 1;
+        }
+        if self.busy_polls == BUSY_POLLS {
+            self.busy_polls = 0;
+            self.chip.end_busy(&mut self.array)?;
+        }
+        Ok(())
+    }
+}
+
+fn main() -> Result<(), Box<dyn std::error::Error>> {
+    let mut bench = Bench::new()?;
+    let mut seen = Vec::new();
+    for recipe in [&b"salt"[..], &[0x5A; RECIPE_MAX]] {
+        let mut put = Driver::put(PART, SLOT, POLL_LIMIT, recipe)?;
+        put.run(|frame, reply| bench.exchange(frame, reply))?;
+        seen.push(std::mem::take(&mut bench.seen));
+
+        let mut get = Driver::get(PART, SLOT, POLL_LIMIT)?;
+        get.run(|frame, reply| bench.exchange(frame, reply))?;
+        assert_eq!(get.recipe(), Some(recipe));
+        seen.push(std::mem::take(&mut bench.seen));
+        println!("{} bytes put and read back", recipe.len());
+    }
+    assert_eq!(seen[0], seen[2]);
+    assert_eq!(seen[1], seen[3]);
+    println!("frames of each put: {:?}", seen[0]);
+    println!("frames of each get: {:?}", seen[1]);
+    Ok(())
+}
+
+#[test]
+fn runs() {
+    main().expect("no error");
+}

@@ -1,0 +1,204 @@
+use crate::error::accepted;
+use crate::{ffi, Error, Level, Record, Run, FACTORY_LEN};
+
+/// A chip: registers, operation under way, buffers and compare bit.
+///
+/// Its array is the caller's, and every call must be lent the same one. A copy
+/// of both is a copy of the chip.
+///
+/// ```
+/// use slipknoll::{Chip, Part, FACTORY_LEN};
+///
+/// let mut array = vec![0; Part::Full.array_len()];
+/// let mut chip = Chip::fresh(&[0; FACTORY_LEN], &mut array)?;
+///
+/// let mut reply = [0; 6];
+/// chip.send(&array, &[0x84, 0, 0, 0, b'h', b'i'], &mut reply)?;
+/// chip.send(&array, &[0x83, 0x00, 0x0A, 0x00], &mut reply[..4])?; // page 5
+/// chip.send(&array, &[0xD7, 0x00], &mut reply[..2])?;
+/// assert_eq!(reply[1], 0x24); // busy
+///
+/// chip.end_busy(&mut array)?;
+/// assert_eq!(array[5 * 264..][..2], *b"hi");
+/// # Ok::<(), slipknoll::Error>(())
+/// ```
+#[derive(Clone, Debug, PartialEq, Eq)]
+#[repr(transparent)]
+pub struct Chip {
+    record: Record,
+}
+
+impl Chip {
+    /// Makes a fresh chip: array and user bytes FFh, all else 0, WP high, idle.
+    pub fn fresh(factory: &[u8; FACTORY_LEN], array: &mut [u8]) -> Result<Chip, Error> {
+        let mut record = [0; crate::RECORD_LEN];
+        accepted(ffi::fresh(&mut record, factory, array))?;
+        Ok(Chip { record })
+    }
+
+    /// The chip that a record holds. Every content is some chip.
+    pub fn from_record(record: Record) -> Chip {
+        Chip { record }
+    }
+
+    /// The same where the record lies, without a copy.
+    pub fn from_record_mut(record: &mut Record) -> &mut Chip {
+        // SAFETY: a `Chip` is a record and nothing else (`transparent`), and
+        // any bytes are one; the reference lives as long as the one given.
+        unsafe { &mut *(record as *mut Record).cast::<Chip>() }
+    }
+
+    /// The record, to be kept or looked at; `include/slipknoll.h` has its
+    /// layout.
+    pub fn record(&self) -> &Record {
+        &self.record
+    }
+
+    /// The record, to be changed by hand.
+    pub fn record_mut(&mut self) -> &mut Record {
+        &mut self.record
+    }
+
+    /// Sends one frame, the bytes of one chip-select period. The reply is as
+    /// long; it holds FFh where the chip gives no data. What the frame starts
+    /// takes effect at [`end_busy`](Chip::end_busy).
+    ///
+    /// Errors: `Part`, `Frame`.
+    pub fn send(&mut self, array: &[u8], frame: &[u8], reply: &mut [u8]) -> Result<(), Error> {
+        accepted(ffi::send(&mut self.record, array, frame, reply))
+    }
+
+    /// Ends the busy period: the operation under way takes effect.
+    ///
+    /// Errors: `Part`.
+    pub fn end_busy(&mut self, array: &mut [u8]) -> Result<(), Error> {
+        accepted(ffi::end_busy(&mut self.record, array))
+    }
+
+    /// Moves the WP pin.
+    pub fn move_pin(&mut self, level: Level) {
+        let answer = ffi::move_pin(&mut self.record, level == Level::High);
+        accepted(answer).expect("a pin move is always accepted");
+    }
+
+    /// Cuts the supply. The junk, of [`junk_len`](crate::Part::junk_len) bytes,
+    /// stands for what is lost.
+    ///
+    /// Errors: `Part`, `Script`.
+    pub fn cut(&mut self, array: &mut [u8], junk: &[u8]) -> Result<(), Error> {
+        accepted(ffi::cut(&mut self.record, array, junk))
+    }
+
+    /// Stores a recipe in a slot.
+    ///
+    /// Errors: all but `Frame`, `Blank` and `End`. After `Chip`, `Busy`,
+    /// `Sealed` and `Cut` pages of the slot may be old, new, or (`Cut`) junk.
+    pub fn put(
+        &mut self,
+        array: &mut [u8],
+        slot: usize,
+        poll_limit: usize,
+        recipe: &[u8],
+        run: &mut Run,
+    ) -> Result<(), Error> {
+        accepted(ffi::calls::put(
+            &mut self.record,
+            array,
+            slot,
+            poll_limit,
+            recipe,
+            run,
+        ))
+    }
+
+    /// Changes bytes of a slot's recipe from `place` on; its length stays.
+    ///
+    /// Errors: all but `Frame`. Under `Blank` and `End` every frame is sent,
+    /// and the slot keeps its bytes.
+    ///
+    /// ```
+    /// # use slipknoll::{log_len, Chip, Error, Part, Run, FACTORY_LEN, RECIPE_MAX};
+    /// # let mut array = vec![0; Part::Short.array_len()];
+    /// # let mut chip = Chip::fresh(&[0; FACTORY_LEN], &mut array)?;
+    /// let mut log = [0; log_len::patch(1)];
+    /// let mut run = Run::new(&mut log);
+    /// chip.put(&mut array, 3, 1, b"salt", &mut run)?;
+    /// chip.patch(&mut array, 3, 1, 0, b"m", &mut run)?;
+    /// let beyond = chip.patch(&mut array, 3, 1, 3, b"ed", &mut run);
+    /// assert_eq!((beyond, run.frames()), (Err(Error::End), 35));
+    ///
+    /// let mut buffer = [0; RECIPE_MAX];
+    /// assert_eq!(chip.get(&mut array, 3, 1, &mut buffer, &mut run)?, b"malt");
+    /// # Ok::<(), slipknoll::Error>(())
+    /// ```
+    pub fn patch(
+        &mut self,
+        array: &mut [u8],
+        slot: usize,
+        poll_limit: usize,
+        place: usize,
+        bytes: &[u8],
+        run: &mut Run,
+    ) -> Result<(), Error> {
+        accepted(ffi::calls::patch(
+            &mut self.record,
+            array,
+            slot,
+            poll_limit,
+            place,
+            bytes,
+            run,
+        ))
+    }
+
+    /// Reads a slot's recipe into the beginning of `buffer`, which has room for
+    /// [`RECIPE_MAX`](crate::RECIPE_MAX) bytes; the rest of it keeps.
+    ///
+    /// Errors: all but `Frame`, `Sealed` and `End`; the buffer keeps whole.
+    pub fn get<'b>(
+        &mut self,
+        array: &mut [u8],
+        slot: usize,
+        poll_limit: usize,
+        buffer: &'b mut [u8],
+        run: &mut Run,
+    ) -> Result<&'b [u8], Error> {
+        let answer = ffi::calls::get(&mut self.record, array, slot, poll_limit, buffer, run);
+        accepted(answer)?;
+        let [_, _, len] = run.counts;
+        Ok(&buffer[..len as usize])
+    }
+
+    /// Erases a slot.
+    ///
+    /// Errors: all but `Frame`, `Size`, `Blank` and `End`.
+    pub fn wipe(
+        &mut self,
+        array: &mut [u8],
+        slot: usize,
+        poll_limit: usize,
+        run: &mut Run,
+    ) -> Result<(), Error> {
+        accepted(ffi::calls::wipe(
+            &mut self.record,
+            array,
+            slot,
+            poll_limit,
+            run,
+        ))
+    }
+
+    /// Sends one frame of the caller's, as [`send`](Chip::send) does, with log
+    /// and script.
+    ///
+    /// Errors: `Part`, `Frame`, `Log`, `Script`, `Cut`.
+    pub fn raw(
+        &mut self,
+        array: &mut [u8],
+        frame: &[u8],
+        reply: &mut [u8],
+        run: &mut Run,
+    ) -> Result<(), Error> {
+        accepted(ffi::calls::raw(&mut self.record, array, frame, reply, run))
+    }
+}

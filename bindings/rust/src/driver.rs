@@ -1,0 +1,206 @@
+use std::fmt;
+
+use crate::error::accepted;
+use crate::ffi::driver;
+use crate::{Error, Part, DRIVER_FRAME_LEN, RECIPE_MAX, SLOT_LEN};
+
+/// A slot call on a chip elsewhere: it yields frames, is given the replies and
+/// comes to an end.
+///
+/// The one who holds it carries the frames: each is one chip-select period,
+/// whole and sent once. [`run`](Driver::run) does the loop:
+///
+/// ```
+/// use slipknoll::{Chip, Driver, Part, FACTORY_LEN};
+///
+/// // On the other side: a chip that is ready at the next frame.
+/// let mut array = vec![0; Part::Full.array_len()];
+/// let mut chip = Chip::fresh(&[0; FACTORY_LEN], &mut array)?;
+/// let mut exchange = |frame: &[u8], reply: &mut [u8]| {
+///     chip.send(&array, frame, reply)?;
+///     chip.end_busy(&mut array)
+/// };
+///
+/// Driver::put(Part::Full, 7, 100, b"AB")?.run(&mut exchange)?;
+///
+/// let mut get = Driver::get(Part::Full, 7, 100)?;
+/// get.run(&mut exchange)?;
+/// assert_eq!(get.recipe(), Some(&b"AB"[..]));
+/// # Ok::<(), Box<dyn std::error::Error>>(())
+/// ```
+///
+/// By hand, where the link has its own loop or replies may come short:
+///
+/// ```
+/// # use slipknoll::{Driver, Error, Part};
+/// # fn exchange(_: &[u8]) -> Vec<u8> { vec![0x00, 0x24] }
+/// let mut wipe = Driver::wipe(Part::Full, 7, 100)?;
+/// while let Some(frame) = wipe.frame() {
+///     let reply = exchange(frame); // of a chip that is never ready
+///     wipe.take(&reply);
+/// }
+/// assert_eq!(wipe.answer(), Some(Err(Error::Busy)));
+/// # Ok::<(), Error>(())
+/// ```
+///
+/// A busy chip is asked again at once, as often as the poll limit allows: let
+/// the exchange pause before a frame that begins with D7, or choose a limit
+/// that outlasts 35 ms (put and patch) or 75 ms (wipe). Wake the chip with AB
+/// if it may be in deep power-down.
+#[derive(Clone)]
+pub struct Driver<'a> {
+    state: driver::State,
+    /// The recipe of a put or the bytes of a patch; else nothing.
+    payload: &'a [u8],
+    /// What has been read of the slot.
+    staged: [u8; SLOT_LEN],
+    frame: [u8; DRIVER_FRAME_LEN],
+    /// The length of the frame to send; 0 at the end.
+    frame_len: usize,
+    is_get: bool,
+}
+
+impl<'a> Driver<'a> {
+    /// Starts to store a recipe in a slot.
+    ///
+    /// Errors of every start: `Slot`, `Limit`, `Size`; nothing is to be sent.
+    pub fn put(
+        part: Part,
+        slot: usize,
+        poll_limit: usize,
+        recipe: &'a [u8],
+    ) -> Result<Driver<'a>, Error> {
+        Driver::start(recipe, false, |state| {
+            driver::start_put(state, part.array_len(), slot, poll_limit, recipe)
+        })
+    }
+
+    /// Starts to change bytes of a slot's recipe, from `place` on.
+    pub fn patch(
+        part: Part,
+        slot: usize,
+        poll_limit: usize,
+        place: usize,
+        bytes: &'a [u8],
+    ) -> Result<Driver<'a>, Error> {
+        Driver::start(bytes, false, |state| {
+            driver::start_patch(state, part.array_len(), slot, poll_limit, place, bytes)
+        })
+    }
+
+    /// Starts to read a slot's recipe.
+    pub fn get(part: Part, slot: usize, poll_limit: usize) -> Result<Driver<'static>, Error> {
+        Driver::start(&[], true, |state| {
+            driver::start_get(state, part.array_len(), slot, poll_limit, RECIPE_MAX)
+        })
+    }
+
+    /// Starts to erase a slot.
+    pub fn wipe(part: Part, slot: usize, poll_limit: usize) -> Result<Driver<'static>, Error> {
+        Driver::start(&[], false, |state| {
+            driver::start_wipe(state, part.array_len(), slot, poll_limit)
+        })
+    }
+
+    fn start<'p>(
+        payload: &'p [u8],
+        is_get: bool,
+        start: impl FnOnce(&mut driver::State),
+    ) -> Result<Driver<'p>, Error> {
+        let mut it = Driver {
+            state: [0; driver::STATE_LEN],
+            payload,
+            staged: [0; SLOT_LEN],
+            frame: [0; DRIVER_FRAME_LEN],
+            frame_len: 0,
+            is_get,
+        };
+        start(&mut it.state);
+        it.frame_len = driver::frame(&it.state, payload, &it.staged, &mut it.frame);
+        match it.answer() {
+            Some(Err(refusal)) => Err(refusal),
+            _ => Ok(it),
+        }
+    }
+
+    /// The frame to send now; None at the end.
+    pub fn frame(&self) -> Option<&[u8]> {
+        match self.frame_len {
+            0 => None,
+            len => Some(&self.frame[..len]),
+        }
+    }
+
+    /// Takes the reply to the frame: all bytes that came in, from the first on.
+    ///
+    /// A byte that is missing counts as FFh, so that a lost status ends the
+    /// call with `Chip` and lost registers with `Sealed`. Lost bytes of a page
+    /// cannot be told from FFh: if the link knows of any, give up the call.
+    pub fn take(&mut self, reply: &[u8]) {
+        self.frame_len = driver::next(
+            &mut self.state,
+            self.payload,
+            reply,
+            &mut self.staged,
+            &mut self.frame,
+        );
+    }
+
+    /// How the call has ended; None while there is a frame to send.
+    ///
+    /// Errors: `Chip`, `Busy`, `Sealed` (not of a get), `Blank` (patch and get)
+    /// and `End` (patch).
+    pub fn answer(&self) -> Option<Result<(), Error>> {
+        match self.frame_len {
+            0 => Some(accepted(driver::answer(&self.state))),
+            _ => None,
+        }
+    }
+
+    /// The recipe that a get has read; None before its end, after an error and
+    /// of another call.
+    pub fn recipe(&self) -> Option<&[u8]> {
+        if !self.is_get || self.answer() != Some(Ok(())) {
+            return None;
+        }
+        let len = u16::from_be_bytes([self.staged[1], self.staged[2]]);
+        self.staged[3..].get(..usize::from(len))
+    }
+
+    /// Goes on to the end over a function that exchanges the bytes of one
+    /// chip-select period: it sends the frame and fills the reply, which is as
+    /// long. An error of it gives up the call.
+    pub fn run<E>(
+        &mut self,
+        mut exchange: impl FnMut(&[u8], &mut [u8]) -> Result<(), E>,
+    ) -> Result<(), DriveError<E>> {
+        let mut reply = [0; DRIVER_FRAME_LEN];
+        while let Some(frame) = self.frame() {
+            let reply = &mut reply[..frame.len()];
+            exchange(frame, reply).map_err(DriveError::Link)?;
+            self.take(reply);
+        }
+        accepted(driver::answer(&self.state)).map_err(DriveError::Call)
+    }
+}
+
+/// Why [`Driver::run`] has not succeeded.
+#[derive(Clone, Copy, Debug, PartialEq, Eq)]
+pub enum DriveError<E> {
+    /// The exchange failed. The slot may hold pages of both recipes, or of
+    /// none; start the call again from its beginning.
+    Link(E),
+    /// The call's answer.
+    Call(Error),
+}
+
+impl<E: fmt::Display> fmt::Display for DriveError<E> {
+    fn fmt(&self, f: &mut fmt::Formatter) -> fmt::Result {
+        match self {
+            DriveError::Link(error) => write!(f, "link: {error}"),
+            DriveError::Call(error) => write!(f, "{error}"),
+        }
+    }
+}
+
+impl<E: fmt::Debug + fmt::Display> std::error::Error for DriveError<E> {}

@@ -1,0 +1,10 @@
+pub mod Scripts
+pub mod Frames
+pub mod Promised
+pub mod RawCall
+pub mod Loop
+pub mod Steps
+pub mod Turns
+pub mod Begins
+pub mod Whole
+pub mod Delivery

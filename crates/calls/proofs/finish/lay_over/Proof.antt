@@ -1,0 +1,53 @@
+-- `calls::finish::lay_over` meets its contract: as many bytes are copied as the count, the bytes and the buffer allow.
+-- Assumes nothing.
+use mathlib.Core.Path.{_∙_, ap}
+use Prim.Native.Nat.{ℕ, min}
+use native.Mathlib.Omega.{arith}
+use lib.ListN.{length, length-take}
+use borrow.Author.Needs.{needs}
+use Rattle.calls.proofs.Delivery.{laid}
+use Rattle.calls.proofs.finish.lay_over.Statement.{statement}
+use Rattle.calls.proofs.finish.lay_over.Tie as tie
+
+lesser-requires : tie.Need-lesser-requires
+lesser-requires c κs = search needs
+
+lesser-requires-2 : tie.Need-lesser-requires-2
+lesser-requires-2 c κs = search needs
+
+slice-relend-prefix-copy : tie.Need-slice-relend-prefix-copy
+slice-relend-prefix-copy c = search needs
+
+slice-aggregate-copy : tie.Need-slice-aggregate-copy
+slice-aggregate-copy c = simp length-take (omega arith)
+
+slice-aggregate-copy-2 : tie.Need-slice-aggregate-copy-2
+slice-aggregate-copy-2 c = simp length-take (omega arith)
+
+copy-requires : tie.Need-copy-requires
+copy-requires c κs = simp length-take (omega arith)
+
+same-length : tie.Need-same-length
+same-length c = search needs
+
+returns : tie.Need-returns
+returns c =
+    let start = c .before .before .before .before .before .before .before .before .before in
+    let lesser2 = c .before .before .before .before .before .lesser2 in
+    let a = start .args in
+    laid (a .n) (lesser2 .result) (a .bytes .now) (a .buffer .now) _
+    (lesser2 .ensures ∙ ap (λ (m : ℕ). min m (length (a .buffer .now))) (c .before .before .before .before .before .before .lesser .ensures))
+    (c .before .before .copy .ensures)
+
+pub lay-over-spec : {M : Type 1} → statement M
+lay-over-spec =
+    tie.close
+    (tie.spec
+    lesser-requires
+    lesser-requires-2
+    slice-relend-prefix-copy
+    slice-aggregate-copy
+    slice-aggregate-copy-2
+    copy-requires
+    same-length
+    returns)

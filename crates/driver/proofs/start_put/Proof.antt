@@ -1,0 +1,25 @@
+-- `driver::start_put` meets its contract: 5 is met by a recipe over the limit.
+-- Assumes nothing.
+use mathlib.Core.Path.{ap, _∙_}
+use Prim.Native.Nat.{ℕ}
+use lib.ListN.{length}
+use lib.Dec.{ltb}
+use borrow.Author.Needs.{needs}
+use Rattle.slots.specs.declared.Kind.the-variants.{Put}
+use Rattle.driver.specs.Start.{startDriver}
+use Rattle.driver.proofs.start_put.Statement.{statement}
+use Rattle.driver.proofs.start_put.Tie as tie
+
+recipe-limit-requires : tie.Need-recipe-limit-requires
+recipe-limit-requires c κs = search needs
+
+start-requires : tie.Need-start-requires
+start-requires c κs = search needs
+
+returns : tie.Need-returns
+returns c =
+    let a = c .before .before .before .args in
+    c .start .ensures ∙ ap (λ (n : ℕ). startDriver (a .array) Put (a .slot) (a .limit) 0 (ltb n (length (a .recipe .now)))) (c .before .recipe-limit .ensures)
+
+pub start-put-spec : {M : Type 1} → statement M
+start-put-spec = tie.close (tie.spec recipe-limit-requires start-requires returns)

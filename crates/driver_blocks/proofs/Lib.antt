@@ -1,0 +1,3 @@
+mod Stored
+pub mod RoundTrip
+pub mod Fitting

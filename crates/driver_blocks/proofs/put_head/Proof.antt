@@ -1,0 +1,50 @@
+-- `driver_blocks::put_head` meets its contract: the part that is lent comes back as the head. Assumes nothing.
+use mathlib.Core.Path.{refl, sym, ap, _∙_}
+use lib.ListN.{length}
+use lib.Seq.{length-take-le}
+use borrow.Author.Needs.{needs}
+use Rattle.slices.proofs.Laws.{head-over}
+use Rattle.driver_blocks.specs.Block.{headBytes}
+use Rattle.driver_blocks.proofs.put_head.Statement.{statement}
+use Rattle.driver_blocks.proofs.put_head.Tie as tie
+
+head-bytes-requires : tie.Need-head-bytes-requires
+head-bytes-requires c κs = search needs
+
+slice-relend-prefix-copy : tie.Need-slice-relend-prefix-copy
+slice-relend-prefix-copy c = search needs
+
+slice-aggregate-copy : tie.Need-slice-aggregate-copy
+slice-aggregate-copy c =
+    let s = c .before .before .before in
+    sym (length-take-le 8 (s .args .block .now) (s .pre))
+
+slice-aggregate-copy-2 : tie.Need-slice-aggregate-copy-2
+slice-aggregate-copy-2 c = search needs
+
+copy-requires : tie.Need-copy-requires
+unfolding headBytes
+copy-requires c κs =
+    let s = c .before .before .before .before in
+    length-take-le 8 (s .args .block .now) (s .pre) ∙ sym (ap length (c .before .before .head-bytes .ensures))
+
+same-length : tie.Need-same-length
+same-length c = search needs
+
+returns : tie.Need-returns
+unfolding headBytes
+returns c =
+    let s = c .before .before .before .before .before .before .before in
+    head-over (s .args .block .now) (s .pre) refl (c .before .before .copy .ensures ∙ c .before .before .before .before .before .head-bytes .ensures)
+
+pub put-head-spec : {M : Type 1} → statement M
+put-head-spec =
+    tie.close
+    (tie.spec
+    head-bytes-requires
+    slice-relend-prefix-copy
+    slice-aggregate-copy
+    slice-aggregate-copy-2
+    copy-requires
+    same-length
+    returns)

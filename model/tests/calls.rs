@@ -1,0 +1,313 @@
+//! Lines of document 01 about the slot driver, with the values typed from it.
+
+use at45db081d_model::{answer, Buffer, Call, Chip, Lent, Operation, Outcome, Part};
+
+const FACTORY: [u8; 64] = [0x5A; 64];
+const STALE: u8 = 0xEE;
+
+/// A chip with what its calls are lent.
+struct Bench {
+    chip: Chip,
+    array: Vec<u8>,
+    junk: Vec<u8>,
+    log: Vec<u8>,
+    buffer: Vec<u8>,
+}
+
+impl Bench {
+    fn fresh(part: Part) -> Bench {
+        let mut array = vec![0; part.array_len()];
+        Bench {
+            chip: Chip::fresh(&FACTORY, &mut array).expect("a known part"),
+            array,
+            junk: vec![0x77; part.junk_len()],
+            log: vec![STALE; 60_000],
+            buffer: vec![STALE; 2200],
+        }
+    }
+
+    fn call(&mut self, script: &[u8], call: Call) -> Outcome {
+        self.log.fill(STALE);
+        let lent = Lent {
+            array: &mut self.array,
+            script,
+            junk: &self.junk,
+            log: &mut self.log,
+        };
+        self.chip.call(lent, call)
+    }
+
+    fn put(&mut self, script: &[u8], slot: usize, poll_limit: usize, recipe: &[u8]) -> Outcome {
+        let call = Call::Put {
+            slot,
+            poll_limit,
+            recipe,
+        };
+        self.call(script, call)
+    }
+
+    fn patch(&mut self, slot: usize, place: usize, bytes: &[u8]) -> Outcome {
+        let call = Call::Patch {
+            slot,
+            poll_limit: 1,
+            place,
+            bytes,
+        };
+        self.call(&[], call)
+    }
+
+    fn get(&mut self, script: &[u8], slot: usize) -> Outcome {
+        let mut buffer = vec![STALE; 2200];
+        let call = Call::Get {
+            slot,
+            poll_limit: 1,
+            buffer: &mut buffer,
+        };
+        let outcome = self.call(script, call);
+        self.buffer = buffer;
+        outcome
+    }
+
+    fn wipe(&mut self, script: &[u8], slot: usize, poll_limit: usize) -> Outcome {
+        self.call(script, Call::Wipe { slot, poll_limit })
+    }
+
+    fn raw(&mut self, script: &[u8], frame: &[u8]) -> (Outcome, Vec<u8>) {
+        let mut reply = vec![STALE; frame.len()];
+        let call = Call::Raw {
+            frame,
+            reply: &mut reply,
+        };
+        let outcome = self.call(script, call);
+        (outcome, reply)
+    }
+
+    /// The log lines written, as hexadecimal.
+    fn lines(&self, outcome: &Outcome) -> Vec<String> {
+        let end = 6 * outcome.frames as usize;
+        assert!(self.log[end..].iter().all(|&byte| byte == STALE));
+        self.log[..end]
+            .chunks(6)
+            .map(|line| line.iter().map(|byte| format!("{byte:02X}")).collect())
+            .collect()
+    }
+
+    fn slot(&self, slot: usize) -> &[u8] {
+        &self.array[2112 * slot..2112 * (slot + 1)]
+    }
+}
+
+fn counted(answer: u8, frames: u64, polls: u64) -> Outcome {
+    Outcome {
+        answer,
+        frames,
+        polls,
+        n: 0,
+    }
+}
+
+#[test]
+fn empty_script_counts_are_27_35_9_5() {
+    let mut bench = Bench::fresh(Part::SHORT);
+    assert_eq!(bench.get(&[], 3), counted(answer::BLANK, 9, 1));
+    assert_eq!(bench.put(&[], 3, 1, b"AB"), counted(0, 27, 9));
+    assert_eq!(bench.patch(3, 1, b"C"), counted(0, 35, 9));
+    let read = Outcome {
+        n: 2,
+        ..counted(0, 9, 1)
+    };
+    assert_eq!(bench.get(&[], 3), read);
+    assert_eq!(bench.buffer[..3], [b'A', b'C', STALE]);
+    assert_eq!(bench.wipe(&[], 3, 1), counted(0, 5, 2));
+    assert!(bench.array.iter().all(|&byte| byte == 0xFF));
+}
+
+#[test]
+fn wipe_2_is_the_outline_of_the_document() {
+    let mut bench = Bench::fresh(Part::SHORT);
+    let outcome = bench.wipe(&[], 2, 1);
+    let expected = [
+        "0002D700FFFF",
+        "001432000000",
+        "001435000000",
+        "000450002000",
+        "0002D700FFFF",
+    ];
+    assert_eq!(bench.lines(&outcome), expected);
+    assert_eq!(outcome, counted(0, 5, 2));
+}
+
+#[test]
+fn put_and_patch_send_the_listed_frames() {
+    let mut bench = Bench::fresh(Part::FULL);
+    let outcome = bench.put(&[], 511, 1, &[]);
+    let lines = bench.lines(&outcome);
+    assert_eq!(
+        lines[3..6],
+        ["010C84000000", "0004831FF000", "0002D700FFFF"]
+    );
+    assert_eq!(
+        lines[24..27],
+        ["010C84000000", "0004831FFE00", "0002D700FFFF"]
+    );
+    let outcome = bench.patch(511, 0, &[]);
+    let lines = bench.lines(&outcome);
+    assert_eq!(lines[3..5], ["0110D21FF000", "010C84000000"]);
+    assert_eq!(
+        lines[31..34],
+        ["0110D21FFE00", "010C84000000", "0004831FFE00"]
+    );
+}
+
+#[test]
+fn recipes_are_stored_with_version_and_length() {
+    let mut bench = Bench::fresh(Part::SHORT);
+    bench.put(&[], 0, 1, &[0x41, 0x42]);
+    assert_eq!(bench.slot(0)[..5], [0x01, 0x00, 0x02, 0x41, 0x42]);
+    assert_eq!(bench.slot(0)[5..], [0; 2107]);
+    bench.put(&[], 0, 1, &[]);
+    assert_eq!(bench.slot(0)[..3], [0x01, 0x00, 0x00]);
+    bench.put(&[], 0, 1, &[7; 2109]);
+    assert_eq!(bench.slot(0)[..3], [0x01, 0x08, 0x3D]);
+    assert_eq!(
+        bench.put(&[], 0, 1, &[7; 2110]),
+        counted(answer::SIZE, 0, 0)
+    );
+}
+
+#[test]
+fn patches_cross_pages_and_keep_the_length() {
+    let mut bench = Bench::fresh(Part::SHORT);
+    bench.put(&[], 1, 1, &[1; 600]);
+    assert_eq!(bench.patch(1, 258, &[9; 6]).answer, 0);
+    let slot = bench.slot(1);
+    assert_eq!(slot[..3], [0x01, 0x02, 0x58]);
+    assert_eq!(slot[260..268], [1, 9, 9, 9, 9, 9, 9, 1]);
+}
+
+#[test]
+fn patches_under_12_and_13_send_every_frame() {
+    let mut bench = Bench::fresh(Part::SHORT);
+    assert_eq!(bench.patch(0, 0, &[1]), counted(answer::BLANK, 35, 9));
+    assert!(bench.slot(0).iter().all(|&byte| byte == 0xFF));
+    bench.put(&[], 0, 1, &[5; 10]);
+    let before = bench.slot(0).to_vec();
+    assert_eq!(bench.patch(0, 10, &[1]), counted(answer::END, 35, 9));
+    assert_eq!(bench.patch(0, 11, &[]), counted(answer::END, 35, 9));
+    assert_eq!(bench.patch(0, 10, &[]), counted(0, 35, 9));
+    assert_eq!(bench.slot(0), before);
+    assert_eq!(bench.patch(0, 2109, &[]).answer, answer::END);
+    assert_eq!(bench.patch(0, 2110, &[]).answer, answer::SIZE);
+    assert_eq!(bench.patch(0, usize::MAX, &[1]).answer, answer::SIZE);
+}
+
+#[test]
+fn length_over_2109_or_another_version_is_blank() {
+    let mut bench = Bench::fresh(Part::SHORT);
+    for (head, expected) in [
+        ([1, 0x08, 0x3D], answer::ACCEPTED),
+        ([1, 0x08, 0x3E], answer::BLANK),
+        ([0, 0x00, 0x00], answer::BLANK),
+        ([2, 0x00, 0x00], answer::BLANK),
+    ] {
+        bench.array[..3].copy_from_slice(&head);
+        assert_eq!(bench.get(&[], 0).answer, expected);
+    }
+}
+
+#[test]
+fn script_byte_acts_after_the_status_is_read() {
+    let mut bench = Bench::fresh(Part::SHORT);
+    let erase = Operation::ErasePage { page: 100 };
+    bench.chip.operation = erase;
+    assert_eq!(bench.wipe(&[], 0, 1), counted(answer::BUSY, 1, 1));
+    assert_eq!(bench.chip.operation, Operation::Idle);
+    bench.chip.operation = erase;
+    assert_eq!(bench.wipe(&[1, 1], 0, 3), counted(answer::BUSY, 3, 3));
+    bench.chip.operation = erase;
+    assert_eq!(bench.wipe(&[1, 1], 0, 4), counted(0, 8, 5));
+    assert_eq!(bench.wipe(&[0, 1, 1, 1, 1, 1], 0, 2).answer, answer::BUSY);
+    assert_eq!(bench.chip.operation, Operation::EraseBlock { block: 0 });
+}
+
+#[test]
+fn cut_comes_before_8_9_10_and_success() {
+    let mut bench = Bench::fresh(Part::SHORT);
+    bench.chip.deep_power_down = true;
+    assert_eq!(bench.wipe(&[], 0, 5), counted(answer::CHIP, 1, 1));
+    assert_eq!(bench.wipe(&[2], 0, 5), counted(answer::CUT, 1, 1));
+    assert!(!bench.chip.deep_power_down);
+    bench.chip.lockdown[0] = 0x40;
+    assert_eq!(bench.wipe(&[], 0, 1), counted(answer::SEALED, 3, 1));
+    assert_eq!(bench.wipe(&[0, 0, 2], 0, 1), counted(answer::CUT, 3, 1));
+    assert_eq!(bench.wipe(&[], 1, 1), counted(0, 5, 2));
+    assert_eq!(
+        bench.wipe(&[0, 0, 0, 0, 2], 1, 1),
+        counted(answer::CUT, 5, 2)
+    );
+    assert_eq!(
+        bench.get(&[0, 0, 0, 0, 0, 0, 0, 0, 2], 1).answer,
+        answer::CUT
+    );
+}
+
+#[test]
+fn seal_is_told_by_bits_of_the_sector_and_bit_1() {
+    let mut bench = Bench::fresh(Part::FULL);
+    bench.chip.protection[3] = 0x01;
+    bench.chip.protection[0] = 0x0F;
+    assert_eq!(bench.wipe(&[], 96, 1).answer, 0);
+    bench.chip.protection_enabled = true;
+    assert_eq!(bench.wipe(&[], 96, 1).answer, answer::SEALED);
+    assert_eq!(bench.wipe(&[], 127, 1).answer, answer::SEALED);
+    assert_eq!(bench.wipe(&[], 95, 1).answer, 0);
+    assert_eq!(bench.wipe(&[], 128, 1).answer, 0);
+    assert_eq!(bench.wipe(&[], 0, 1).answer, 0);
+    assert_eq!(bench.get(&[], 96).answer, answer::BLANK);
+}
+
+#[test]
+fn raw_has_no_wait_and_its_reply_outlives_a_cut() {
+    let mut bench = Bench::fresh(Part::SHORT);
+    let (outcome, reply) = bench.raw(&[1], &[0x83, 0x00, 0x0A, 0x00]);
+    assert_eq!((outcome, reply), (counted(0, 1, 0), vec![0xFF; 4]));
+    let program = Operation::Program {
+        buffer: Buffer::One,
+        page: 5,
+    };
+    assert_eq!(bench.chip.operation, program);
+    let (outcome, reply) = bench.raw(&[2], &[0xD7, 0x00]);
+    assert_eq!(
+        (outcome, reply),
+        (counted(answer::CUT, 1, 0), vec![0xFF, 0x24])
+    );
+    assert_eq!(bench.array[5 * 264..6 * 264], [0x77; 264]);
+    let (outcome, _) = bench.raw(&[], &[0xB9]);
+    assert_eq!(bench.lines(&outcome), ["0001B9FFFFFF"]);
+    assert_eq!(bench.raw(&[], &[]).0, counted(answer::FRAME, 0, 0));
+    assert_eq!(bench.raw(&[], &[0; 1101]).0, counted(answer::FRAME, 0, 0));
+}
+
+#[test]
+fn refusals_come_in_order() {
+    let mut bench = Bench::fresh(Part::SHORT);
+    let (recipe, bad) = ([0; 2110], [3]);
+    assert_eq!(bench.put(&bad, 16, 0, &recipe).answer, answer::SLOT);
+    assert_eq!(bench.put(&bad, 15, 0, &recipe).answer, answer::LIMIT);
+    assert_eq!(bench.put(&bad, 15, 1001, &recipe).answer, answer::LIMIT);
+    assert_eq!(bench.put(&bad, 15, 1000, &recipe).answer, answer::SIZE);
+    bench.log.truncate(6 * 9018 - 1);
+    assert_eq!(bench.put(&bad, 15, 1000, &[]).answer, answer::LOG);
+    bench.log.push(STALE);
+    assert_eq!(bench.put(&bad, 15, 1000, &[]).answer, answer::SCRIPT);
+    bench.junk.pop();
+    let never_reached = [[0; 9018].as_slice(), &[2]].concat();
+    assert_eq!(
+        bench.put(&never_reached, 15, 1000, &[]).answer,
+        answer::SCRIPT
+    );
+    bench.junk.push(0);
+    assert_eq!(bench.put(&never_reached, 15, 1000, &[]).answer, 0);
+    bench.array.pop();
+    assert_eq!(bench.put(&bad, 16, 0, &recipe).answer, answer::PART);
+}

@@ -1,0 +1,206 @@
+//! The slot driver alone, step by step: it is given the last reply and yields
+//! the next frame or the end. Replies come from a chip or from nowhere.
+
+use at45db081d_model::calls::Call;
+use at45db081d_model::driver::Link;
+use at45db081d_model::slot::MAX_RECIPE;
+use at45db081d_model::{answer, Part};
+use slipknoll::ffi::driver;
+use slipknoll::{DRIVER_FRAME_LEN, SLOT_LEN};
+
+use crate::request::Request;
+
+/// What a driver yields.
+#[derive(Clone, Debug, PartialEq, Eq)]
+pub enum Turn {
+    Frame(Vec<u8>),
+    /// The end, with its answer.
+    End(u8),
+}
+
+pub trait Driver {
+    fn start(&mut self, array_len: usize, request: &Request) -> Turn;
+    fn next(&mut self, reply: &[u8]) -> Turn;
+    /// What a get has read that ended with 0.
+    fn recipe(&self) -> Vec<u8>;
+}
+
+/// The model's driver: at each turn it runs anew over all replies so far.
+#[derive(Default)]
+pub struct ModelDriver {
+    request: Option<Request>,
+    refusal: Option<u8>,
+    replies: Vec<Vec<u8>>,
+    recipe: Vec<u8>,
+}
+
+/// An answer of no table: the replies have come to an end.
+const NO_REPLY: u8 = 0xFF;
+
+/// Replies that are known, then the frame that waits for one.
+struct Replay<'a> {
+    replies: std::slice::Iter<'a, Vec<u8>>,
+    waiting: Vec<u8>,
+}
+
+impl Link for Replay<'_> {
+    fn send(&mut self, frame: &[u8], reply: &mut [u8]) -> Result<(), u8> {
+        let Some(heard) = self.replies.next() else {
+            self.waiting = frame.to_vec();
+            return Err(NO_REPLY);
+        };
+        // A reply byte that is not there counts as FFh.
+        for (i, byte) in reply.iter_mut().enumerate() {
+            *byte = heard.get(i).copied().unwrap_or(0xFF);
+        }
+        Ok(())
+    }
+}
+
+impl ModelDriver {
+    fn turn(&mut self) -> Turn {
+        let request = self.request.as_ref().expect("a driver that was started");
+        if let Some(answer) = self.refusal {
+            return Turn::End(answer);
+        }
+        let mut buffer = [0; MAX_RECIPE];
+        let mut replay = Replay {
+            replies: self.replies.iter(),
+            waiting: Vec::new(),
+        };
+        let call = request.with_lent(&mut buffer);
+        let (result, _) = call.drive(&mut replay);
+        match result {
+            Err(NO_REPLY) => Turn::Frame(replay.waiting),
+            Err(answer) => Turn::End(answer),
+            Ok(n) => {
+                self.recipe = buffer[..n].to_vec();
+                Turn::End(answer::ACCEPTED)
+            }
+        }
+    }
+}
+
+/// What of 1 to 7 a driver can meet without chip, log and script.
+fn refusal(array_len: usize, request: &Request) -> Option<u8> {
+    let Some(part) = Part::from_array_len(array_len) else {
+        return Some(answer::PART);
+    };
+    let call = request.with_lent(&mut []);
+    let (slot, poll_limit) = call.target().expect("a call with a slot");
+    let too_long = match (&call, request) {
+        (Call::Put { recipe, .. }, _) => recipe.len() > MAX_RECIPE,
+        (Call::Patch { place, bytes, .. }, _) => place.saturating_add(bytes.len()) > MAX_RECIPE,
+        (_, Request::Get { buffer_len, .. }) => *buffer_len < MAX_RECIPE,
+        _ => false,
+    };
+    if slot >= part.blocks() {
+        Some(answer::SLOT)
+    } else if !(1..=1000).contains(&poll_limit) {
+        Some(answer::LIMIT)
+    } else if too_long {
+        Some(answer::SIZE)
+    } else {
+        None
+    }
+}
+
+impl Driver for ModelDriver {
+    fn start(&mut self, array_len: usize, request: &Request) -> Turn {
+        *self = ModelDriver {
+            request: Some(request.clone()),
+            refusal: refusal(array_len, request),
+            ..ModelDriver::default()
+        };
+        self.turn()
+    }
+
+    fn next(&mut self, reply: &[u8]) -> Turn {
+        self.replies.push(reply.to_vec());
+        self.turn()
+    }
+
+    fn recipe(&self) -> Vec<u8> {
+        self.recipe.clone()
+    }
+}
+
+/// The library's driver, with the memories that it is lent.
+pub struct LibraryDriver {
+    state: driver::State,
+    payload: Vec<u8>,
+    staged: [u8; SLOT_LEN],
+    frame: [u8; DRIVER_FRAME_LEN],
+}
+
+impl LibraryDriver {
+    /// A driver whose memories hold this byte.
+    pub fn new(stale: u8) -> LibraryDriver {
+        LibraryDriver {
+            state: [stale; driver::STATE_LEN],
+            payload: Vec::new(),
+            staged: [stale; SLOT_LEN],
+            frame: [stale; DRIVER_FRAME_LEN],
+        }
+    }
+
+    fn turn(&self, len: usize) -> Turn {
+        match len {
+            0 => Turn::End(driver::answer(&self.state)),
+            len => Turn::Frame(self.frame[..len].to_vec()),
+        }
+    }
+}
+
+impl Driver for LibraryDriver {
+    fn start(&mut self, array_len: usize, request: &Request) -> Turn {
+        let state = &mut self.state;
+        self.payload.clear();
+        match request {
+            Request::Put {
+                slot,
+                poll_limit,
+                recipe,
+            } => {
+                self.payload.extend_from_slice(recipe);
+                driver::start_put(state, array_len, *slot, *poll_limit, recipe);
+            }
+            Request::Patch {
+                slot,
+                poll_limit,
+                place,
+                bytes,
+            } => {
+                self.payload.extend_from_slice(bytes);
+                driver::start_patch(state, array_len, *slot, *poll_limit, *place, bytes);
+            }
+            Request::Get {
+                slot,
+                poll_limit,
+                buffer_len,
+            } => driver::start_get(state, array_len, *slot, *poll_limit, *buffer_len),
+            Request::Wipe { slot, poll_limit } => {
+                driver::start_wipe(state, array_len, *slot, *poll_limit);
+            }
+            Request::Raw { .. } => panic!("raw has no driver"),
+        }
+        let len = driver::frame(&self.state, &self.payload, &self.staged, &mut self.frame);
+        self.turn(len)
+    }
+
+    fn next(&mut self, reply: &[u8]) -> Turn {
+        let len = driver::next(
+            &mut self.state,
+            &self.payload,
+            reply,
+            &mut self.staged,
+            &mut self.frame,
+        );
+        self.turn(len)
+    }
+
+    fn recipe(&self) -> Vec<u8> {
+        let n = usize::from(u16::from_be_bytes([self.staged[1], self.staged[2]]));
+        self.staged[3..][..n.min(MAX_RECIPE)].to_vec()
+    }
+}

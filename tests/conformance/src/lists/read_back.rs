@@ -1,0 +1,211 @@
+//! A recipe that was put comes back: after a put that answers 0 and any list in
+//! which no obeyed frame starts an operation that programs or erases in the
+//! slot, every get of the slot answers 1 to 9 or 11, or it answers 0 with
+//! exactly the recipe.
+
+use std::ops::Range;
+
+use at45db081d_model::record::field;
+use at45db081d_model::{Chip, Outcome, Part};
+
+use super::item::{CallItem, Item, Junk};
+use super::items;
+use super::world::World;
+use super::Broken;
+use crate::device::{Device, Model};
+use crate::records::{self, OPERATIONS};
+use crate::request::Request;
+use crate::rng::Rng;
+use crate::scenarios::calls::slot;
+
+/// Items between the put and the last get.
+const LONGEST: usize = 12;
+
+/// A chip, a put, and a list that leaves its slot alone.
+pub struct Kept {
+    pub world: World,
+    pub slot: usize,
+    pub recipe: Vec<u8>,
+    /// The put comes first.
+    pub items: Vec<Item>,
+}
+
+/// What a list has shown.
+#[derive(Clone, Copy, Default)]
+pub struct Shown {
+    pub lists: u64,
+    pub gets: u64,
+    /// Gets that answered 0.
+    pub read: u64,
+}
+
+/// Makes the list of a seed, runs it on a device and looks at every get; a put
+/// that is not answered with 0 shows nothing.
+pub fn check(device: &mut dyn Device, seed: u64) -> Result<Shown, Broken> {
+    let mut shown = Shown::default();
+    let kept = kept(seed);
+    let mut world = kept.world.clone();
+    for (i, item) in kept.items.iter().enumerate() {
+        let outline = world.run(device, item);
+        let outcome = outline.outcome;
+        if i == 0 && outcome.answer != 0 {
+            return Ok(shown);
+        }
+        if !is_get(item, kept.slot) {
+            continue;
+        }
+        let same = outcome.n == kept.recipe.len() as u64 && outline.read == kept.recipe;
+        let last = i + 1 == kept.items.len();
+        if !allowed(outcome, same, last) {
+            return Err(broken(seed, &kept, i, outcome, same));
+        }
+        shown.gets += 1;
+        shown.read += u64::from(outcome.answer == 0);
+    }
+    shown.lists = 1;
+    Ok(shown)
+}
+
+/// The chip is idle and awake at the last get, which must answer 0.
+fn allowed(outcome: Outcome, same: bool, last: bool) -> bool {
+    match outcome.answer {
+        0 => same,
+        1..=9 | 11 => !last,
+        _ => false,
+    }
+}
+
+fn broken(seed: u64, kept: &Kept, at: usize, outcome: Outcome, same: bool) -> Broken {
+    let read = if same { "the recipe" } else { "something else" };
+    Broken {
+        seed,
+        what: format!("item {at}: get of {outcome:?} reads {read}"),
+        list: kept.items[..=at].iter().map(Item::to_string).collect(),
+    }
+}
+
+fn is_get(item: &Item, slot: usize) -> bool {
+    match item {
+        Item::Call(call) => {
+            matches!(call.request, Request::Get { .. }) && call.request.slot() == Some(slot)
+        }
+        _ => false,
+    }
+}
+
+/// The list of a seed; if the model does not answer its put with 0, there is
+/// nothing between it and the last get.
+pub fn kept(seed: u64) -> Kept {
+    let mut rng = Rng::new(seed.wrapping_mul(0xC2B2_AE3D_27D4_EB4F));
+    let part = match rng.one_in(200) {
+        true => Part::FULL,
+        false => Part::SHORT,
+    };
+    let slot = slot(&mut rng, part);
+    let world = world(&mut rng, part);
+    let recipe = items::recipe(&mut rng, false);
+    let mut put = items::call(&mut rng, part);
+    put.request = Request::put(slot, 1 + rng.below(5), recipe.clone());
+    put.log_len = put.request.log_len();
+    let mut items = vec![Item::Call(Box::new(put))];
+    let mut ahead = world.clone();
+    let longest = match ahead.run(&mut Model, &items[0]).outcome.answer {
+        0 => LONGEST,
+        _ => 1,
+    };
+    for _ in 0..rng.below(longest) {
+        let mut item = items::item(&mut rng, part);
+        aim(&mut rng, &mut item, slot);
+        if !touches(&ahead, &item, part, slot) {
+            ahead.run(&mut Model, &item);
+            items.push(item);
+        }
+    }
+    // The chip is made idle and awake.
+    items.push(Item::EndBusy);
+    items.push(Item::Send {
+        frame: vec![0xAB],
+        reply_len: 1,
+    });
+    items.push(last_get(&mut rng, slot));
+    Kept {
+        world,
+        slot,
+        recipe,
+        items,
+    }
+}
+
+/// A chip that will mostly take a put.
+fn world(rng: &mut Rng, part: Part) -> World {
+    let mut record = records::random(rng);
+    if rng.one_in(2) {
+        let operation = rng.pick(&OPERATIONS);
+        records::set_operation(rng, &mut record, operation, part);
+    }
+    if !rng.one_in(4) {
+        record[field::PROTECTION].fill(0);
+        record[field::LOCKDOWN].fill(0);
+    }
+    record[field::DEEP_POWER_DOWN] = 0;
+    let mut array = vec![0; part.array_len()];
+    rng.fill(&mut array);
+    World::new(record, array, rng.next_u64())
+}
+
+/// Turns calls to the slot half of the time.
+fn aim(rng: &mut Rng, item: &mut Item, aim: usize) {
+    if let Item::Call(call) = item {
+        if let Request::Put { slot, .. }
+        | Request::Patch { slot, .. }
+        | Request::Get { slot, .. }
+        | Request::Wipe { slot, .. } = &mut call.request
+        {
+            if rng.one_in(2) {
+                *slot = aim;
+            }
+        }
+    }
+}
+
+fn last_get(rng: &mut Rng, slot: usize) -> Item {
+    let request = Request::get(slot, 1, 2109);
+    Item::Call(Box::new(CallItem {
+        log_len: request.log_len(),
+        request,
+        script: Vec::new(),
+        junk: Junk::random(rng, 0),
+    }))
+}
+
+/// True if an obeyed frame of the item starts an operation that programs or
+/// erases in the slot.
+fn touches(world: &World, item: &Item, part: Part, slot: usize) -> bool {
+    let request = match item {
+        Item::Send { frame, .. } => return starts_in(world, frame, part, slot),
+        Item::Call(call) => &call.request,
+        _ => return false,
+    };
+    match request {
+        Request::Raw { frame, .. } => starts_in(world, frame, part, slot),
+        _ if request.slot() != Some(slot) => false,
+        _ => {
+            // The driver sends 83 and 50 only where they are obeyed.
+            let log = world.clone().run(&mut Model, item).log;
+            log.chunks(6).any(|line| line[2] == 0x83 || line[2] == 0x50)
+        }
+    }
+}
+
+fn starts_in(world: &World, frame: &[u8], part: Part, slot: usize) -> bool {
+    let mut chip = Chip::from_record(&world.record);
+    let was_idle = chip.operation.is_idle();
+    chip.send(&world.array, frame, &mut vec![0; frame.len()]);
+    let block = part.block_range(slot as u16);
+    let mut meets = false;
+    chip.operation
+        .each_altered_range(part, |range: Range<usize>| {
+            meets |= range.start < block.end && block.start < range.end;
+        });
+    was_idle && meets
+}

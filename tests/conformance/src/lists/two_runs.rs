@@ -1,0 +1,274 @@
+//! What shows on the wire depends on nothing of the recipes: two lists, alike in
+//! what an outline may depend on and different in everything else, on two chips
+//! alike in registers and otherwise different.
+//!
+//! Compared are, for each call, the six log bytes of each frame sent, frames,
+//! polls and answer; for an event, its answer. Answers 0, 12 and 13 may stand
+//! for one another.
+
+use at45db081d_model::record::{field, tag};
+use at45db081d_model::slot::{with_recipe, MAX_RECIPE, SLOT_SIZE};
+use at45db081d_model::{Part, Record};
+
+use super::item::{CallItem, Item, Junk};
+use super::items::{self, SLOTS};
+use super::world::{Outline, World};
+use super::Broken;
+use crate::device::{Device, Model};
+use crate::records::{self, OPERATIONS};
+use crate::request::{Request, KINDS};
+use crate::rng::Rng;
+
+/// Items of the longest list.
+const LONGEST: usize = 12;
+
+/// Array lengths of no part.
+const NO_PART: [usize; 6] = [0, 1, 264, 2_112, 33_791, 33_793];
+
+/// A premise that is left out, to show that the claim needs it.
+#[derive(Clone, Copy, Debug, PartialEq, Eq)]
+pub enum Without {
+    Nothing,
+    /// The junk that reaches a register is free.
+    JunkAlike,
+    /// Whether 5 is met is free.
+    SizeAlike,
+}
+
+/// Two chips and two lists.
+pub struct Twins {
+    pub worlds: [World; 2],
+    pub items: Vec<[Item; 2]>,
+}
+
+/// What pairs of lists have shown.
+#[derive(Clone, Copy, Default)]
+pub struct Shown {
+    pub pairs: u64,
+    pub frames: u64,
+    /// Calls by kind and answer of the first run.
+    pub answers: [[u64; 14]; KINDS.len()],
+    /// Calls whose answers differ, both being one of 0, 12 and 13.
+    pub unlike_answers: u64,
+}
+
+impl Shown {
+    pub fn calls(&self) -> u64 {
+        self.answers.iter().flatten().sum()
+    }
+
+    fn count(&mut self, item: &Item, first: &Outline, second: &Outline) {
+        if let Item::Call(call) = item {
+            let answer = usize::from(first.outcome.answer);
+            self.answers[call.request.kind()][answer] += 1;
+        }
+        self.frames += first.outcome.frames;
+        self.unlike_answers += u64::from(first.outcome.answer != second.outcome.answer);
+    }
+}
+
+/// Makes the pair of lists of a seed, runs it on a device and compares; adds to
+/// what was shown.
+pub fn check(
+    device: &mut dyn Device,
+    seed: u64,
+    without: Without,
+    shown: &mut Shown,
+) -> Result<(), Broken> {
+    let twins = twins(seed, without);
+    let [first, second] = [0, 1].map(|run| {
+        let mut world = twins.worlds[run].clone();
+        let outlines: Vec<Outline> = (twins.items.iter())
+            .map(|pair| world.run(device, &pair[run]))
+            .collect();
+        outlines
+    });
+    for (i, (a, b)) in first.iter().zip(&second).enumerate() {
+        if let Some(what) = difference(a, b) {
+            return Err(broken(seed, &twins, i, what));
+        }
+        shown.count(&twins.items[i][0], a, b);
+    }
+    shown.pairs += 1;
+    Ok(())
+}
+
+/// How two outlines differ, if they may not.
+fn difference(a: &Outline, b: &Outline) -> Option<String> {
+    let class = |answer: u8| match answer {
+        12 | 13 => 0,
+        answer => answer,
+    };
+    let (first, second) = (a.outcome, b.outcome);
+    let counts = |outline: &Outline| (outline.outcome.frames, outline.outcome.polls);
+    let alike = class(first.answer) == class(second.answer) && counts(a) == counts(b);
+    if !alike {
+        return Some(format!("{first:?} and {second:?}"));
+    }
+    let line = (a.log.chunks(6).zip(b.log.chunks(6))).position(|(a, b)| a != b)?;
+    let [a, b] = [a, b].map(|outline| &outline.log[6 * line..][..6]);
+    Some(format!("frame {line}: log {a:02X?} and {b:02X?}"))
+}
+
+fn broken(seed: u64, twins: &Twins, at: usize, what: String) -> Broken {
+    let list = twins.items[..=at]
+        .iter()
+        .map(|[first, second]| format!("{first}\n     {second}"))
+        .collect();
+    Broken {
+        seed,
+        what: format!("item {at}: the runs show {what}"),
+        list,
+    }
+}
+
+/// The pair of lists of a seed.
+pub fn twins(seed: u64, without: Without) -> Twins {
+    let mut rng = Rng::new(seed.wrapping_mul(0x9FB2_1C65_1E98_DF25));
+    let (array_len, part) = array_len(&mut rng);
+    let first = record(&mut rng, part);
+    let second = records::alike_in_registers(&mut rng, &first);
+    let worlds = [first, second].map(|record| {
+        let array = array(&mut rng, array_len);
+        World::new(record, array, rng.next_u64())
+    });
+    // The model goes ahead with the first list.
+    let mut ahead = worlds[0].clone();
+    let items = (0..1 + rng.below(LONGEST))
+        .map(|_| item_pair(&mut rng, &mut ahead, part, without))
+        .collect();
+    Twins { worlds, items }
+}
+
+/// Mostly the short part, rarely the full one or an array of no part.
+fn array_len(rng: &mut Rng) -> (usize, Part) {
+    match rng.below(200) {
+        0 => (Part::FULL.array_len(), Part::FULL),
+        1..=3 => (rng.pick(&NO_PART), Part::SHORT),
+        _ => (Part::SHORT.array_len(), Part::SHORT),
+    }
+}
+
+/// Any registers; every operation, within the part or rarely beyond it.
+fn record(rng: &mut Rng, part: Part) -> Record {
+    let mut record = records::random(rng);
+    if rng.one_in(2) {
+        let operation = rng.pick(&OPERATIONS);
+        records::set_operation(rng, &mut record, operation, part);
+    }
+    if rng.one_in(60) {
+        records::set_place(&mut record, (tag::ERASE_BLOCK, 0), 0xFFFF, 0);
+    }
+    record
+}
+
+/// Random bytes; some slots hold a recipe.
+fn array(rng: &mut Rng, len: usize) -> Vec<u8> {
+    let mut array = vec![0; len];
+    rng.fill(&mut array);
+    for slot in array.chunks_exact_mut(SLOT_SIZE).take(SLOTS) {
+        if rng.one_in(2) {
+            slot.copy_from_slice(&with_recipe(&items::recipe(rng, false)));
+        }
+    }
+    array
+}
+
+/// An item for each run; the model does the first.
+fn item_pair(rng: &mut Rng, ahead: &mut World, part: Part, without: Without) -> [Item; 2] {
+    let mut first = items::item(rng, part);
+    if let Item::Call(call) = &mut first {
+        put_again(rng, &mut call.request, &ahead.array);
+    }
+    let reach = match without {
+        Without::JunkAlike => Reach::Nothing,
+        _ => reach(ahead, &first),
+    };
+    let answer = ahead.run(&mut Model, &first).outcome.answer;
+    // 01: "whether 5 is met"; it is met by neither if 1 to 4 come before it.
+    let size_matters = !(1..=4).contains(&answer) && without != Without::SizeAlike;
+    let mut second = first.clone();
+    if let Item::Call(call) = &mut second {
+        change_request(rng, call, size_matters);
+    }
+    if let Some(junk) = second.junk() {
+        *junk = other_junk(rng, junk, reach);
+    }
+    [first, second]
+}
+
+/// At times puts the recipe that the slot holds already.
+fn put_again(rng: &mut Rng, request: &mut Request, array: &[u8]) {
+    if let Request::Put { slot, recipe, .. } = request {
+        let held = array.chunks_exact(SLOT_SIZE).nth(*slot);
+        if let Some(held) = held.filter(|held| held[0] == 1 && rng.one_in(3)) {
+            let len = usize::from(u16::from_be_bytes([held[1], held[2]]));
+            if len <= MAX_RECIPE && recipe.len() <= MAX_RECIPE {
+                *recipe = held[3..3 + len].to_vec();
+            }
+        }
+    }
+}
+
+/// Makes recipe or patch another one, its length too.
+fn change_request(rng: &mut Rng, call: &mut CallItem, size_matters: bool) {
+    match &mut call.request {
+        Request::Put { recipe, .. } => {
+            let over = recipe.len() > MAX_RECIPE;
+            let over = if size_matters { over } else { rng.one_in(2) };
+            *recipe = items::recipe(rng, over);
+        }
+        Request::Patch { place, bytes, .. } => {
+            let over = place.saturating_add(bytes.len()) > MAX_RECIPE;
+            let over = if size_matters { over } else { rng.one_in(2) };
+            (*place, *bytes) = items::patch(rng, over);
+        }
+        _ => {}
+    }
+}
+
+/// What the cut rule takes of the junk for a register.
+#[derive(Clone, Copy, PartialEq, Eq)]
+enum Reach {
+    Nothing,
+    /// So many bytes from 528 on.
+    Bytes(usize),
+    /// Whether J[528] is at least 80h.
+    Lock,
+}
+
+/// What junk reaches a register if the item cuts, told by trying junk of 00 and
+/// of FFh.
+fn reach(world: &World, item: &Item) -> Reach {
+    let mut item = item.clone();
+    if item.junk().is_none() {
+        return Reach::Nothing;
+    }
+    let [zeros, ones] = [0x00, 0xFF].map(|byte| {
+        let mut world = world.clone();
+        item.junk().expect("junk").at_528 = [byte; 64];
+        world.run(&mut Model, &item);
+        world.record
+    });
+    let differs = |place: std::ops::Range<usize>| zeros[place.clone()] != ones[place];
+    if differs(field::PROTECTION) {
+        Reach::Bytes(16)
+    } else if differs(field::USER) {
+        Reach::Bytes(64)
+    } else if differs(field::LOCKDOWN) {
+        Reach::Lock
+    } else {
+        Reach::Nothing
+    }
+}
+
+/// Junk of the same length, alike in what reaches a register.
+fn other_junk(rng: &mut Rng, junk: &Junk, reach: Reach) -> Junk {
+    let mut other = Junk::random(rng, junk.len);
+    match reach {
+        Reach::Nothing => {}
+        Reach::Bytes(count) => other.at_528[..count].copy_from_slice(&junk.at_528[..count]),
+        Reach::Lock => other.at_528[0] = other.at_528[0] & 0x7F | junk.at_528[0] & 0x80,
+    }
+    other
+}

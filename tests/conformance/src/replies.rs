@@ -1,0 +1,183 @@
+//! Compares two drivers under replies of a chip and replies from nowhere.
+
+use at45db081d_model::record::field;
+use at45db081d_model::slot::{with_recipe, MAX_RECIPE, SLOT_SIZE};
+use at45db081d_model::{Chip, Part};
+
+use crate::driving::{Driver, ModelDriver, Turn};
+use crate::lists::Broken;
+use crate::records;
+use crate::request::Request;
+use crate::rng::Rng;
+use crate::scenarios::calls::{request, slot, SLOT_KINDS};
+
+/// Turns of the longest case, and turns after the end.
+const LONGEST: usize = 80;
+const AFTER: usize = 3;
+
+/// What is sent to a driver.
+enum Source {
+    /// A chip, whose busy periods end after a frame or not.
+    Chip(Box<Chip>, Vec<u8>),
+    /// Nothing that is a chip: any bytes, any lengths.
+    Nowhere,
+}
+
+/// Runs one case; hands back the number of frames that were compared.
+pub fn check(subject: &mut dyn Driver, seed: u64) -> Result<u64, Broken> {
+    let mut rng = Rng::new(seed.wrapping_mul(0xA076_1D64_78BD_642F));
+    let part = if rng.one_in(20) {
+        Part::FULL
+    } else {
+        Part::SHORT
+    };
+    let request = any_request(&mut rng, part);
+    let array_len = match rng.below(40) {
+        0 => rng.pick(&[0, 33_791, 33_793, 1_081_345, usize::MAX]),
+        _ => part.array_len(),
+    };
+    let mut source = source(&mut rng, part, &request);
+    let mut list = vec![format!("{request}, array {array_len}")];
+    let mut model = ModelDriver::default();
+    let (mut expected, mut turn) = (
+        model.start(array_len, &request),
+        subject.start(array_len, &request),
+    );
+    let (mut frames, mut after) = (0, 0);
+    for _ in 0..LONGEST {
+        if let Some(what) = difference(&expected, &turn) {
+            return Err(Broken { seed, what, list });
+        }
+        let reads = matches!(request, Request::Get { .. }) && turn == Turn::End(0);
+        if reads && model.recipe() != subject.recipe() {
+            let what = "another recipe was read".to_string();
+            return Err(Broken { seed, what, list });
+        }
+        let reply = match &turn {
+            Turn::Frame(frame) => {
+                frames += 1;
+                source.reply(&mut rng, frame)
+            }
+            Turn::End(_) if after == AFTER => break,
+            Turn::End(_) => {
+                after += 1;
+                Source::Nowhere.reply(&mut rng, &[0xD7, 0x00])
+            }
+        };
+        list.push(format!(
+            "reply of {}: {:02X?}",
+            reply.len(),
+            beginning(&reply)
+        ));
+        expected = model.next(&reply);
+        turn = subject.next(&reply);
+    }
+    Ok(frames)
+}
+
+/// How two turns differ, if they do.
+fn difference(expected: &Turn, turn: &Turn) -> Option<String> {
+    let show = |turn: &Turn| match turn {
+        Turn::Frame(frame) => format!("frame of {}: {:02X?}", frame.len(), beginning(frame)),
+        Turn::End(answer) => format!("end with {answer}"),
+    };
+    if expected == turn {
+        return None;
+    }
+    let (model, driver) = (show(expected), show(turn));
+    let at = match (expected, turn) {
+        (Turn::Frame(a), Turn::Frame(b)) => a.iter().zip(b).position(|(a, b)| a != b),
+        _ => None,
+    };
+    let at = at.map_or(String::new(), |at| format!(", first at byte {at}"));
+    Some(format!("model {model}, driver {driver}{at}"))
+}
+
+fn beginning(reply: &[u8]) -> &[u8] {
+    &reply[..reply.len().min(12)]
+}
+
+/// Mostly a call that is not refused.
+fn any_request(rng: &mut Rng, part: Part) -> Request {
+    let slot = match rng.below(40) {
+        0 => rng.pick(&[part.blocks(), usize::MAX]),
+        _ => slot(rng, part),
+    };
+    let limit = match rng.below(40) {
+        0 => rng.pick(&[0, 1001, usize::MAX]),
+        _ => rng.pick(&[1, 2, 3, 5, 1000]),
+    };
+    match rng.below(40) {
+        0 => Request::put(slot, limit, vec![7; MAX_RECIPE + 1]),
+        1 => Request::patch(slot, limit, usize::MAX, vec![7]),
+        2 => Request::get(slot, limit, MAX_RECIPE - 1),
+        _ => {
+            let kind = rng.below(SLOT_KINDS);
+            request(rng, kind, slot, limit)
+        }
+    }
+}
+
+fn source(rng: &mut Rng, part: Part, request: &Request) -> Source {
+    if rng.one_in(2) {
+        return Source::Nowhere;
+    }
+    let mut record = records::random(rng);
+    if rng.one_in(2) {
+        record[field::PROTECTION].fill(0);
+        record[field::LOCKDOWN].fill(0);
+    }
+    let mut array = vec![0xFF; part.array_len()];
+    let slot = request.slot().unwrap_or(0);
+    if let Some(bytes) = array.chunks_exact_mut(SLOT_SIZE).nth(slot) {
+        let mut recipe = vec![0; rng.below(MAX_RECIPE + 1)];
+        rng.fill(&mut recipe);
+        bytes.copy_from_slice(&with_recipe(&recipe));
+    }
+    Source::Chip(Box::new(Chip::from_record(&record)), array)
+}
+
+impl Source {
+    fn reply(&mut self, rng: &mut Rng, frame: &[u8]) -> Vec<u8> {
+        match self {
+            Source::Chip(chip, array) => {
+                let mut reply = vec![0; frame.len()];
+                chip.send(array, frame, &mut reply);
+                if !rng.one_in(4) {
+                    chip.end_busy(array);
+                }
+                reply
+            }
+            Source::Nowhere => from_nowhere(rng, frame),
+        }
+    }
+}
+
+/// Any bytes; mostly such that the driver goes on.
+fn from_nowhere(rng: &mut Rng, frame: &[u8]) -> Vec<u8> {
+    let len = match rng.below(12) {
+        0 => rng.below(frame.len() + 1),
+        1 => frame.len() + rng.below(300),
+        2 => 0,
+        _ => frame.len(),
+    };
+    let mut reply = vec![0; len];
+    rng.fill(&mut reply);
+    match frame[0] {
+        0xD7 if !rng.one_in(10) => set(&mut reply, 1, &[rng.pick(&[0xA4, 0xA6, 0xE4, 0x24, 0x66])]),
+        0x32 | 0x35 if !rng.one_in(4) => reply.fill(0x00),
+        0xD2 if rng.one_in(2) => {
+            let high = rng.below(10) as u8;
+            set(&mut reply, 8, &[1, high]);
+        }
+        _ => {}
+    }
+    reply
+}
+
+/// Puts bytes at a place of the reply, if it is long enough.
+fn set(reply: &mut [u8], at: usize, bytes: &[u8]) {
+    if let Some(place) = reply.get_mut(at..at + bytes.len()) {
+        place.copy_from_slice(bytes);
+    }
+}

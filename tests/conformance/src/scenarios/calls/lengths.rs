@@ -1,0 +1,82 @@
+//! Recipes of every length that matters, put over a slot that holds something
+//! else, the same recipe or a part of it, and read back.
+
+use at45db081d_model::record::{field, tag};
+use at45db081d_model::slot::{with_recipe, SLOT_SIZE};
+use at45db081d_model::Part;
+
+use super::{load, open_record, random_bytes, slot};
+use crate::mismatch::Mismatch;
+use crate::pair::Pair;
+use crate::request::{CallStep, Request};
+use crate::rng::{Digits, Rng};
+use crate::runner::Scenario;
+use crate::step::Step;
+
+pub const LENGTHS: Scenario = Scenario {
+    name: "recipes_of_every_length",
+    test: "calls",
+    cases,
+    run,
+};
+
+/// Around the page boundaries, around the limit, and around what two bytes
+/// hold.
+const RECIPES: [usize; 31] = [
+    0, 1, 2, 3, 100, 258, 259, 260, 261, 262, 263, 264, 265, 524, 525, 526, 789, 1053, 1317, 1581,
+    1845, 1846, 2107, 2108, 2109, 2110, 2111, 2112, 4096, 65_536, 65_541,
+];
+
+const BUFFERS: [usize; 6] = [0, 1, 2108, 2109, 2110, 2200];
+
+/// What the slot holds before: random bytes, the record to come, that record
+/// but for one byte, 00 or FFh throughout.
+const BEFORE: usize = 5;
+
+/// Whether the compare bit is set, and the poll limit.
+const MARKS: usize = 4;
+
+fn cases(_: Part) -> u64 {
+    (RECIPES.len() * BUFFERS.len() * BEFORE * MARKS) as u64
+}
+
+fn run(pair: &mut Pair, case: u64) -> Result<(), Mismatch> {
+    let (part, mut digits, mut rng) = (pair.part, Digits::new(case), Rng::new(case));
+    let recipe = recipe(&mut rng, digits.pick(&RECIPES));
+    let buffer_len = digits.pick(&BUFFERS);
+    let before = digits.below(BEFORE);
+    let mut record = open_record(&mut rng, part, (tag::IDLE, 0));
+    record[field::COMPARE] = u8::from(digits.flag());
+    let limit = if digits.flag() { 1 } else { 3 };
+    let slot = slot(&mut rng, part);
+    if recipe.len() <= 2109 {
+        let bytes = held_before(&mut rng, before, &recipe);
+        let at = slot * SLOT_SIZE;
+        pair.step(Step::Store { at, bytes })?;
+    }
+    load(pair, record)?;
+    let put = Request::put(slot, limit, recipe);
+    pair.call(CallStep::new(part, put))?;
+    pair.call(CallStep::new(part, Request::get(slot, limit, buffer_len)))?;
+    Ok(())
+}
+
+/// Random bytes, or the same byte throughout.
+fn recipe(rng: &mut Rng, len: usize) -> Vec<u8> {
+    match rng.below(4) {
+        0 => vec![rng.pick(&[0x00, 0xFF, 0x01]); len],
+        _ => random_bytes(rng, len),
+    }
+}
+
+fn held_before(rng: &mut Rng, before: usize, recipe: &[u8]) -> Vec<u8> {
+    let mut bytes = with_recipe(recipe).to_vec();
+    match before {
+        0 => rng.fill(&mut bytes),
+        1 => {}
+        2 => bytes[rng.below(SLOT_SIZE)] ^= 1 << rng.below(8),
+        3 => bytes.fill(0x00),
+        _ => bytes.fill(0xFF),
+    }
+    bytes
+}

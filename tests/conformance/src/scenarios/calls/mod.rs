@@ -1,0 +1,127 @@
+//! The scenarios of put, patch, get, wipe and raw.
+
+use at45db081d_model::record::field;
+use at45db081d_model::slot::{MAX_RECIPE, SLOT_SIZE};
+use at45db081d_model::{Part, Record};
+
+use crate::mismatch::Mismatch;
+use crate::pair::Pair;
+use crate::records;
+use crate::request::Request;
+use crate::rng::Rng;
+use crate::runner::Scenario;
+use crate::step::Step;
+
+mod bounds;
+mod cuts;
+mod deep;
+mod lengths;
+mod patches;
+mod polls;
+mod random_calls;
+mod raws;
+mod scripts;
+mod sealed;
+mod wrongs;
+
+/// Every scenario of calls, with the share of its cases that the full part
+/// gets: one in so many.
+pub const CALLS: [(Scenario, u64); 11] = [
+    (cuts::CUTS, 5),
+    (polls::POLLS, 5),
+    (bounds::BOUNDS, 4),
+    (sealed::SEALED, 2),
+    (deep::DEEP, 5),
+    (patches::PATCHES, 4),
+    (lengths::LENGTHS, 2),
+    (wrongs::WRONGS, 2),
+    (scripts::SCRIPTS, 2),
+    (raws::RAWS, 10),
+    (random_calls::RANDOM_CALLS, 1),
+];
+
+/// The calls that have a slot, in the order of [`Request::kind`].
+pub const SLOT_KINDS: usize = 4;
+pub const KINDS: usize = 5;
+
+pub const PUT: usize = 0;
+pub const PATCH: usize = 1;
+pub const GET: usize = 2;
+pub const WIPE: usize = 3;
+
+/// A record that is awake and has nothing sealed, with an operation under way
+/// somewhere in the part.
+pub fn open_record(rng: &mut Rng, part: Part, operation: (u8, u8)) -> Record {
+    let mut record = records::random(rng);
+    record[field::PROTECTION].fill(0);
+    record[field::LOCKDOWN].fill(0);
+    record[field::DEEP_POWER_DOWN] = 0;
+    records::set_operation(rng, &mut record, operation, part);
+    record
+}
+
+/// A call of some kind with random content; a patch is mostly a short one.
+pub fn request(rng: &mut Rng, kind: usize, slot: usize, poll_limit: usize) -> Request {
+    match kind {
+        PUT => {
+            let len = rng.below(MAX_RECIPE + 1);
+            Request::put(slot, poll_limit, random_bytes(rng, len))
+        }
+        PATCH => {
+            let place = rng.below(40);
+            let longest = if rng.one_in(4) { 2000 } else { 20 };
+            let len = rng.below(longest);
+            Request::patch(slot, poll_limit, place, random_bytes(rng, len))
+        }
+        GET => Request::get(slot, poll_limit, MAX_RECIPE + rng.below(3)),
+        WIPE => Request::wipe(slot, poll_limit),
+        _ => Request::raw(random_frame(rng)),
+    }
+}
+
+/// A frame of the table with an address that is often in the first slots.
+pub fn random_frame(rng: &mut Rng) -> Vec<u8> {
+    let row = rng.pick(&crate::frames::ROWS);
+    let len = row.lead + rng.pick(&[0, 0, 1, 16, 64, 264]);
+    let address = rng.below(64) as u32 * 512;
+    row.frame(rng, address, len)
+}
+
+pub fn random_bytes(rng: &mut Rng, len: usize) -> Vec<u8> {
+    let mut bytes = vec![0; len];
+    rng.fill(&mut bytes);
+    bytes
+}
+
+/// The first and last slot of each sector.
+pub fn edge_slots(part: Part) -> Vec<usize> {
+    let mut slots: Vec<usize> = (0..part.sectors())
+        .map(|sector| part.sector_range(sector))
+        .flat_map(|range| [range.start / SLOT_SIZE, range.end / SLOT_SIZE - 1])
+        .collect();
+    slots.dedup();
+    slots
+}
+
+/// Any slot; those at the edges of sectors come often.
+pub fn slot(rng: &mut Rng, part: Part) -> usize {
+    if rng.one_in(2) {
+        return rng.below(part.blocks());
+    }
+    rng.pick(&edge_slots(part))
+}
+
+/// The caller writes version and length at the beginning of a slot.
+pub fn store_head(pair: &mut Pair, slot: usize, version: u8, len: u16) -> Result<(), Mismatch> {
+    let [high, low] = len.to_be_bytes();
+    pair.step(Step::Store {
+        at: slot * SLOT_SIZE,
+        bytes: vec![version, high, low],
+    })?;
+    Ok(())
+}
+
+/// Loads a record.
+pub fn load(pair: &mut Pair, record: Record) -> Result<(), Mismatch> {
+    pair.step(Step::Load(Box::new(record))).map(|_| ())
+}

@@ -1,0 +1,101 @@
+//! Patches that begin and end around the page boundaries of a slot, with
+//! stored lengths around their end and with slots that are blank; and places
+//! up to the largest number.
+
+use at45db081d_model::part::PAGE_SIZE;
+use at45db081d_model::record::tag;
+use at45db081d_model::slot::{HEADER_SIZE, MAX_RECIPE};
+use at45db081d_model::Part;
+
+use super::{load, open_record, random_bytes, slot, store_head};
+use crate::mismatch::Mismatch;
+use crate::pair::Pair;
+use crate::request::{CallStep, Request};
+use crate::rng::{Digits, Rng};
+use crate::runner::Scenario;
+
+pub const PATCHES: Scenario = Scenario {
+    name: "patches_around_page_boundaries",
+    test: "calls",
+    cases,
+    run,
+};
+
+/// Boundaries at slot offsets 264k, and how far a patch begins from them:
+/// offsets 261 to 267 and so on.
+const BOUNDARIES: usize = 9;
+const OFFSETS: usize = 7;
+
+const LENGTHS: [usize; 23] = [
+    0, 1, 2, 3, 4, 5, 6, 258, 259, 260, 261, 262, 263, 264, 265, 527, 528, 529, 1056, 2106, 2108,
+    2109, 2110,
+];
+
+/// Places near the largest number and near what fits narrower ones.
+const FAR: [usize; 12] = [
+    2110,
+    4221,
+    0xFFFF,
+    0x1_0000,
+    u32::MAX as usize,
+    u32::MAX as usize + 1,
+    usize::MAX / 2,
+    usize::MAX / 2 + 1,
+    usize::MAX - 2109,
+    usize::MAX - 3,
+    usize::MAX - 1,
+    usize::MAX,
+];
+
+/// What the slot's head says: see `head`.
+const HEADS: usize = 8;
+
+const NEAR: usize = BOUNDARIES * OFFSETS;
+
+fn cases(_: Part) -> u64 {
+    // The places, those at which a patch of each length would wrap to 0, 1, 2
+    // and 3, and those that are far off.
+    ((NEAR + 4 + FAR.len()) * LENGTHS.len() * HEADS) as u64
+}
+
+fn run(pair: &mut Pair, case: u64) -> Result<(), Mismatch> {
+    let (part, mut digits, mut rng) = (pair.part, Digits::new(case), Rng::new(case));
+    let place = digits.below(NEAR + 4 + FAR.len());
+    let len = digits.pick(&LENGTHS);
+    let place = match place {
+        0..NEAR => near(place),
+        NEAR.. if place < NEAR + 4 => (place - NEAR).wrapping_sub(len),
+        _ => FAR[place - NEAR - 4],
+    };
+    let slot = slot(&mut rng, part);
+    let (version, stored) = head(digits.below(HEADS), place.saturating_add(len));
+    store_head(pair, slot, version, stored)?;
+    load(pair, open_record(&mut rng, part, (tag::IDLE, 0)))?;
+    let bytes = random_bytes(&mut rng, len);
+    let patch = Request::patch(slot, 1, place, bytes);
+    pair.call(CallStep::new(part, patch))?;
+    pair.call(CallStep::new(part, Request::get(slot, 1, MAX_RECIPE)))?;
+    Ok(())
+}
+
+/// A place whose slot offset is within 3 of a boundary, at the recipe's
+/// beginning if there is none.
+fn near(index: usize) -> usize {
+    let (boundary, offset) = (index / OFFSETS * PAGE_SIZE, index % OFFSETS);
+    (boundary + offset).saturating_sub(3 + HEADER_SIZE)
+}
+
+/// Version and length of a slot, by the end of the patch.
+fn head(index: usize, end: usize) -> (u8, u16) {
+    let end = end.min(MAX_RECIPE) as u16;
+    match index {
+        0 => (1, end),
+        1 => (1, end.saturating_sub(1)),
+        2 => (1, (end + 1).min(MAX_RECIPE as u16)),
+        3 => (1, MAX_RECIPE as u16),
+        4 => (1, MAX_RECIPE as u16 + 1),
+        5 => (0, end),
+        6 => (2, MAX_RECIPE as u16),
+        _ => (1, 0xFFFF),
+    }
+}

@@ -1,0 +1,124 @@
+//! Long random runs of calls, straight frames, busy ends, pin moves and cuts:
+//! each takes record and array as the one before left them.
+
+use at45db081d_model::record::field;
+use at45db081d_model::slot::MAX_RECIPE;
+use at45db081d_model::Part;
+
+use super::{load, random_bytes, random_frame, request, slot, store_head, KINDS, PATCH};
+use crate::mismatch::Mismatch;
+use crate::pair::Pair;
+use crate::records::{self, OPERATIONS};
+use crate::request::{CallStep, Request};
+use crate::rng::Rng;
+use crate::runner::Scenario;
+use crate::step::Step;
+
+pub const RANDOM_CALLS: Scenario = Scenario {
+    name: "random_calls",
+    test: "calls",
+    cases,
+    run,
+};
+
+/// Steps of one run.
+const STEPS: usize = 200;
+
+/// The number of seeds; any other may be given by hand.
+fn cases(part: Part) -> u64 {
+    if part == Part::SHORT {
+        150
+    } else {
+        15
+    }
+}
+
+fn run(pair: &mut Pair, seed: u64) -> Result<(), Mismatch> {
+    let mut rng = Rng::new(seed.wrapping_mul(0xD134_2543_DE82_EF95));
+    let mut first = records::random(&mut rng);
+    first[field::DEEP_POWER_DOWN] = 0;
+    load(pair, first)?;
+    let part = pair.part;
+    for _ in 0..STEPS {
+        match rng.below(100) {
+            0..=79 => {
+                let call = call(&mut rng, part);
+                pair.call(call)?;
+            }
+            80..=91 => {
+                let step = event(&mut rng, part);
+                pair.step(step)?;
+            }
+            92..=94 => {
+                let slot = slot(&mut rng, part);
+                let len = rng.below(MAX_RECIPE + 1) as u16;
+                store_head(pair, slot, 1, len)?;
+            }
+            _ => {
+                let mut record = records::random(&mut rng);
+                let operation = rng.pick(&OPERATIONS);
+                records::set_operation(&mut rng, &mut record, operation, part);
+                load(pair, record)?;
+            }
+        }
+    }
+    Ok(())
+}
+
+fn call(rng: &mut Rng, part: Part) -> CallStep {
+    // Few slots, so that calls meet what others have left.
+    let slot = match rng.below(4) {
+        0 => slot(rng, part),
+        _ => rng.below(3),
+    };
+    let limit = rng.pick(&[1, 1, 2, 3, 5, 20]);
+    let kind = rng.below(KINDS);
+    let request = match kind {
+        PATCH if rng.one_in(4) => {
+            let place = rng.below(MAX_RECIPE);
+            let len = rng.below(MAX_RECIPE + 2 - place);
+            Request::patch(slot, limit, place, random_bytes(rng, len))
+        }
+        _ => request(rng, kind, slot, limit),
+    };
+    let mut call = CallStep::new(part, request).with_junk(rng.next_u64(), rng.byte());
+    call.script = script(rng);
+    if rng.one_in(40) {
+        call.log_len = call.log_len.saturating_sub(1);
+    }
+    if rng.one_in(40) {
+        call.array_len = Part::SHORT.array_len();
+    }
+    call
+}
+
+/// Mostly 0s with some 1s, at times a cut.
+fn script(rng: &mut Rng) -> Vec<u8> {
+    if rng.one_in(3) {
+        return Vec::new();
+    }
+    let mut script = vec![0; rng.below(50)];
+    let rarity = rng.pick(&[2, 4, 16]);
+    script.fill_with(|| u8::from(rng.one_in(rarity)));
+    if rng.one_in(4) {
+        script.push(2);
+    }
+    script
+}
+
+fn event(rng: &mut Rng, part: Part) -> Step {
+    let array_len = part.array_len();
+    match rng.below(8) {
+        0..=3 => Step::send(array_len, random_frame(rng)),
+        4 | 5 => Step::EndBusy { array_len },
+        6 => Step::MovePin {
+            high: !rng.one_in(3),
+        },
+        _ => Step::Cut {
+            array_len,
+            junk_len: part.junk_len(),
+            seed: rng.next_u64(),
+            register: rng.byte(),
+        },
+    }
+}

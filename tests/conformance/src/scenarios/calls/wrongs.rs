@@ -1,0 +1,174 @@
+//! What meets 1 to 7, alone and together: every set of wrong things for every
+//! call, for the order of refusals.
+
+use at45db081d_model::record::tag;
+use at45db081d_model::slot::MAX_RECIPE;
+use at45db081d_model::{Part, Record};
+
+use super::super::refusals::array_len;
+use super::{load, open_record, random_bytes, random_frame, slot, GET, KINDS, PATCH, PUT, WIPE};
+use crate::mismatch::Mismatch;
+use crate::pair::Pair;
+use crate::records::{self, OPERATIONS};
+use crate::request::{CallStep, Request};
+use crate::rng::{Digits, Rng};
+use crate::runner::Scenario;
+
+pub const WRONGS: Scenario = Scenario {
+    name: "refusals_in_order",
+    test: "calls",
+    cases,
+    run,
+};
+
+/// Times that each set of wrong things is tried, in other ways.
+const TURNS: usize = 24;
+
+fn cases(_: Part) -> u64 {
+    (KINDS * 128 * TURNS) as u64
+}
+
+/// Which answers of 1 to 7 the call is to meet.
+#[derive(Clone, Copy)]
+struct Wrong(usize);
+
+impl Wrong {
+    fn has(self, answer: usize) -> bool {
+        self.0 >> (answer - 1) & 1 == 1
+    }
+}
+
+fn run(pair: &mut Pair, case: u64) -> Result<(), Mismatch> {
+    let (part, mut digits, mut rng) = (pair.part, Digits::new(case), Rng::new(case));
+    let kind = digits.below(KINDS);
+    let wrong = Wrong(digits.below(128));
+    let operation = rng.pick(&OPERATIONS);
+    let mut record = open_record(&mut rng, part, operation);
+    let request = request(&mut rng, kind, wrong, part);
+    let mut call = CallStep::new(part, request).with_junk(rng.next_u64(), rng.byte());
+    if wrong.has(1) {
+        wrong_part(&mut rng, &mut record, &mut call, part);
+    }
+    set_log(&mut rng, &mut call, wrong.has(6));
+    set_script(&mut rng, &mut call, wrong.has(7), part);
+    load(pair, record)?;
+    let answer = pair.call(call)?.answer;
+    let first = (1..=7).find(|&n| wrong.has(n) && concerns(kind, n));
+    match first {
+        Some(first) => assert_eq!(usize::from(answer), first, "the first wrong thing"),
+        None => assert!(answer == 0 || answer >= 8, "nothing is wrong"),
+    }
+    Ok(())
+}
+
+/// Which refusals concern a call.
+fn concerns(kind: usize, answer: usize) -> bool {
+    match kind {
+        PUT | PATCH | GET => answer != 2,
+        WIPE => answer != 2 && answer != 5,
+        _ => [1, 2, 6, 7].contains(&answer),
+    }
+}
+
+fn request(rng: &mut Rng, kind: usize, wrong: Wrong, part: Part) -> Request {
+    let slots = part.blocks();
+    let slot = match wrong.has(3) {
+        false => slot(rng, part),
+        true => rng.pick(&[slots, slots + 1, 512, 65_536, 1 << 32, usize::MAX]),
+    };
+    let limit = match wrong.has(4) {
+        false => rng.pick(&[1, 2, 3, 1000]),
+        true => rng.pick(&[0, 1001, 65_537, (1 << 32) + 1, usize::MAX]),
+    };
+    let size = wrong.has(5);
+    match kind {
+        PUT => {
+            let len = rng.pick(match size {
+                false => &[0, 1, 2108, MAX_RECIPE],
+                true => &[2110, 2111, 4000, 65_541],
+            });
+            Request::put(slot, limit, random_bytes(rng, len))
+        }
+        PATCH => {
+            let (place, len) = rng.pick(match size {
+                false => &[(0, 0), (0, 1), (MAX_RECIPE, 0), (2108, 1), (0, MAX_RECIPE)],
+                true => &[
+                    (2110, 0),
+                    (2109, 1),
+                    (0, 2110),
+                    (usize::MAX, 1),
+                    (2, 65_536),
+                ],
+            });
+            Request::patch(slot, limit, place, random_bytes(rng, len))
+        }
+        GET => Request::get(
+            slot,
+            limit,
+            rng.pick(match size {
+                false => &[MAX_RECIPE, 2110, 2200],
+                true => &[0, 1, 2108],
+            }),
+        ),
+        WIPE => Request::wipe(slot, limit),
+        _ => raw(rng, wrong.has(2)),
+    }
+}
+
+/// A raw frame, its length or that of its reply being wrong or not.
+fn raw(rng: &mut Rng, wrong: bool) -> Request {
+    if !wrong {
+        return Request::raw(random_frame(rng));
+    }
+    let (len, reply_len) = rng.pick(&[
+        (0, 0),
+        (0, 1),
+        (1, 0),
+        (1101, 1101),
+        (1101, 1100),
+        (1100, 1101),
+        (1100, 1099),
+        (2200, 2200),
+        (2, 2300),
+    ]);
+    let mut frame = random_frame(rng);
+    frame.resize(len, 0);
+    Request::Raw { frame, reply_len }
+}
+
+/// An array of no part, or an operation beyond the part.
+fn wrong_part(rng: &mut Rng, record: &mut Record, call: &mut CallStep, part: Part) {
+    if rng.one_in(3) {
+        let pages = part.pages as u16;
+        return records::set_place(record, (tag::ERASE_PAGE, 0), pages, 0);
+    }
+    while Part::from_array_len(call.array_len).is_some() {
+        call.array_len = array_len(2 + rng.below(12), part);
+    }
+}
+
+fn set_log(rng: &mut Rng, call: &mut CallStep, wrong: bool) {
+    let least = call.request.log_len();
+    call.log_len = match wrong {
+        true => rng.pick(&[least - 1, least - 6, least / 2, 0]),
+        false => least + rng.pick(&[0, 1, 6, 100]),
+    };
+}
+
+/// A byte over 2, or a cut with junk of another length; if nothing is to be
+/// wrong, a cut with the right junk, or other junk and no cut.
+fn set_script(rng: &mut Rng, call: &mut CallStep, wrong: bool, part: Part) {
+    let mut script = vec![0; rng.pick(&[0, 1, 5, 40])];
+    let lengths = [0, 1, 528, part.junk_len() - 1, part.junk_len() + 1];
+    match (wrong, rng.one_in(2)) {
+        (true, true) => script.push(rng.pick(&[3, 4, 0x80, 0xFF])),
+        (true, false) => {
+            script.push(2);
+            call.junk_len = rng.pick(&lengths);
+        }
+        (false, true) => script.push(2),
+        (false, false) => call.junk_len = rng.pick(&lengths),
+    }
+    script.resize(script.len() + rng.pick(&[0, 3, 100]), 0);
+    call.script = script;
+}

@@ -1,0 +1,338 @@
+//! Devices with one seeded fault each, to show that the tests notice it.
+//!
+//! A faulty device is the model but for its slip: its calls run the model's
+//! driver over a [`wire`] that drops, changes or miscounts something.
+
+use at45db081d_model::part::PAGE_SIZE;
+use at45db081d_model::record::{field, tag};
+use at45db081d_model::slot::MAX_RECIPE;
+use at45db081d_model::{answer, Call, Chip, Lent, Outcome, Record};
+
+use crate::device::{Device, Model};
+
+mod wire;
+
+use wire::Wire;
+
+/// What is wrong with a device.
+#[derive(Clone, Copy, Debug, PartialEq, Eq)]
+pub enum Slip {
+    None,
+
+    /// A page whose bytes are already there is not programmed again.
+    SkipsPageAlreadyThere,
+    /// A page that a patch does not touch is not programmed again.
+    SkipsPageOutsidePatch,
+    /// Get reads no page beyond the stored length.
+    GetStopsAtStoredLength,
+    /// A patch under 12 ends at once.
+    PatchEndsUnder12,
+    /// A patch under 13 ends at once.
+    PatchEndsUnder13,
+    /// A patch under 13 writes all the same.
+    PatchWritesUnder13,
+    /// The frames are sent and nothing is stored.
+    StoresNothing,
+    /// The first page is right and the other seven get the same bytes.
+    SevenPagesAlike,
+
+    /// A cut clears lockdown.
+    CutClearsLockdown,
+    /// A cut makes page 5 junk if nothing is under way.
+    IdleCutSpoilsPage,
+    /// 88 is treated as 83.
+    AndTreatedAsProgram,
+    /// FC takes its data from buffer 1 at the busy end.
+    ProtectionFromBuffer,
+
+    /// Ready is bit 7 set and bit 6 clear.
+    ReadyWithCompareBit,
+    /// A sector is sealed only if all of its bits are set.
+    SealedByAllBits,
+    /// Byte j of the replies to 32 and 35, not byte 4 + j.
+    RegisterByteOff,
+    /// The script's byte acts before its frame.
+    EventBeforeFrame,
+    /// 8, 9 and 10 are looked at before a cut.
+    CutAfterVerdict,
+    /// The poll limit is that of the whole call.
+    PollLimitPerCall,
+    /// 9 before any poll.
+    BusyAtOnce,
+    /// 10 whatever the replies are.
+    AlwaysSealed,
+
+    /// 4 before 3.
+    LimitBeforeSlot,
+    /// 5 before 4.
+    SizeBeforeLimit,
+    /// 6 before 5.
+    LogBeforeSize,
+    /// 7 before 6.
+    ScriptBeforeLog,
+    /// 2 before 1.
+    FrameBeforePart,
+    /// A script byte past the bound of the frames is not looked at.
+    ScriptTestedToBound,
+    /// The junk's length matters without a cut too.
+    JunkTestedAlways,
+    /// A patch's end wraps at the largest number.
+    PatchEndWraps,
+    /// A recipe's length is taken modulo 65,536.
+    RecipeLengthWraps,
+    /// A refused call clears the log.
+    RefusalClearsLog,
+
+    /// A raw D7 counts as a poll.
+    RawStatusIsPoll,
+    /// One poll for each wait, however many there were.
+    PollsMadeUp,
+    /// The frame before a cut is not counted.
+    CutFrameUncounted,
+    /// Log lines of short frames are filled with 00.
+    LogPadsWithZeros,
+    /// Log lines of short frames keep what stood there.
+    LogKeepsPadding,
+    /// The log has the length of an 84 without the zeros behind the recipe.
+    LogShowsRecipeLength,
+    /// The log behind the lines is cleared.
+    LogClearedBehind,
+
+    /// Get clears the buffer behind the recipe.
+    GetClearsBuffer,
+    /// Get under 12 carries the length that it read.
+    GetTellsLengthUnder12,
+    /// Get hands back one byte too few.
+    GetLosesByte,
+    /// Raw's reply is lost in a cut.
+    RawReplyLostInCut,
+}
+
+/// Every slip.
+pub const SLIPS: [Slip; 41] = [
+    Slip::SkipsPageAlreadyThere,
+    Slip::SkipsPageOutsidePatch,
+    Slip::GetStopsAtStoredLength,
+    Slip::PatchEndsUnder12,
+    Slip::PatchEndsUnder13,
+    Slip::PatchWritesUnder13,
+    Slip::StoresNothing,
+    Slip::SevenPagesAlike,
+    Slip::CutClearsLockdown,
+    Slip::IdleCutSpoilsPage,
+    Slip::AndTreatedAsProgram,
+    Slip::ProtectionFromBuffer,
+    Slip::ReadyWithCompareBit,
+    Slip::SealedByAllBits,
+    Slip::RegisterByteOff,
+    Slip::EventBeforeFrame,
+    Slip::CutAfterVerdict,
+    Slip::PollLimitPerCall,
+    Slip::BusyAtOnce,
+    Slip::AlwaysSealed,
+    Slip::LimitBeforeSlot,
+    Slip::SizeBeforeLimit,
+    Slip::LogBeforeSize,
+    Slip::ScriptBeforeLog,
+    Slip::FrameBeforePart,
+    Slip::ScriptTestedToBound,
+    Slip::JunkTestedAlways,
+    Slip::PatchEndWraps,
+    Slip::RecipeLengthWraps,
+    Slip::RefusalClearsLog,
+    Slip::RawStatusIsPoll,
+    Slip::PollsMadeUp,
+    Slip::CutFrameUncounted,
+    Slip::LogPadsWithZeros,
+    Slip::LogKeepsPadding,
+    Slip::LogShowsRecipeLength,
+    Slip::LogClearedBehind,
+    Slip::GetClearsBuffer,
+    Slip::GetTellsLengthUnder12,
+    Slip::GetLosesByte,
+    Slip::RawReplyLostInCut,
+];
+
+/// The model with one slip.
+#[derive(Clone, Copy)]
+pub struct Faulty(pub Slip);
+
+impl Device for Faulty {
+    fn fresh(&mut self, record: &mut Record, factory: &[u8; 64], array: &mut [u8]) -> u8 {
+        Model.fresh(record, factory, array)
+    }
+
+    fn send(&mut self, record: &mut Record, array: &[u8], frame: &[u8], reply: &mut [u8]) -> u8 {
+        Model.send(record, array, frame, reply)
+    }
+
+    fn end_busy(&mut self, record: &mut Record, array: &mut [u8]) -> u8 {
+        match (self.0, record[field::TAG]) {
+            (Slip::AndTreatedAsProgram, tag::PROGRAM_WITHOUT_ERASE) => {
+                record[field::TAG] = tag::PROGRAM;
+            }
+            (Slip::ProtectionFromBuffer, tag::PROGRAM_PROTECTION) => {
+                let data = field::DATA.start;
+                record.copy_within(field::BUFFER_1.start..field::BUFFER_1.start + 16, data);
+            }
+            _ => {}
+        }
+        Model.end_busy(record, array)
+    }
+
+    fn move_pin(&mut self, record: &mut Record, high: bool) -> u8 {
+        Model.move_pin(record, high)
+    }
+
+    fn cut(&mut self, record: &mut Record, array: &mut [u8], junk: &[u8]) -> u8 {
+        let idle = record[field::TAG] == tag::IDLE;
+        let answer = Model.cut(record, array, junk);
+        match self.0 {
+            Slip::CutClearsLockdown if answer == answer::ACCEPTED => {
+                record[field::LOCKDOWN].fill(0);
+            }
+            Slip::IdleCutSpoilsPage if answer == answer::ACCEPTED && idle => {
+                let page = 5 * PAGE_SIZE..6 * PAGE_SIZE;
+                array[page.clone()].copy_from_slice(&junk[528..][page]);
+            }
+            _ => {}
+        }
+        answer
+    }
+
+    fn call(&mut self, record: &mut Record, lent: Lent, call: Call) -> Outcome {
+        if let Err(answer) = self.refuse(&Chip::from_record(record), &lent, &call) {
+            if self.0 == Slip::RefusalClearsLog {
+                lent.log.fill(0);
+            }
+            return Outcome {
+                answer,
+                ..Outcome::default()
+            };
+        }
+        let wire = Wire::new(self.0, record, lent, &call);
+        match self.change(call) {
+            Call::Get {
+                slot,
+                poll_limit,
+                buffer,
+            } => self.get(wire, slot, poll_limit, buffer),
+            Call::Raw { frame, reply } => self.raw(wire, frame, reply),
+            call => wire.run(call),
+        }
+    }
+}
+
+impl Faulty {
+    fn get(&self, wire: Wire, slot: usize, poll_limit: usize, buffer: &mut [u8]) -> Outcome {
+        let mut read = buffer.to_vec();
+        let outcome = wire.run(Call::Get {
+            slot,
+            poll_limit,
+            buffer: &mut read,
+        });
+        let n = outcome.n as usize;
+        if outcome.answer == answer::ACCEPTED {
+            match self.0 {
+                Slip::GetClearsBuffer => read[n..].fill(0),
+                Slip::GetLosesByte if n > 0 => read[n - 1] = buffer[n - 1],
+                _ => {}
+            }
+        }
+        buffer.copy_from_slice(&read);
+        outcome
+    }
+
+    fn raw(&self, wire: Wire, frame: &[u8], reply: &mut [u8]) -> Outcome {
+        let mut heard = vec![0; reply.len()];
+        let outcome = wire.run(Call::Raw {
+            frame,
+            reply: &mut heard,
+        });
+        if self.0 != Slip::RawReplyLostInCut || outcome.answer != answer::CUT {
+            reply.copy_from_slice(&heard);
+        }
+        outcome
+    }
+
+    /// The refusals, with two of them the other way round, one too many or one
+    /// too few.
+    fn refuse(&self, chip: &Chip, lent: &Lent, call: &Call) -> Result<(), u8> {
+        let right = call.refuse(chip, lent);
+        let limit = call.target().map_or(1, |(_, limit)| limit);
+        let log_fits = limit > 1000 || lent.log.len() >= 6 * call.most_frames();
+        let plain = log_fits && lent.script.is_empty();
+        let script_fits = lent.script.iter().all(|&byte| byte <= 2);
+        match (self.0, right, call) {
+            (Slip::LimitBeforeSlot, Err(answer::SLOT), _) if limit == 0 => Err(answer::LIMIT),
+            (Slip::SizeBeforeLimit, Err(answer::LIMIT), Call::Put { recipe, .. })
+                if recipe.len() > MAX_RECIPE =>
+            {
+                Err(answer::SIZE)
+            }
+            (Slip::LogBeforeSize, Err(answer::SIZE), _) if !log_fits => Err(answer::LOG),
+            (Slip::ScriptBeforeLog, Err(answer::LOG), _) if !script_fits => Err(answer::SCRIPT),
+            (Slip::FrameBeforePart, Err(answer::PART), Call::Raw { frame, reply })
+                if reply.len() != frame.len() =>
+            {
+                Err(answer::FRAME)
+            }
+            (Slip::JunkTestedAlways, Ok(()), _) if lent.junk.is_empty() => Err(answer::SCRIPT),
+            (Slip::PatchEndWraps, Err(answer::SIZE), Call::Patch { place, bytes, .. }) if plain => {
+                let (end, wraps) = place.overflowing_add(bytes.len());
+                if wraps && end <= MAX_RECIPE {
+                    Ok(())
+                } else {
+                    right
+                }
+            }
+            (Slip::RecipeLengthWraps, Err(answer::SIZE), Call::Put { recipe, .. })
+                if plain && recipe.len() % 0x1_0000 <= MAX_RECIPE =>
+            {
+                Ok(())
+            }
+            (Slip::ScriptTestedToBound, Err(answer::SCRIPT), _) => {
+                let bound = call.most_frames().min(lent.script.len());
+                if lent.script[..bound].iter().all(|&byte| byte < 2) {
+                    Ok(())
+                } else {
+                    right
+                }
+            }
+            _ => right,
+        }
+    }
+
+    /// What becomes of a call that should have been refused.
+    fn change<'a>(&self, call: Call<'a>) -> Call<'a> {
+        match (self.0, call) {
+            (
+                Slip::PatchEndWraps,
+                Call::Patch {
+                    slot,
+                    poll_limit,
+                    place,
+                    bytes,
+                },
+            ) if place > MAX_RECIPE => Call::Patch {
+                slot,
+                poll_limit,
+                place: 0,
+                bytes: &bytes[..0],
+            },
+            (
+                Slip::RecipeLengthWraps,
+                Call::Put {
+                    slot,
+                    poll_limit,
+                    recipe,
+                },
+            ) => Call::Put {
+                slot,
+                poll_limit,
+                recipe: &recipe[..recipe.len() % 0x1_0000],
+            },
+            (_, call) => call,
+        }
+    }
+}

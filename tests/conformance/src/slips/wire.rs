@@ -1,0 +1,289 @@
+//! A link from the model's driver to a faulty chip, with slips of its own.
+
+use at45db081d_model::calls::log_line;
+use at45db081d_model::driver::Link;
+use at45db081d_model::part::{sector_bits, sector_of, PAGE_SIZE};
+use at45db081d_model::slot::{judge_patch, stored_len, HEADER_SIZE, SLOT_SIZE};
+use at45db081d_model::{answer, Call, Lent, Outcome, Record};
+
+use super::{Faulty, Slip};
+use crate::device::Device;
+
+const LOAD: u8 = 0x84;
+const PROGRAM: u8 = 0x83;
+const READ: u8 = 0xD2;
+const STATUS: u8 = 0xD7;
+const PROTECTION: u8 = 0x32;
+const LOCKDOWN: u8 = 0x35;
+
+#[derive(Clone, Copy, PartialEq, Eq)]
+enum Kind {
+    Put,
+    Patch,
+    Get,
+    Wipe,
+    Raw,
+}
+
+pub struct Wire<'a> {
+    slip: Slip,
+    record: &'a mut Record,
+    lent: Lent<'a>,
+    kind: Kind,
+    slot: usize,
+    poll_limit: usize,
+    /// Where a patch begins, and the length of recipe or patch.
+    place: usize,
+    len: usize,
+    frames: usize,
+    polls: u64,
+    /// Pages loaded and pages read so far, and the first of each.
+    loads: usize,
+    reads: usize,
+    first_load: Vec<u8>,
+    first_read: [u8; PAGE_SIZE],
+    /// Frames still to be dropped.
+    dropping: usize,
+    cut: bool,
+}
+
+impl<'a> Wire<'a> {
+    pub fn new(slip: Slip, record: &'a mut Record, lent: Lent<'a>, call: &Call) -> Wire<'a> {
+        let (slot, poll_limit) = call.target().unwrap_or_default();
+        let (kind, place, len) = match call {
+            Call::Put { recipe, .. } => (Kind::Put, 0, recipe.len()),
+            Call::Patch { place, bytes, .. } => (Kind::Patch, *place, bytes.len()),
+            Call::Get { .. } => (Kind::Get, 0, 0),
+            Call::Wipe { .. } => (Kind::Wipe, 0, 0),
+            Call::Raw { .. } => (Kind::Raw, 0, 0),
+        };
+        Wire {
+            slip,
+            record,
+            lent,
+            kind,
+            slot,
+            poll_limit,
+            place,
+            len,
+            frames: 0,
+            polls: 0,
+            loads: 0,
+            reads: 0,
+            first_load: Vec::new(),
+            first_read: [0; PAGE_SIZE],
+            dropping: 0,
+            cut: false,
+        }
+    }
+
+    /// Runs the call, which is not refused.
+    pub fn run(mut self, call: Call) -> Outcome {
+        let (mut result, _) = call.drive(&mut self);
+        let first_answers = [answer::CHIP, answer::BUSY, answer::SEALED].map(Err);
+        if self.cut && !first_answers.contains(&result) {
+            result = Err(answer::CUT);
+        }
+        let mut n = result.unwrap_or(0) as u64;
+        if self.slip == Slip::GetTellsLengthUnder12 && result == Err(answer::BLANK) {
+            n = u64::from(u16::from_be_bytes([self.first_read[1], self.first_read[2]]));
+        }
+        let answer = result.err().unwrap_or(answer::ACCEPTED);
+        if self.slip == Slip::LogClearedBehind {
+            self.lent.log[6 * self.frames..].fill(0);
+        }
+        Outcome {
+            answer,
+            frames: self.frames_told(answer),
+            polls: self.polls_told(),
+            n,
+        }
+    }
+
+    fn frames_told(&self, answer: u8) -> u64 {
+        let uncounted = self.slip == Slip::CutFrameUncounted && answer == answer::CUT;
+        (self.frames - usize::from(uncounted)) as u64
+    }
+
+    fn polls_told(&self) -> u64 {
+        match (self.slip, self.kind) {
+            (Slip::PollsMadeUp, Kind::Put | Kind::Patch) if self.loads == 8 => 9,
+            _ => self.polls,
+        }
+    }
+
+    /// Whether a poll of a wait, or a frame of the caller's that looks like it.
+    fn is_poll(&self, frame: &[u8]) -> bool {
+        frame[0] == STATUS && (self.kind != Kind::Raw || self.slip == Slip::RawStatusIsPoll)
+    }
+
+    /// The range of the slot's page `k` in the array.
+    fn page(&self, k: usize) -> std::ops::Range<usize> {
+        let start = self.slot * SLOT_SIZE + k * PAGE_SIZE;
+        start..start + PAGE_SIZE
+    }
+
+    /// Decides whether a frame is dropped; an error ends the call.
+    fn drops(&mut self, frame: &[u8]) -> Result<bool, u8> {
+        let driven = self.kind != Kind::Raw;
+        match (self.slip, frame[0]) {
+            (Slip::SkipsPageAlreadyThere, LOAD) if driven => {
+                if self.lent.array[self.page(self.loads)] == frame[4..] {
+                    self.dropping = 3;
+                }
+            }
+            (Slip::SkipsPageOutsidePatch, LOAD) if self.kind == Kind::Patch => {
+                let first = HEADER_SIZE + self.place;
+                let page = self.loads * PAGE_SIZE..(self.loads + 1) * PAGE_SIZE;
+                if first >= page.end || first + self.len <= page.start {
+                    self.dropping = 3;
+                }
+            }
+            (Slip::GetStopsAtStoredLength, READ) if self.kind == Kind::Get && self.reads > 0 => {
+                let n = stored_len(&self.first_read).unwrap_or(SLOT_SIZE);
+                if self.reads * PAGE_SIZE >= HEADER_SIZE + n {
+                    self.dropping = 1;
+                }
+            }
+            (Slip::PatchEndsUnder12 | Slip::PatchEndsUnder13, LOAD)
+                if self.kind == Kind::Patch && self.loads == 0 =>
+            {
+                let ending = match self.slip {
+                    Slip::PatchEndsUnder12 => answer::BLANK,
+                    _ => answer::END,
+                };
+                match judge_patch(&self.first_read, self.place + self.len) {
+                    Err(answer) if answer == ending => return Err(answer),
+                    _ => {}
+                }
+            }
+            (Slip::PollLimitPerCall, STATUS) if driven && self.polls == self.poll_limit as u64 => {
+                return Err(answer::BUSY);
+            }
+            (Slip::BusyAtOnce, STATUS) if driven => return Err(answer::BUSY),
+            _ => {}
+        }
+        let drops = self.dropping > 0;
+        self.dropping -= usize::from(drops);
+        Ok(drops)
+    }
+
+    /// The frame that the chip gets in place of the one that is logged.
+    fn change(&mut self, frame: &[u8]) -> Vec<u8> {
+        let mut changed = frame.to_vec();
+        match (self.slip, frame[0], self.kind) {
+            (Slip::StoresNothing, PROGRAM, Kind::Put | Kind::Patch) => changed[0] = 0x00,
+            (Slip::SevenPagesAlike, LOAD, Kind::Put) if self.loads > 0 => {
+                changed.copy_from_slice(&self.first_load);
+            }
+            (Slip::PatchWritesUnder13, LOAD, Kind::Patch) => {
+                let at = HEADER_SIZE + self.place;
+                let late = judge_patch(&self.first_read, self.place + self.len);
+                if late == Err(answer::END) && at / PAGE_SIZE == self.loads {
+                    changed[4 + at % PAGE_SIZE] ^= 0xFF;
+                }
+            }
+            _ => {}
+        }
+        changed
+    }
+
+    /// What the driver hears in place of a reply.
+    fn hear(&self, frame: &[u8], reply: &mut [u8]) {
+        if self.kind == Kind::Raw {
+            return;
+        }
+        let (byte, bits) = sector_bits(sector_of(8 * self.slot as u16));
+        match (self.slip, frame[0]) {
+            (Slip::ReadyWithCompareBit, STATUS) if reply[1] & 0x40 != 0 => reply[1] &= 0x7F,
+            (Slip::SealedByAllBits, PROTECTION | LOCKDOWN) if reply[4 + byte] & bits != bits => {
+                reply[4 + byte] &= !bits;
+            }
+            (Slip::RegisterByteOff, PROTECTION | LOCKDOWN) => reply.copy_within(..16, 4),
+            _ => {}
+        }
+    }
+
+    fn log(&mut self, frame: &[u8]) {
+        let mut line = log_line(frame);
+        let padding = 2 + frame.len().min(4);
+        let target = &mut self.lent.log[6 * self.frames..][..6];
+        match (self.slip, frame[0], self.kind) {
+            (Slip::LogPadsWithZeros, _, _) => line[padding..].fill(0),
+            (Slip::LogKeepsPadding, _, _) => line[padding..].copy_from_slice(&target[padding..]),
+            (Slip::LogShowsRecipeLength, LOAD, Kind::Put) => {
+                let used = (HEADER_SIZE + self.len).saturating_sub(self.loads * PAGE_SIZE);
+                let len = 4 + used.min(PAGE_SIZE) as u16;
+                line[..2].copy_from_slice(&len.to_be_bytes());
+            }
+            _ => {}
+        }
+        target.copy_from_slice(&line);
+    }
+
+    /// Does what the script says of the frame.
+    fn event(&mut self) -> Result<(), u8> {
+        let mut chip = Faulty(self.slip);
+        match self.lent.script.get(self.frames).copied().unwrap_or(0) {
+            0 => {
+                chip.end_busy(self.record, self.lent.array);
+            }
+            1 => {}
+            _ => {
+                chip.cut(self.record, self.lent.array, self.lent.junk);
+                if self.slip != Slip::CutAfterVerdict {
+                    return Err(answer::CUT);
+                }
+                self.cut = true;
+            }
+        }
+        Ok(())
+    }
+
+    /// Counts pages loaded and read, and keeps the first of each.
+    fn note(&mut self, frame: &[u8], reply: &[u8]) {
+        match frame[0] {
+            LOAD => {
+                if self.loads == 0 {
+                    self.first_load = frame.to_vec();
+                }
+                self.loads += 1;
+            }
+            READ if self.kind != Kind::Raw => {
+                if self.reads == 0 {
+                    self.first_read.copy_from_slice(&reply[8..]);
+                }
+                self.reads += 1;
+            }
+            _ => {}
+        }
+    }
+}
+
+impl Link for Wire<'_> {
+    fn send(&mut self, frame: &[u8], reply: &mut [u8]) -> Result<(), u8> {
+        if self.cut {
+            return Err(answer::CUT);
+        }
+        if self.drops(frame)? {
+            reply.fill(if frame[0] == STATUS { 0xA4 } else { 0x00 });
+            self.note(frame, reply);
+            return Ok(());
+        }
+        let early = self.slip == Slip::EventBeforeFrame;
+        let ending = if early { self.event() } else { Ok(()) };
+        let sent = self.change(frame);
+        Faulty(self.slip).send(self.record, self.lent.array, &sent, reply);
+        self.log(frame);
+        self.note(frame, reply);
+        self.polls += u64::from(self.is_poll(frame));
+        let ending = if early { ending } else { self.event() };
+        self.frames += 1;
+        ending?;
+        self.hear(frame, reply);
+        if self.slip == Slip::AlwaysSealed && frame[0] == LOCKDOWN && self.kind != Kind::Raw {
+            return Err(answer::SEALED);
+        }
+        Ok(())
+    }
+}

@@ -1,0 +1,86 @@
+//! What `two-runs` says, on compiled code: random lists on two chips alike in
+//! registers and otherwise different show the same outlines.
+
+use std::io::Write;
+use std::time::Instant;
+
+use conformance::lists::two_runs::{self, Shown, Without};
+use conformance::lists::{count_line, Broken};
+use conformance::request::{ANSWERS, KINDS};
+use conformance::slips::{Faulty, Slip};
+use conformance::{Device, Library, Model};
+
+/// Pairs of lists, by their seeds.
+const PAIRS: u64 = 24_000;
+
+/// Builds that leak something of the recipes.
+const LEAKS: [Slip; 11] = [
+    Slip::SkipsPageAlreadyThere,
+    Slip::SkipsPageOutsidePatch,
+    Slip::GetStopsAtStoredLength,
+    Slip::PatchEndsUnder12,
+    Slip::PatchEndsUnder13,
+    Slip::ProtectionFromBuffer,
+    Slip::ReadyWithCompareBit,
+    Slip::RecipeLengthWraps,
+    Slip::LogKeepsPadding,
+    Slip::LogShowsRecipeLength,
+    Slip::PatchEndWraps,
+];
+
+/// Says something even when the test passes.
+fn say(line: &str) {
+    writeln!(std::io::stdout(), "{line}").expect("standard output");
+}
+
+/// Runs pairs of lists; what they have shown, or the first that is broken.
+fn run(device: &mut dyn Device, without: Without) -> Result<Shown, Broken> {
+    let mut shown = Shown::default();
+    for seed in 0..PAIRS {
+        two_runs::check(device, seed, without, &mut shown)?;
+    }
+    Ok(shown)
+}
+
+#[test]
+fn nothing_of_the_recipes_shows() {
+    let begin = Instant::now();
+    let shown = run(&mut Library, Without::Nothing).unwrap_or_else(|broken| panic!("{broken}"));
+    let counts = count_line(&[
+        ("pairs of lists", shown.pairs),
+        ("calls", shown.calls()),
+        ("frames", shown.frames),
+        ("unlike answers among 0, 12, 13", shown.unlike_answers),
+    ]);
+    let seconds = begin.elapsed().as_secs_f64();
+    say(&format!(
+        "two runs of the library: {counts} in {seconds:.1} s"
+    ));
+    assert!(shown.pairs >= 20_000);
+    assert!(shown.unlike_answers >= 5_000);
+    for (kind, expected) in ANSWERS.iter().enumerate() {
+        let met: Vec<usize> = (0..14).filter(|&n| shown.answers[kind][n] > 0).collect();
+        assert_eq!(met, *expected, "answers of {}", KINDS[kind]);
+    }
+}
+
+#[test]
+fn leaks_are_noticed() {
+    for leak in LEAKS {
+        match run(&mut Faulty(leak), Without::Nothing) {
+            Ok(_) => panic!("{leak:?} not noticed"),
+            Err(broken) => println!("{leak:?}: {broken}"),
+        }
+    }
+}
+
+/// That lists reach what the premises are for.
+#[test]
+fn premises_are_needed() {
+    for without in [Without::JunkAlike, Without::SizeAlike] {
+        match run(&mut Model, without) {
+            Ok(_) => panic!("nothing shows without {without:?}"),
+            Err(broken) => println!("without {without:?}: {broken}"),
+        }
+    }
+}

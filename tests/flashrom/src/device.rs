@@ -1,0 +1,76 @@
+//! What stands behind the bridge: a chip, and the slot driver above it.
+
+use slipknoll::{log_len, Chip, Error, Run, RECIPE_MAX};
+
+/// Bytes of a page.
+pub const PAGE_LEN: usize = 264;
+/// Pages of the full part.
+pub const PAGES: usize = 4096;
+/// Bytes of the full part's array.
+pub const ARRAY_LEN: usize = PAGES * PAGE_LEN;
+
+/// The poll limit of a call: an empty script ends each busy period at once.
+const POLL_LIMIT: usize = 1;
+
+/// What is done with a chip over an array that the caller lends.
+pub trait Device {
+    fn send(
+        &mut self,
+        chip: &mut Chip,
+        array: &[u8],
+        frame: &[u8],
+        reply: &mut [u8],
+    ) -> Result<(), Error>;
+
+    fn end_busy(&mut self, chip: &mut Chip, array: &mut [u8]) -> Result<(), Error>;
+
+    /// Stores a recipe in a slot by the slot driver.
+    fn put(
+        &mut self,
+        chip: &mut Chip,
+        array: &mut [u8],
+        slot: usize,
+        recipe: &[u8],
+    ) -> Result<(), Error>;
+
+    /// Reads a slot's recipe by the slot driver.
+    fn get(&mut self, chip: &mut Chip, array: &mut [u8], slot: usize) -> Result<Vec<u8>, Error>;
+}
+
+/// The proved library.
+pub struct Library;
+
+impl Device for Library {
+    fn send(
+        &mut self,
+        chip: &mut Chip,
+        array: &[u8],
+        frame: &[u8],
+        reply: &mut [u8],
+    ) -> Result<(), Error> {
+        chip.send(array, frame, reply)
+    }
+
+    fn end_busy(&mut self, chip: &mut Chip, array: &mut [u8]) -> Result<(), Error> {
+        chip.end_busy(array)
+    }
+
+    fn put(
+        &mut self,
+        chip: &mut Chip,
+        array: &mut [u8],
+        slot: usize,
+        recipe: &[u8],
+    ) -> Result<(), Error> {
+        let mut log = [0; log_len::put(POLL_LIMIT)];
+        chip.put(array, slot, POLL_LIMIT, recipe, &mut Run::new(&mut log))
+    }
+
+    fn get(&mut self, chip: &mut Chip, array: &mut [u8], slot: usize) -> Result<Vec<u8>, Error> {
+        let mut log = [0; log_len::get(POLL_LIMIT)];
+        let mut buffer = [0; RECIPE_MAX];
+        let mut run = Run::new(&mut log);
+        let recipe = chip.get(array, slot, POLL_LIMIT, &mut buffer, &mut run)?;
+        Ok(recipe.to_vec())
+    }
+}
