@@ -20,7 +20,7 @@ use Rattle.memory.specs.Pages.{programmed, programmedOver, transferred, differi
 use Rattle.memory.specs.Replies.{replied}
 use Rattle.state.specs.Answers.{numberOf}
 use Rattle.state.specs.Completion.{arrayCompleted, bufferCompleted, compareCompleted, completedMemory}
-use Rattle.state.specs.Frames.{isIdle, statusOf, dataOf, replyOf, bufferWritten, written, acted, sentMemory, actedChip}
+use Rattle.state.specs.Frames.{isIdle, statusOf, dataOf, replyOf, bufferWritten, written, acted, sentMemory}
 use Rattle.state.specs.Outcomes.{freshRegisters, freshChip, freshAnswer, freshOutcome, freshFilled, freshArray, framed, sentTo, sendOutcome, repliedBy, sendReply, endedIn, endOutcome, endedArray, endArray, pinOutcome, cutIn, cutOutcome, cutArrayIn, cutArray}
 use Rattle.state.specs.PowerLoss.{arrayLost, lostMemory}
 use Rattle.slots.specs.Calls.{outline, registersAfter, memoryAfter, cutState, openAfter, closedAfter, stepOpen, stepClosed, run, firstCourse, startOpen, startClosed, ran, isGet, countOf, outFrom, callOut, callNext, sentState, rawSent, rawOut, rawNext}
@@ -32,7 +32,7 @@ use Rattle.bench.specs.Start.{freshShort, log}
 use Rattle.bench.specs.Table.{Bench}
 
 pub bench : Bench
-unfolding tabulate over splice andOver same ringRead ringWrite wordAt wordBytes partOf addressAt pageAt byteAt pageStart pageOf inRun sectorOf firstPage endPage sectorRun sectorCount placeIn placeOf lookupIn lookupOf begins sequenceIn opened complete decodeOf room takes commands rowAt sequences sequenceAt padded pack16 bytes16 pack64 bytes64 within placedIn placed runOf sectorsOf inSet writes bufferUsed bitsOf marked writeProtected unprotectedFrom unprotectedSet maskOf lockedBytes completedBy completed startedOn programmedThrough protectionDisabled protectionErased protectionData protectionProgrammed sectorLocked securityData securityProgrammed rowDecided decodedControl control Names classOf usageOf sameBuffer allowed isWake obeyed reaching lostBy lost programmed programmedOver transferred differing erased junked eachSector inSectors junkBuffer replied numberOf arrayCompleted bufferCompleted compareCompleted completedMemory isIdle statusOf dataOf replyOf bufferWritten written acted sentMemory actedChip freshRegisters freshChip freshAnswer freshOutcome freshFilled freshArray framed sentTo sendOutcome repliedBy sendReply endedIn endOutcome endedArray endArray pinOutcome cutIn cutOutcome cutArrayIn cutArray arrayLost lostMemory outline registersAfter memoryAfter cutState openAfter closedAfter stepOpen stepClosed run firstCourse startOpen startClosed ran isGet countOf outFrom callOut callNext sentState rawSent rawOut rawNext shapeOf frameByte loaded frameOf registerIn heardIn courseAfter judged readIn takenIn isEnded isPoll verdictAnswer weighed answerOf straightOut cutFits outOn lentTo outOff outBy outOf nextOn nextOff nextBy nextOf runList leftBy slotSize limitOf lengthIn isRecord image patched getVerdict patchVerdict bound hasOverTwo hasCut badScript callRefusal rawRefusal freshShort log
+unfolding tabulate over splice andOver same ringRead ringWrite wordAt wordBytes partOf addressAt pageAt byteAt pageStart pageOf inRun sectorOf firstPage endPage sectorRun sectorCount placeIn placeOf lookupIn lookupOf begins sequenceIn opened complete decodeOf room takes commands rowAt sequences sequenceAt padded pack16 bytes16 pack64 bytes64 within placedIn placed runOf sectorsOf inSet writes bufferUsed bitsOf marked writeProtected unprotectedFrom unprotectedSet maskOf lockedBytes completedBy completed startedOn programmedThrough protectionDisabled protectionErased protectionData protectionProgrammed sectorLocked securityData securityProgrammed rowDecided decodedControl control Names classOf usageOf sameBuffer allowed isWake obeyed reaching lostBy lost programmed programmedOver transferred differing erased junked eachSector inSectors junkBuffer replied numberOf arrayCompleted bufferCompleted compareCompleted completedMemory isIdle statusOf dataOf replyOf bufferWritten written acted sentMemory freshRegisters freshChip freshAnswer freshOutcome freshFilled freshArray framed sentTo sendOutcome repliedBy sendReply endedIn endOutcome endedArray endArray pinOutcome cutIn cutOutcome cutArrayIn cutArray arrayLost lostMemory outline registersAfter memoryAfter cutState openAfter closedAfter stepOpen stepClosed run firstCourse startOpen startClosed ran isGet countOf outFrom callOut callNext sentState rawSent rawOut rawNext shapeOf frameByte loaded frameOf registerIn heardIn courseAfter judged readIn takenIn isEnded isPoll verdictAnswer weighed answerOf straightOut cutFits outOn lentTo outOff outBy outOf nextOn nextOff nextBy nextOf runList leftBy slotSize limitOf lengthIn isRecord image patched getVerdict patchVerdict bound hasOverTwo hasCut badScript callRefusal rawRefusal freshShort log
 bench =
     record {
       page-5 = refl;

@@ -25,7 +25,7 @@ use Rattle.memory.specs.Pages.{programmed, programmedOver, transferred, differi
 use Rattle.memory.specs.Replies.{replied}
 use Rattle.state.specs.Answers.{numberOf}
 use Rattle.state.specs.Completion.{arrayCompleted, bufferCompleted, compareCompleted, completedMemory}
-use Rattle.state.specs.Frames.{isIdle, statusOf, dataOf, replyOf, bufferWritten, written, acted, sentMemory, actedChip}
+use Rattle.state.specs.Frames.{isIdle, statusOf, dataOf, replyOf, bufferWritten, written, acted, sentMemory}
 use Rattle.state.specs.Outcomes.{freshRegisters, freshChip, freshAnswer, freshOutcome, freshFilled, freshArray, framed, sentTo, sendOutcome, repliedBy, sendReply, endedIn, endOutcome, endedArray, endArray, pinOutcome, cutIn, cutOutcome, cutArrayIn, cutArray}
 use Rattle.state.specs.PowerLoss.{arrayLost, lostMemory}
 use Rattle.slots.specs.Calls.{outline, registersAfter, memoryAfter, cutState, openAfter, closedAfter, stepOpen, stepClosed, run, firstCourse, startOpen, startClosed, ran, isGet, countOf, outFrom, callOut, callNext, sentState, rawSent, rawOut, rawNext}
@@ -40,9 +40,9 @@ abbrev calls : List ℕ → List Op
 calls junk = raw (0x3D ∷ 0x2A ∷ 0x7F ∷ 0xFC ∷ []) (2 ∷ []) junk log (0 ∷ 0 ∷ 0 ∷ 0 ∷ []) ∷ pin false ∷ put 1 1 [] (65 ∷ []) [] log ∷ []
 
 junk-ff : answers (calls (replicate 34320 255)) freshShort ≡ 11 ∷ 0 ∷ 10 ∷ []
-unfolding tabulate over splice andOver same ringRead ringWrite wordAt wordBytes partOf addressAt pageAt byteAt pageStart pageOf inRun sectorOf firstPage endPage sectorRun sectorCount placeIn placeOf lookupIn lookupOf begins sequenceIn opened complete decodeOf room takes commands rowAt sequences sequenceAt padded pack16 bytes16 pack64 bytes64 within placedIn placed runOf sectorsOf inSet writes bufferUsed bitsOf marked writeProtected unprotectedFrom unprotectedSet maskOf lockedBytes completedBy completed startedOn programmedThrough protectionDisabled protectionErased protectionData protectionProgrammed sectorLocked securityData securityProgrammed rowDecided decodedControl control Names classOf usageOf sameBuffer allowed isWake obeyed reaching lostBy lost programmed programmedOver transferred differing erased junked eachSector inSectors junkBuffer replied numberOf arrayCompleted bufferCompleted compareCompleted completedMemory isIdle statusOf dataOf replyOf bufferWritten written acted sentMemory actedChip freshRegisters freshChip freshAnswer freshOutcome freshFilled freshArray framed sentTo sendOutcome repliedBy sendReply endedIn endOutcome endedArray endArray pinOutcome cutIn cutOutcome cutArrayIn cutArray arrayLost lostMemory outline registersAfter memoryAfter cutState openAfter closedAfter stepOpen stepClosed run firstCourse startOpen startClosed ran isGet countOf outFrom callOut callNext sentState rawSent rawOut rawNext shapeOf frameByte loaded frameOf registerIn heardIn courseAfter judged readIn takenIn isEnded isPoll verdictAnswer weighed answerOf straightOut cutFits outOn lentTo outOff outBy outOf nextOn nextOff nextBy nextOf runList leftBy slotSize limitOf lengthIn isRecord image patched getVerdict patchVerdict bound hasOverTwo hasCut badScript callRefusal rawRefusal freshShort log
+unfolding tabulate over splice andOver same ringRead ringWrite wordAt wordBytes partOf addressAt pageAt byteAt pageStart pageOf inRun sectorOf firstPage endPage sectorRun sectorCount placeIn placeOf lookupIn lookupOf begins sequenceIn opened complete decodeOf room takes commands rowAt sequences sequenceAt padded pack16 bytes16 pack64 bytes64 within placedIn placed runOf sectorsOf inSet writes bufferUsed bitsOf marked writeProtected unprotectedFrom unprotectedSet maskOf lockedBytes completedBy completed startedOn programmedThrough protectionDisabled protectionErased protectionData protectionProgrammed sectorLocked securityData securityProgrammed rowDecided decodedControl control Names classOf usageOf sameBuffer allowed isWake obeyed reaching lostBy lost programmed programmedOver transferred differing erased junked eachSector inSectors junkBuffer replied numberOf arrayCompleted bufferCompleted compareCompleted completedMemory isIdle statusOf dataOf replyOf bufferWritten written acted sentMemory freshRegisters freshChip freshAnswer freshOutcome freshFilled freshArray framed sentTo sendOutcome repliedBy sendReply endedIn endOutcome endedArray endArray pinOutcome cutIn cutOutcome cutArrayIn cutArray arrayLost lostMemory outline registersAfter memoryAfter cutState openAfter closedAfter stepOpen stepClosed run firstCourse startOpen startClosed ran isGet countOf outFrom callOut callNext sentState rawSent rawOut rawNext shapeOf frameByte loaded frameOf registerIn heardIn courseAfter judged readIn takenIn isEnded isPoll verdictAnswer weighed answerOf straightOut cutFits outOn lentTo outOff outBy outOf nextOn nextOff nextBy nextOf runList leftBy slotSize limitOf lengthIn isRecord image patched getVerdict patchVerdict bound hasOverTwo hasCut badScript callRefusal rawRefusal freshShort log
 junk-ff = refl
 
 junk-00 : answers (calls (replicate 34320 0)) freshShort ≡ 11 ∷ 0 ∷ 0 ∷ []
-unfolding tabulate over splice andOver same ringRead ringWrite wordAt wordBytes partOf addressAt pageAt byteAt pageStart pageOf inRun sectorOf firstPage endPage sectorRun sectorCount placeIn placeOf lookupIn lookupOf begins sequenceIn opened complete decodeOf room takes commands rowAt sequences sequenceAt padded pack16 bytes16 pack64 bytes64 within placedIn placed runOf sectorsOf inSet writes bufferUsed bitsOf marked writeProtected unprotectedFrom unprotectedSet maskOf lockedBytes completedBy completed startedOn programmedThrough protectionDisabled protectionErased protectionData protectionProgrammed sectorLocked securityData securityProgrammed rowDecided decodedControl control Names classOf usageOf sameBuffer allowed isWake obeyed reaching lostBy lost programmed programmedOver transferred differing erased junked eachSector inSectors junkBuffer replied numberOf arrayCompleted bufferCompleted compareCompleted completedMemory isIdle statusOf dataOf replyOf bufferWritten written acted sentMemory actedChip freshRegisters freshChip freshAnswer freshOutcome freshFilled freshArray framed sentTo sendOutcome repliedBy sendReply endedIn endOutcome endedArray endArray pinOutcome cutIn cutOutcome cutArrayIn cutArray arrayLost lostMemory outline registersAfter memoryAfter cutState openAfter closedAfter stepOpen stepClosed run firstCourse startOpen startClosed ran isGet countOf outFrom callOut callNext sentState rawSent rawOut rawNext shapeOf frameByte loaded frameOf registerIn heardIn courseAfter judged readIn takenIn isEnded isPoll verdictAnswer weighed answerOf straightOut cutFits outOn lentTo outOff outBy outOf nextOn nextOff nextBy nextOf runList leftBy slotSize limitOf lengthIn isRecord image patched getVerdict patchVerdict bound hasOverTwo hasCut badScript callRefusal rawRefusal freshShort log
+unfolding tabulate over splice andOver same ringRead ringWrite wordAt wordBytes partOf addressAt pageAt byteAt pageStart pageOf inRun sectorOf firstPage endPage sectorRun sectorCount placeIn placeOf lookupIn lookupOf begins sequenceIn opened complete decodeOf room takes commands rowAt sequences sequenceAt padded pack16 bytes16 pack64 bytes64 within placedIn placed runOf sectorsOf inSet writes bufferUsed bitsOf marked writeProtected unprotectedFrom unprotectedSet maskOf lockedBytes completedBy completed startedOn programmedThrough protectionDisabled protectionErased protectionData protectionProgrammed sectorLocked securityData securityProgrammed rowDecided decodedControl control Names classOf usageOf sameBuffer allowed isWake obeyed reaching lostBy lost programmed programmedOver transferred differing erased junked eachSector inSectors junkBuffer replied numberOf arrayCompleted bufferCompleted compareCompleted completedMemory isIdle statusOf dataOf replyOf bufferWritten written acted sentMemory freshRegisters freshChip freshAnswer freshOutcome freshFilled freshArray framed sentTo sendOutcome repliedBy sendReply endedIn endOutcome endedArray endArray pinOutcome cutIn cutOutcome cutArrayIn cutArray arrayLost lostMemory outline registersAfter memoryAfter cutState openAfter closedAfter stepOpen stepClosed run firstCourse startOpen startClosed ran isGet countOf outFrom callOut callNext sentState rawSent rawOut rawNext shapeOf frameByte loaded frameOf registerIn heardIn courseAfter judged readIn takenIn isEnded isPoll verdictAnswer weighed answerOf straightOut cutFits outOn lentTo outOff outBy outOf nextOn nextOff nextBy nextOf runList leftBy slotSize limitOf lengthIn isRecord image patched getVerdict patchVerdict bound hasOverTwo hasCut badScript callRefusal rawRefusal freshShort log
 junk-00 = refl

@@ -3,11 +3,12 @@
 -- Assumes nothing.
 use mathlib.Core.Path.{_≡_, refl, sym, ap, _∙_}
 use mathlib.Core.List.{List, [], _∷_, _++_, append-assoc}
-use Prim.Native.Nat.{ℕ, _+_}
+use Prim.Native.Nat.{ℕ, _+_, _≤_}
 use native.Mathlib.Nat.{zero-add}
 use native.Mathlib.Omega.{arith}
-use lib.ListN.{length, set, length-append}
+use lib.ListN.{length, set, take, drop, length-append, length-take, length-drop}
 use Rattle.slices.specs.Lists.{over, splice}
+use Rattle.state.proofs.Lent.{splice-same}
 use Rattle.slices.proofs.Laws.{over-nil, splice-zero, splice-nil, splice-cons, splice-append}
 
 -- `front`, which is n bytes long, is stored: `block` was `xs`
@@ -33,9 +34,16 @@ stored-more {front} {xs} {block} {next} {n} part k l s e =
 pub splice-one : (a y : ℕ) (xs : List ℕ) → set xs a y ≡ splice a (y ∷ []) xs
 splice-one a y xs = sym (splice-cons a y [] xs ∙ splice-nil (a + 1) (set xs a y))
 
--- six parts, and four, with the brackets moved to the right
-pub six : (a b c d e f : List ℕ) → ((((a ++ b) ++ c) ++ d) ++ e) ++ f ≡ a ++ (b ++ (c ++ (d ++ (e ++ f))))
-six a b c d e f = simp append-assoc
+-- a part that is there already is stored
+pub stored-there : {front xs block : List ℕ} {n : ℕ} (part : List ℕ) (k : ℕ) → n + k ≤ length block → take k (drop n block) ≡ part → Stored front xs block n
+    → Stored (front ++ part) xs block (n + k)
+stored-there {front} {xs} {block} {n} part k h e s =
+    let l : length (take k (drop n block)) ≡ k = simp (length-take, length-drop) (omega arith) in
+    stored-more part k (ap length (sym e) ∙ l) s (sym (splice-same n k block h) ∙ ap (λ (t : List ℕ). splice n t block) e)
+
+-- five parts, and four, with the brackets moved to the right
+pub five : (a b c d e : List ℕ) → (((a ++ b) ++ c) ++ d) ++ e ≡ a ++ (b ++ (c ++ (d ++ e)))
+five a b c d e = simp append-assoc
 
 pub four : (a b c d : List ℕ) → ((a ++ b) ++ c) ++ d ≡ a ++ (b ++ (c ++ d))
 four a b c d = simp append-assoc

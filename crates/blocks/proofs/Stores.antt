@@ -27,7 +27,7 @@ unfolding storedIn
 refused-stored block o e = simp (ne-eqb (answered o) 0 e)
 
 -- ---- one byte set: a part before it, a part after it, another byte
-part-before : (a n k : ℕ) (xs : List ℕ) (x : ℕ) → n ≤ k → field a n (set xs (a + k) x) ≡ field a n xs
+pub part-before : (a n k : ℕ) (xs : List ℕ) (x : ℕ) → n ≤ k → field a n (set xs (a + k) x) ≡ field a n xs
 part-before a n k xs x h = ap (λ (t : List ℕ). take n t) (drop-set-add a xs k x) ∙ take-set-le n (drop a xs) k x h
 
 part-after : (a n k : ℕ) (xs : List ℕ) (x : ℕ) → k < a → field a n (set xs k x) ≡ field a n xs

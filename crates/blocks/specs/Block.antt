@@ -143,6 +143,21 @@ headBytes r h =
     h .tag ∷ h .buffer ∷ h .number / 256 % 256 ∷ h .number % 256 ∷
     h .sectors / 16777216 % 256 ∷ h .sectors / 65536 % 256 ∷ h .sectors / 256 % 256 ∷ h .sectors % 256 ∷ []
 
+-- registers with these marks, to give that their four flags
+abbrev pub flagged : Bool → Bool → Bool → Bool → Registers
+flagged programmed enabled wp deep =
+    record {
+      protection = [];
+      lockdown = [];
+      user = [];
+      factory = [];
+      programmed = programmed;
+      enabled = enabled;
+      wp = wp;
+      deep = deep;
+      operation = Idle;
+    }
+
 unfoldable pub encodeRegisters : Registers → List ℕ
 encodeRegisters r =
     r .protection ++ (r .lockdown ++ (r .user ++ (r .factory ++ (headBytes r (headOf (r .operation)) ++ dataBytes (r .operation)))))

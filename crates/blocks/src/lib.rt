@@ -5,12 +5,17 @@ ghost use Prim.Native.Nat.{_+_, _≤_, _<_};
 ghost use lib.ListN.{length, take, replicate};
 ghost use Rattle.slices.specs.Lists.{over, splice};
 ghost use Rattle.registers.specs.Data.{pack16, pack64, bytes16};
-ghost use Rattle.blocks.specs.Block.{field, flag, flagByte, beyond, bufferNumber, numberIn, sectorsIn, bufferedOf, plainOf, decodeOperation, decodeRegisters, decodeChip, headOf, dataBytes, headBytes, encodeRegisters, encodeChip};
+ghost use Rattle.control.specs.Rulings.{marksOf, changed};
+ghost use Rattle.state.specs.Memory.{withRegisters};
+ghost use Rattle.blocks.specs.Block.{field, flag, flagByte, beyond, bufferNumber, numberIn, sectorsIn, bufferedOf, plainOf, decodeOperation, decodeRegisters, decodeChip, headOf, dataBytes, headBytes, flagged, encodeRegisters, encodeChip};
 ghost use Rattle.blocks.specs.Promises.{answered, storedIn};
 use commands::Buffer;
+use control::Change;
+use control::Marks;
 use registers::Data16;
 use registers::Operation;
 use registers::Registers;
+use registers::Seals;
 use state::Chip;
 use state::Outcome;
 
@@ -54,7 +59,7 @@ fn part264(block: &[u8], at: usize) -> [u8; 264]
     bytes
 }
 
-fn is_set(x: u8) -> bool
+pub fn is_set(x: u8) -> bool
     ensures { λ r. ⌜ r ≡ flag x ⌝ }
 {
     x != 0
@@ -161,7 +166,7 @@ fn plain(block: &[u8], tag: u8, n: usize) -> Operation
 }
 
 // The operation under way.
-fn operation(block: &[u8]) -> Operation
+pub fn operation(block: &[u8]) -> Operation
     requires { ⌜ length (now block) ≡ 765 ⌝ }
     ensures { λ r. ⌜ r ≡ decodeOperation (now (block .entry)) ⌝ }
 {
@@ -172,6 +177,25 @@ fn operation(block: &[u8]) -> Operation
         1 => buffered(tag, Buffer::One, n),
         2 => buffered(tag, Buffer::Two, n),
         _ => beyond(),
+    }
+}
+
+// What of the registers decides on a frame, with the operation under way.
+pub fn marks_at(block: &[u8], o: Operation) -> Marks
+    requires { ⌜ (length (now block) ≡ 765) × (o ≡ decodeOperation (now block)) ⌝ }
+    ensures { λ m. ⌜ m ≡ marksOf (decodeRegisters (now (block .entry))) ⌝ }
+{
+    let seals = Seals {
+        protection: part16(block, 0),
+        lockdown: part16(block, 16),
+        enabled: is_set(block[161]),
+        wp: is_set(block[162]),
+    };
+    Marks {
+        seals: seals,
+        programmed: is_set(block[160]),
+        deep: is_set(block[163]),
+        usage: control::usage_of(o),
     }
 }
 
@@ -263,35 +287,14 @@ fn protection_bytes(data: Data16) -> [u8; 64]
     b
 }
 
-fn data_bytes(o: Operation) -> [u8; 64]
-    ensures { λ r. ⌜ r ≡ dataBytes o ⌝ }
-{
-    match o {
-        Operation::Idle => [0u8; 64],
-        Operation::Program { buffer: _, page: _ } => [0u8; 64],
-        Operation::ProgramOver { buffer: _, page: _ } => [0u8; 64],
-        Operation::Transfer { buffer: _, page: _ } => [0u8; 64],
-        Operation::Compare { buffer: _, page: _ } => [0u8; 64],
-        Operation::Rewrite { buffer: _, page: _ } => [0u8; 64],
-        Operation::ErasePage { page: _ } => [0u8; 64],
-        Operation::EraseBlock { block: _ } => [0u8; 64],
-        Operation::EraseSector { sector: _ } => [0u8; 64],
-        Operation::EraseChip { sectors: _ } => [0u8; 64],
-        Operation::EraseProtection => [0u8; 64],
-        Operation::ProgramProtection { data } => protection_bytes(data),
-        Operation::LockSector { sector: _ } => [0u8; 64],
-        Operation::ProgramSecurity { data } => registers::unpacked64(data),
-    }
-}
-
-fn head_bytes(r: Registers, h: Heading) -> [u8; 12]
-    ensures { λ b. ⌜ b ≡ headBytes r h ⌝ }
+fn head_bytes(programmed: bool, enabled: bool, wp: bool, deep: bool, h: Heading) -> [u8; 12]
+    ensures { λ b. ⌜ b ≡ headBytes (flagged programmed enabled wp deep) h ⌝ }
 {
     [
-        flag_byte(r.programmed),
-        flag_byte(r.enabled),
-        flag_byte(r.wp),
-        flag_byte(r.deep),
+        flag_byte(programmed),
+        flag_byte(enabled),
+        flag_byte(wp),
+        flag_byte(deep),
         h.tag,
         h.buffer,
         (h.number / 256 % 256) as u8,
@@ -312,6 +315,59 @@ fn put(block: &mut [u8], at: usize, part: &[u8])
     slices::copy(&mut block[at..e], part);
 }
 
+fn clear_data(block: &mut [u8])
+    requires { ⌜ length (now block) ≡ 765 ⌝ }
+    ensures { λ _. ⌜ now (block .exit) ≡ splice 172 (replicate 64 0) (now (block .entry)) ⌝ }
+{
+    slices::fill(&mut block[172..236], 0);
+}
+
+// The operation's data stored.
+fn put_data(block: &mut [u8], o: Operation)
+    requires { ⌜ length (now block) ≡ 765 ⌝ }
+    ensures { λ _. ⌜ now (block .exit) ≡ splice 172 (dataBytes o) (now (block .entry)) ⌝ }
+{
+    match o {
+        Operation::Idle => clear_data(block),
+        Operation::Program { buffer: _, page: _ } => clear_data(block),
+        Operation::ProgramOver { buffer: _, page: _ } => clear_data(block),
+        Operation::Transfer { buffer: _, page: _ } => clear_data(block),
+        Operation::Compare { buffer: _, page: _ } => clear_data(block),
+        Operation::Rewrite { buffer: _, page: _ } => clear_data(block),
+        Operation::ErasePage { page: _ } => clear_data(block),
+        Operation::EraseBlock { block: _ } => clear_data(block),
+        Operation::EraseSector { sector: _ } => clear_data(block),
+        Operation::EraseChip { sectors: _ } => clear_data(block),
+        Operation::EraseProtection => clear_data(block),
+        Operation::ProgramProtection { data } => {
+            let bytes = protection_bytes(data);
+            put(block, 172, &bytes)
+        }
+        Operation::LockSector { sector: _ } => clear_data(block),
+        Operation::ProgramSecurity { data } => {
+            let bytes = registers::unpacked64(data);
+            put(block, 172, &bytes)
+        }
+    }
+}
+
+// Marks and operation stored: the 76 bytes from index 160 on.
+fn put_operation(
+    block: &mut [u8],
+    programmed: bool,
+    enabled: bool,
+    wp: bool,
+    deep: bool,
+    o: Operation,
+)
+    requires { ⌜ length (now block) ≡ 765 ⌝ }
+    ensures { λ _. ⌜ now (block .exit) ≡ splice 160 (headBytes (flagged programmed enabled wp deep) (headOf o) ++ dataBytes o) (now (block .entry)) ⌝ }
+{
+    let bytes = head_bytes(programmed, enabled, wp, deep, head(o));
+    put(block, 160, &bytes);
+    put_data(block, o);
+}
+
 // The registers stored into the block's first 236 bytes.
 fn encode_registers(block: &mut [u8], r: Registers)
     requires { ⌜ length (now block) ≡ 765 ⌝ }
@@ -326,10 +382,32 @@ fn encode_registers(block: &mut [u8], r: Registers)
     let factory = r.factory;
     put(block, 96, &factory);
     let o = r.operation;
-    let middle = head_bytes(r, head(o));
-    put(block, 160, &middle);
-    let bytes = data_bytes(o);
-    put(block, 172, &bytes);
+    put_operation(block, r.programmed, r.enabled, r.wp, r.deep, o);
+}
+
+// The change stored into a block whose operation under way is `o`; what else the block holds stays, as it is stored.
+pub fn settle(block: &mut [u8], o: Operation, c: Change)
+    requires { ⌜ (length (now block) ≡ 765) × (o ≡ decodeOperation (now block)) ⌝ }
+    ensures { λ _. ⌜ now (block .exit) ≡ encodeChip (withRegisters (decodeChip (now (block .entry))) (changed c (decodeRegisters (now (block .entry))))) ⌝ }
+{
+    let programmed = is_set(block[160]);
+    let enabled = is_set(block[161]);
+    let wp = is_set(block[162]);
+    let deep = is_set(block[163]);
+    block[764] = flag_byte(is_set(block[764]));
+    match c {
+        Change::Nothing => put_operation(block, programmed, enabled, wp, deep, o),
+        Change::Start { operation } => put_operation(
+            block,
+            programmed,
+            enabled,
+            wp,
+            deep,
+            operation,
+        ),
+        Change::Enable { on } => put_operation(block, programmed, on, wp, deep, o),
+        Change::Sleep { on } => put_operation(block, programmed, enabled, wp, on, o),
+    }
 }
 
 // The chip stored into the block.

@@ -1,9 +1,8 @@
 // The command table of the AT45DB081D and which of its rows a frame is.
 // Internal to this repository; no entry point is in this crate.
 ghost use mathlib.Core.Path.{_≡_};
-ghost use Prim.Native.Nat.{_<_};
-ghost use Rattle.commands.specs.Table.{rowAt, sequences};
-ghost use Rattle.commands.specs.Decode.{placeOf, lookupOf, begins, sequenceIn, complete, decodeOf};
+ghost use Rattle.commands.specs.Table.{sequences};
+ghost use Rattle.commands.specs.Decode.{lookupOf, begins, sequenceIn, complete, decodeOf};
 
 // One of the two page buffers.
 pub enum Buffer {
@@ -112,26 +111,6 @@ const COMMANDS: [Command; 31] = [
     Command { opcode: 0xAB, lead: 1, effect: Effect::Resume },
 ];
 
-// Where in COMMANDS the row of each opcode stands; 31 where none has it.
-const PLACES: [u8; 256] = [
-    31, 31, 31, 1, 31, 31, 31, 31, 31, 31, 31, 2, 31, 31, 31, 31,
-    31, 31, 31, 31, 31, 31, 31, 31, 31, 31, 31, 31, 31, 31, 31, 31,
-    31, 31, 31, 31, 31, 31, 31, 31, 31, 31, 31, 31, 31, 31, 31, 31,
-    31, 31, 24, 31, 31, 25, 31, 31, 31, 31, 31, 31, 31, 31, 31, 31,
-    31, 31, 31, 31, 31, 31, 31, 31, 31, 31, 31, 31, 31, 31, 31, 31,
-    16, 31, 31, 18, 31, 19, 31, 31, 22, 23, 31, 31, 31, 31, 31, 31,
-    20, 21, 31, 31, 31, 31, 31, 31, 31, 31, 31, 31, 31, 31, 31, 31,
-    31, 31, 31, 31, 31, 31, 31, 26, 31, 31, 31, 31, 17, 31, 31, 31,
-    31, 15, 13, 9, 7, 14, 10, 8, 11, 12, 31, 31, 31, 31, 31, 31,
-    31, 31, 31, 31, 31, 31, 31, 31, 31, 31, 31, 31, 31, 31, 31, 28,
-    31, 31, 31, 31, 31, 31, 31, 31, 31, 31, 31, 30, 31, 31, 31, 31,
-    31, 31, 31, 31, 31, 31, 31, 31, 31, 29, 31, 31, 31, 31, 31, 31,
-    31, 31, 31, 31, 31, 31, 31, 31, 31, 31, 31, 31, 31, 31, 31, 31,
-    31, 3, 0, 4, 5, 31, 6, 27, 31, 31, 31, 31, 31, 31, 31, 31,
-    31, 31, 31, 31, 31, 31, 31, 31, 31, 31, 31, 31, 31, 31, 31, 31,
-    31, 31, 31, 31, 31, 31, 31, 31, 31, 31, 31, 31, 31, 31, 31, 31,
-];
-
 // What opens the other rows.
 const ERASE_CHIP: [u8; 4] = [0xC7, 0x94, 0x80, 0x9A];
 const ENABLE_PROTECTION: [u8; 4] = [0x3D, 0x2A, 0x7F, 0xA9];
@@ -141,31 +120,45 @@ const PROGRAM_PROTECTION: [u8; 4] = [0x3D, 0x2A, 0x7F, 0xFC];
 const LOCK_SECTOR: [u8; 4] = [0x3D, 0x2A, 0x7F, 0x30];
 const PROGRAM_SECURITY: [u8; 4] = [0x9B, 0x00, 0x00, 0x00];
 
-// Row i of the table.
-fn row(i: usize) -> Command
-    requires { ⌜ i < 31 ⌝ }
-    ensures { λ r. ⌜ r ≡ rowAt i ⌝ }
-{
-    COMMANDS[i]
-}
-
-// Which row has this opcode; 31: none.
-fn place(opcode: u8) -> usize
-    ensures { λ r. ⌜ r ≡ placeOf opcode ⌝ }
-{
-    PLACES[opcode as usize] as usize
-}
-
 // The row with this opcode.
 fn lookup(opcode: u8) -> Found
     ensures { λ r. ⌜ r ≡ lookupOf opcode ⌝ }
 {
-    let i = place(opcode);
-    if i < 31 {
-        let c = row(i);
-        return Found::Row(c);
+    let rows = COMMANDS;
+    match opcode {
+        0xD2 => Found::Row(rows[0]),
+        0x03 => Found::Row(rows[1]),
+        0x0B => Found::Row(rows[2]),
+        0xD1 => Found::Row(rows[3]),
+        0xD3 => Found::Row(rows[4]),
+        0xD4 => Found::Row(rows[5]),
+        0xD6 => Found::Row(rows[6]),
+        0x84 => Found::Row(rows[7]),
+        0x87 => Found::Row(rows[8]),
+        0x83 => Found::Row(rows[9]),
+        0x86 => Found::Row(rows[10]),
+        0x88 => Found::Row(rows[11]),
+        0x89 => Found::Row(rows[12]),
+        0x82 => Found::Row(rows[13]),
+        0x85 => Found::Row(rows[14]),
+        0x81 => Found::Row(rows[15]),
+        0x50 => Found::Row(rows[16]),
+        0x7C => Found::Row(rows[17]),
+        0x53 => Found::Row(rows[18]),
+        0x55 => Found::Row(rows[19]),
+        0x60 => Found::Row(rows[20]),
+        0x61 => Found::Row(rows[21]),
+        0x58 => Found::Row(rows[22]),
+        0x59 => Found::Row(rows[23]),
+        0x32 => Found::Row(rows[24]),
+        0x35 => Found::Row(rows[25]),
+        0x77 => Found::Row(rows[26]),
+        0xD7 => Found::Row(rows[27]),
+        0x9F => Found::Row(rows[28]),
+        0xB9 => Found::Row(rows[29]),
+        0xAB => Found::Row(rows[30]),
+        _ => Found::Missing,
     }
-    Found::Missing
 }
 
 // Whether the frame begins with the four bytes.

@@ -3,3 +3,4 @@ pub mod Rows
 pub mod Names
 pub mod Frames
 pub mod Ends
+pub mod Bearing

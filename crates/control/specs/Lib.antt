@@ -4,3 +4,4 @@ pub mod Completion
 pub mod PowerLoss
 pub mod Names
 pub mod Starts
+pub mod Rulings

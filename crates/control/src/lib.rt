@@ -12,7 +12,8 @@ ghost use Rattle.registers.specs.Fields.{withProtection, withLockdown, withUser
 ghost use Rattle.registers.specs.Operations.{within};
 ghost use Rattle.registers.specs.Protection.{lockedBytes};
 ghost use Rattle.control.specs.Obeyed.{classOf, usageOf, sameBuffer, allowed, isWake, obeyed};
-ghost use Rattle.control.specs.Control.{decided, ignored, started, startedOn, rowOf, protectionDisabled, protectionErased, protectionProgrammed, sectorLocked, securityProgrammed, control};
+ghost use Rattle.control.specs.Control.{startedOn, rowOf, protectionDisabled, protectionErased, protectionProgrammed, sectorLocked, securityProgrammed, control};
+ghost use Rattle.control.specs.Rulings.{marksOf, changed, ruled, WithMarks, Applies};
 ghost use Rattle.control.specs.Completion.{completedBy, completed};
 ghost use Rattle.control.specs.PowerLoss.{afterBuffers, reaching, lostBy, lost};
 use commands::Buffer;
@@ -22,6 +23,7 @@ use registers::Data16;
 use registers::Data64;
 use registers::Operation;
 use registers::Registers;
+use registers::Seals;
 
 // What matters of a command for whether it is obeyed.
 pub enum Class {
@@ -67,6 +69,65 @@ pub struct Decision {
     pub lead: usize,
 }
 
+// What of the registers decides on a frame.
+pub struct Marks {
+    pub seals: Seals,
+    pub programmed: bool,
+    pub deep: bool,
+    pub usage: Usage,
+}
+
+// What a frame changes of the registers.
+pub enum Change {
+    Nothing,
+    Start { operation: Operation },
+    // 01's software-protect mark.
+    Enable { on: bool },
+    // 01's deep mark.
+    Sleep { on: bool },
+}
+
+// A decision with the change in place of the registers.
+pub struct Ruling {
+    pub change: Change,
+    pub action: Action,
+    pub lead: usize,
+}
+
+// ---- marks and changes
+
+pub fn marks_of(r: Registers) -> Marks
+    ensures { λ m. ⌜ m ≡ marksOf r ⌝ }
+{
+    let protection = r.protection;
+    let lockdown = r.lockdown;
+    let o = r.operation;
+    let seals = Seals {
+        protection: protection,
+        lockdown: lockdown,
+        enabled: r.enabled,
+        wp: r.wp,
+    };
+    Marks {
+        seals: seals,
+        programmed: r.programmed,
+        deep: r.deep,
+        usage: usage_of(o),
+    }
+}
+
+// The registers after the change.
+pub fn apply(r: Registers, c: Change) -> Registers
+    ensures { λ n. ⌜ n ≡ changed c r ⌝ }
+{
+    match c {
+        Change::Nothing => r,
+        Change::Start { operation } => registers::with_operation(r, operation),
+        Change::Enable { on } => registers::with_enabled(r, on),
+        Change::Sleep { on } => registers::with_deep(r, on),
+    }
+}
+
 // ---- obeyed or not
 
 fn class_of(e: Effect) -> Class
@@ -104,7 +165,7 @@ fn class_of(e: Effect) -> Class
     }
 }
 
-fn usage_of(o: Operation) -> Usage
+pub fn usage_of(o: Operation) -> Usage
     ensures { λ r. ⌜ r ≡ usageOf o ⌝ }
 {
     match o {
@@ -181,52 +242,60 @@ fn is_wake(c: Class) -> bool
     }
 }
 
-fn is_obeyed(r: Registers, e: Effect) -> bool
-    ensures { λ b. ⌜ b ≡ obeyed r e ⌝ }
+fn is_obeyed(m: Marks, e: Effect) -> bool
+    ensures { λ b. ⌜ WithMarks m (λ r. b ≡ obeyed r e) ⌝ }
 {
     let c = class_of(e);
-    if r.deep {
+    if m.deep {
         if !is_wake(c) {
             return false;
         }
     }
-    let o = r.operation;
-    is_allowed(usage_of(o), c)
+    let u = m.usage;
+    is_allowed(u, c)
 }
 
 // ---- the command table's rows
 
-fn decide(r: Registers, a: Action, lead: usize) -> Decision
-    ensures { λ d. ⌜ d ≡ decided r a lead ⌝ }
+fn rule(c: Change, a: Action, lead: usize) -> Ruling
+    ensures { λ d. ⌜ d ≡ ruled c a lead ⌝ }
 {
-    Decision {
-        registers: r,
+    Ruling {
+        change: c,
         action: a,
         lead: lead,
     }
 }
 
-fn ignore(r: Registers) -> Decision
-    ensures { λ d. ⌜ d ≡ ignored r ⌝ }
+// The registers stay as they are.
+fn tell(a: Action, lead: usize) -> Ruling
+    ensures { λ d. ⌜ d ≡ ruled Change.Nothing a lead ⌝ }
 {
-    decide(r, Action::Silent, 0)
+    rule(Change::Nothing, a, lead)
 }
 
-fn start(r: Registers, o: Operation) -> Decision
-    ensures { λ d. ⌜ d ≡ started r o ⌝ }
+fn ignore() -> Ruling
+    ensures { λ d. ⌜ d ≡ ruled Change.Nothing Action.Silent 0 ⌝ }
 {
-    decide(registers::with_operation(r, o), Action::Silent, 0)
+    rule(Change::Nothing, Action::Silent, 0)
+}
+
+fn start(o: Operation) -> Ruling
+    ensures { λ d. ⌜ d ≡ ruled (Change.Start o) Action.Silent 0 ⌝ }
+{
+    rule(Change::Start { operation: o }, Action::Silent, 0)
 }
 
 // A program or erase: ignored where it names a sealed sector.
-fn start_on(r: Registers, page: usize, o: Operation) -> Decision
+fn start_on(m: Marks, page: usize, o: Operation) -> Ruling
     requires { ⌜ page < 4096 ⌝ }
-    ensures { λ d. ⌜ d ≡ startedOn r page o ⌝ }
+    ensures { λ d. ⌜ Applies m d (λ r. startedOn r page o) ⌝ }
 {
-    if registers::is_write_protected(r, geometry::sector_of(page)) {
-        return ignore(r);
+    let seals = m.seals;
+    if registers::is_write_protected(seals, geometry::sector_of(page)) {
+        return ignore();
     }
-    start(r, o)
+    start(o)
 }
 
 // The page of the address from index `at` on.
@@ -246,14 +315,13 @@ fn byte_named(g: Geometry, frame: &[u8]) -> usize
 }
 
 // D2.
-fn read_page(g: Geometry, r: Registers, frame: &[u8], lead: usize) -> Decision
+fn read_page(g: Geometry, m: Marks, frame: &[u8], lead: usize) -> Ruling
     requires { ⌜ (Sized g (g .pages * g .size)) × (4 ≤ length (now frame)) ⌝ }
-    ensures { λ d. ⌜ d ≡ rowOf g r (now (frame .entry)) lead Effect.ReadPage ⌝ }
+    ensures { λ d. ⌜ Applies m d (λ r. rowOf g r (now (frame .entry)) lead Effect.ReadPage) ⌝ }
 {
     let page = page_named(g, frame, 1);
     let start = byte_named(g, frame);
-    decide(
-        r,
+    tell(
         Action::ReadPage {
             page: page,
             start: start,
@@ -263,23 +331,22 @@ fn read_page(g: Geometry, r: Registers, frame: &[u8], lead: usize) -> Decision
 }
 
 // 03, 0B.
-fn read_array(g: Geometry, r: Registers, frame: &[u8], lead: usize) -> Decision
+fn read_array(g: Geometry, m: Marks, frame: &[u8], lead: usize) -> Ruling
     requires { ⌜ (Sized g (g .pages * g .size)) × (4 ≤ length (now frame)) ⌝ }
-    ensures { λ d. ⌜ d ≡ rowOf g r (now (frame .entry)) lead Effect.ReadArray ⌝ }
+    ensures { λ d. ⌜ Applies m d (λ r. rowOf g r (now (frame .entry)) lead Effect.ReadArray) ⌝ }
 {
     let page = page_named(g, frame, 1);
     let start = geometry::page_start(g, page) + byte_named(g, frame);
-    decide(r, Action::ReadArray { start: start }, lead)
+    tell(Action::ReadArray { start: start }, lead)
 }
 
 // D1/D3, D4/D6.
-fn read_buffer(g: Geometry, r: Registers, frame: &[u8], lead: usize, buffer: Buffer) -> Decision
+fn read_buffer(g: Geometry, m: Marks, frame: &[u8], lead: usize, buffer: Buffer) -> Ruling
     requires { ⌜ (Sized g (g .pages * g .size)) × (4 ≤ length (now frame)) ⌝ }
-    ensures { λ d. ⌜ d ≡ rowOf g r (now (frame .entry)) lead (Effect.ReadBuffer buffer) ⌝ }
+    ensures { λ d. ⌜ Applies m d (λ r. rowOf g r (now (frame .entry)) lead (Effect.ReadBuffer buffer)) ⌝ }
 {
     let start = byte_named(g, frame);
-    decide(
-        r,
+    tell(
         Action::ReadBuffer {
             buffer: buffer,
             start: start,
@@ -289,13 +356,12 @@ fn read_buffer(g: Geometry, r: Registers, frame: &[u8], lead: usize, buffer: Buf
 }
 
 // 84/87.
-fn write_buffer(g: Geometry, r: Registers, frame: &[u8], lead: usize, buffer: Buffer) -> Decision
+fn write_buffer(g: Geometry, m: Marks, frame: &[u8], lead: usize, buffer: Buffer) -> Ruling
     requires { ⌜ (Sized g (g .pages * g .size)) × (4 ≤ length (now frame)) ⌝ }
-    ensures { λ d. ⌜ d ≡ rowOf g r (now (frame .entry)) lead (Effect.WriteBuffer buffer) ⌝ }
+    ensures { λ d. ⌜ Applies m d (λ r. rowOf g r (now (frame .entry)) lead (Effect.WriteBuffer buffer)) ⌝ }
 {
     let start = byte_named(g, frame);
-    decide(
-        r,
+    tell(
         Action::WriteBuffer {
             buffer: buffer,
             start: start,
@@ -305,13 +371,13 @@ fn write_buffer(g: Geometry, r: Registers, frame: &[u8], lead: usize, buffer: Bu
 }
 
 // 83/86.
-fn program(g: Geometry, r: Registers, frame: &[u8], lead: usize, buffer: Buffer) -> Decision
+fn program(g: Geometry, m: Marks, frame: &[u8], lead: usize, buffer: Buffer) -> Ruling
     requires { ⌜ (Sized g (g .pages * g .size)) × (4 ≤ length (now frame)) ⌝ }
-    ensures { λ d. ⌜ d ≡ rowOf g r (now (frame .entry)) lead (Effect.Program buffer) ⌝ }
+    ensures { λ d. ⌜ Applies m d (λ r. rowOf g r (now (frame .entry)) lead (Effect.Program buffer)) ⌝ }
 {
     let page = page_named(g, frame, 1);
     start_on(
-        r,
+        m,
         page,
         Operation::Program {
             buffer: buffer,
@@ -321,13 +387,13 @@ fn program(g: Geometry, r: Registers, frame: &[u8], lead: usize, buffer: Buffer)
 }
 
 // 88/89.
-fn program_over(g: Geometry, r: Registers, frame: &[u8], lead: usize, buffer: Buffer) -> Decision
+fn program_over(g: Geometry, m: Marks, frame: &[u8], lead: usize, buffer: Buffer) -> Ruling
     requires { ⌜ (Sized g (g .pages * g .size)) × (4 ≤ length (now frame)) ⌝ }
-    ensures { λ d. ⌜ d ≡ rowOf g r (now (frame .entry)) lead (Effect.ProgramOver buffer) ⌝ }
+    ensures { λ d. ⌜ Applies m d (λ r. rowOf g r (now (frame .entry)) lead (Effect.ProgramOver buffer)) ⌝ }
 {
     let page = page_named(g, frame, 1);
     start_on(
-        r,
+        m,
         page,
         Operation::ProgramOver {
             buffer: buffer,
@@ -337,24 +403,22 @@ fn program_over(g: Geometry, r: Registers, frame: &[u8], lead: usize, buffer: Bu
 }
 
 // 82/85: sealed, no buffer is written either.
-fn program_through(g: Geometry, r: Registers, frame: &[u8], lead: usize, buffer: Buffer) -> Decision
+fn program_through(g: Geometry, m: Marks, frame: &[u8], lead: usize, buffer: Buffer) -> Ruling
     requires { ⌜ (Sized g (g .pages * g .size)) × (4 ≤ length (now frame)) ⌝ }
-    ensures { λ d. ⌜ d ≡ rowOf g r (now (frame .entry)) lead (Effect.ProgramThrough buffer) ⌝ }
+    ensures { λ d. ⌜ Applies m d (λ r. rowOf g r (now (frame .entry)) lead (Effect.ProgramThrough buffer)) ⌝ }
 {
     let page = page_named(g, frame, 1);
-    if registers::is_write_protected(r, geometry::sector_of(page)) {
-        return ignore(r);
+    let seals = m.seals;
+    if registers::is_write_protected(seals, geometry::sector_of(page)) {
+        return ignore();
     }
-    let n = registers::with_operation(
-        r,
-        Operation::Program {
-            buffer: buffer,
-            page: page,
-        },
-    );
+    let o = Operation::Program {
+        buffer: buffer,
+        page: page,
+    };
     let start = byte_named(g, frame);
-    decide(
-        n,
+    rule(
+        Change::Start { operation: o },
         Action::WriteBuffer {
             buffer: buffer,
             start: start,
@@ -364,31 +428,31 @@ fn program_through(g: Geometry, r: Registers, frame: &[u8], lead: usize, buffer:
 }
 
 // 81.
-fn erase_page(g: Geometry, r: Registers, frame: &[u8], lead: usize) -> Decision
+fn erase_page(g: Geometry, m: Marks, frame: &[u8], lead: usize) -> Ruling
     requires { ⌜ (Sized g (g .pages * g .size)) × (4 ≤ length (now frame)) ⌝ }
-    ensures { λ d. ⌜ d ≡ rowOf g r (now (frame .entry)) lead Effect.ErasePage ⌝ }
+    ensures { λ d. ⌜ Applies m d (λ r. rowOf g r (now (frame .entry)) lead Effect.ErasePage) ⌝ }
 {
     let page = page_named(g, frame, 1);
-    start_on(r, page, Operation::ErasePage { page: page })
+    start_on(m, page, Operation::ErasePage { page: page })
 }
 
 // 50.
-fn erase_block(g: Geometry, r: Registers, frame: &[u8], lead: usize) -> Decision
+fn erase_block(g: Geometry, m: Marks, frame: &[u8], lead: usize) -> Ruling
     requires { ⌜ (Sized g (g .pages * g .size)) × (4 ≤ length (now frame)) ⌝ }
-    ensures { λ d. ⌜ d ≡ rowOf g r (now (frame .entry)) lead Effect.EraseBlock ⌝ }
+    ensures { λ d. ⌜ Applies m d (λ r. rowOf g r (now (frame .entry)) lead Effect.EraseBlock) ⌝ }
 {
     let page = page_named(g, frame, 1);
-    start_on(r, page, Operation::EraseBlock { block: page / 8 })
+    start_on(m, page, Operation::EraseBlock { block: page / 8 })
 }
 
 // 7C.
-fn erase_sector(g: Geometry, r: Registers, frame: &[u8], lead: usize) -> Decision
+fn erase_sector(g: Geometry, m: Marks, frame: &[u8], lead: usize) -> Ruling
     requires { ⌜ (Sized g (g .pages * g .size)) × (4 ≤ length (now frame)) ⌝ }
-    ensures { λ d. ⌜ d ≡ rowOf g r (now (frame .entry)) lead Effect.EraseSector ⌝ }
+    ensures { λ d. ⌜ Applies m d (λ r. rowOf g r (now (frame .entry)) lead Effect.EraseSector) ⌝ }
 {
     let page = page_named(g, frame, 1);
     start_on(
-        r,
+        m,
         page,
         Operation::EraseSector {
             sector: geometry::sector_of(page),
@@ -396,44 +460,49 @@ fn erase_sector(g: Geometry, r: Registers, frame: &[u8], lead: usize) -> Decisio
     )
 }
 
+// C7 94 80 9A.
+fn erase_chip(g: Geometry, m: Marks, frame: &[u8], lead: usize) -> Ruling
+    requires { ⌜ Sized g (g .pages * g .size) ⌝ }
+    ensures { λ d. ⌜ Applies m d (λ r. rowOf g r (now (frame .entry)) lead Effect.EraseChip) ⌝ }
+{
+    let seals = m.seals;
+    start(Operation::EraseChip {
+        sectors: registers::unprotected_set(g, seals),
+    })
+}
+
 // 53/55.
-fn transfer(g: Geometry, r: Registers, frame: &[u8], lead: usize, buffer: Buffer) -> Decision
+fn transfer(g: Geometry, m: Marks, frame: &[u8], lead: usize, buffer: Buffer) -> Ruling
     requires { ⌜ (Sized g (g .pages * g .size)) × (4 ≤ length (now frame)) ⌝ }
-    ensures { λ d. ⌜ d ≡ rowOf g r (now (frame .entry)) lead (Effect.Transfer buffer) ⌝ }
+    ensures { λ d. ⌜ Applies m d (λ r. rowOf g r (now (frame .entry)) lead (Effect.Transfer buffer)) ⌝ }
 {
     let page = page_named(g, frame, 1);
-    start(
-        r,
-        Operation::Transfer {
-            buffer: buffer,
-            page: page,
-        },
-    )
+    start(Operation::Transfer {
+        buffer: buffer,
+        page: page,
+    })
 }
 
 // 60/61.
-fn compare(g: Geometry, r: Registers, frame: &[u8], lead: usize, buffer: Buffer) -> Decision
+fn compare(g: Geometry, m: Marks, frame: &[u8], lead: usize, buffer: Buffer) -> Ruling
     requires { ⌜ (Sized g (g .pages * g .size)) × (4 ≤ length (now frame)) ⌝ }
-    ensures { λ d. ⌜ d ≡ rowOf g r (now (frame .entry)) lead (Effect.Compare buffer) ⌝ }
+    ensures { λ d. ⌜ Applies m d (λ r. rowOf g r (now (frame .entry)) lead (Effect.Compare buffer)) ⌝ }
 {
     let page = page_named(g, frame, 1);
-    start(
-        r,
-        Operation::Compare {
-            buffer: buffer,
-            page: page,
-        },
-    )
+    start(Operation::Compare {
+        buffer: buffer,
+        page: page,
+    })
 }
 
 // 58/59.
-fn rewrite(g: Geometry, r: Registers, frame: &[u8], lead: usize, buffer: Buffer) -> Decision
+fn rewrite(g: Geometry, m: Marks, frame: &[u8], lead: usize, buffer: Buffer) -> Ruling
     requires { ⌜ (Sized g (g .pages * g .size)) × (4 ≤ length (now frame)) ⌝ }
-    ensures { λ d. ⌜ d ≡ rowOf g r (now (frame .entry)) lead (Effect.Rewrite buffer) ⌝ }
+    ensures { λ d. ⌜ Applies m d (λ r. rowOf g r (now (frame .entry)) lead (Effect.Rewrite buffer)) ⌝ }
 {
     let page = page_named(g, frame, 1);
     start_on(
-        r,
+        m,
         page,
         Operation::Rewrite {
             buffer: buffer,
@@ -443,120 +512,123 @@ fn rewrite(g: Geometry, r: Registers, frame: &[u8], lead: usize, buffer: Buffer)
 }
 
 // 3D 2A 7F 9A.
-fn disable_protection(r: Registers) -> Decision
-    ensures { λ d. ⌜ d ≡ protectionDisabled r ⌝ }
+fn disable_protection(m: Marks) -> Ruling
+    ensures { λ d. ⌜ Applies m d (λ r. protectionDisabled r) ⌝ }
 {
-    if r.wp {
-        return decide(registers::with_enabled(r, false), Action::Silent, 0);
+    let seals = m.seals;
+    if seals.wp {
+        return rule(Change::Enable { on: false }, Action::Silent, 0);
     }
-    ignore(r)
+    ignore()
 }
 
 // 3D 2A 7F CF.
-fn erase_protection(r: Registers) -> Decision
-    ensures { λ d. ⌜ d ≡ protectionErased r ⌝ }
+fn erase_protection(m: Marks) -> Ruling
+    ensures { λ d. ⌜ Applies m d (λ r. protectionErased r) ⌝ }
 {
-    if r.wp {
-        return start(r, Operation::EraseProtection);
+    let seals = m.seals;
+    if seals.wp {
+        return start(Operation::EraseProtection);
     }
-    ignore(r)
+    ignore()
 }
 
 // 3D 2A 7F FC.
-fn program_protection(r: Registers, frame: &[u8]) -> Decision
+fn program_protection(m: Marks, frame: &[u8]) -> Ruling
     requires { ⌜ 4 ≤ length (now frame) ⌝ }
-    ensures { λ d. ⌜ d ≡ protectionProgrammed r (now (frame .entry)) ⌝ }
+    ensures { λ d. ⌜ Applies m d (λ r. protectionProgrammed r (now (frame .entry))) ⌝ }
 {
-    if r.wp {
+    let seals = m.seals;
+    if seals.wp {
         let data = registers::protection_data(frame);
-        let n = registers::with_operation(r, Operation::ProgramProtection { data: data });
-        return decide(n, Action::LoadProtection { data: data }, 0);
+        let o = Operation::ProgramProtection { data: data };
+        return rule(
+            Change::Start { operation: o },
+            Action::LoadProtection { data: data },
+            0,
+        );
     }
-    ignore(r)
+    ignore()
 }
 
 // 3D 2A 7F 30: the page is in the last three bytes of the lead.
-fn lock_sector(g: Geometry, r: Registers, frame: &[u8]) -> Decision
+fn lock_sector(g: Geometry, m: Marks, frame: &[u8]) -> Ruling
     requires { ⌜ (Sized g (g .pages * g .size)) × (7 ≤ length (now frame)) ⌝ }
-    ensures { λ d. ⌜ d ≡ sectorLocked g r (now (frame .entry)) ⌝ }
+    ensures { λ d. ⌜ Applies m d (λ r. sectorLocked g r (now (frame .entry))) ⌝ }
 {
     let page = page_named(g, frame, 4);
-    start(
-        r,
-        Operation::LockSector {
-            sector: geometry::sector_of(page),
-        },
-    )
+    start(Operation::LockSector {
+        sector: geometry::sector_of(page),
+    })
 }
 
 // 9B 00 00 00.
-fn program_security(r: Registers, frame: &[u8]) -> Decision
+fn program_security(m: Marks, frame: &[u8]) -> Ruling
     requires { ⌜ 4 ≤ length (now frame) ⌝ }
-    ensures { λ d. ⌜ d ≡ securityProgrammed r (now (frame .entry)) ⌝ }
+    ensures { λ d. ⌜ Applies m d (λ r. securityProgrammed r (now (frame .entry))) ⌝ }
 {
-    if r.programmed {
-        return ignore(r);
+    if m.programmed {
+        return ignore();
     }
     let data = registers::security_data(frame);
-    let n = registers::with_operation(r, Operation::ProgramSecurity { data: data });
-    decide(n, Action::LoadSecurity { data: data }, 0)
+    let o = Operation::ProgramSecurity { data: data };
+    rule(
+        Change::Start { operation: o },
+        Action::LoadSecurity { data: data },
+        0,
+    )
 }
 
 // A row of the command table, for a frame that is obeyed.
-fn row(g: Geometry, r: Registers, frame: &[u8], lead: usize, e: Effect) -> Decision
+fn row(g: Geometry, m: Marks, frame: &[u8], lead: usize, e: Effect) -> Ruling
     requires { ⌜ (Sized g (g .pages * g .size)) × (room e ≤ length (now frame)) × (takes e ≡ true → 4 ≤ length (now frame)) ⌝ }
-    ensures { λ d. ⌜ d ≡ rowOf g r (now (frame .entry)) lead e ⌝ }
+    ensures { λ d. ⌜ Applies m d (λ r. rowOf g r (now (frame .entry)) lead e) ⌝ }
 {
     match e {
-        Effect::ReadPage => read_page(g, r, frame, lead),
-        Effect::ReadArray => read_array(g, r, frame, lead),
-        Effect::ReadBuffer { buffer } => read_buffer(g, r, frame, lead, buffer),
-        Effect::WriteBuffer { buffer } => write_buffer(g, r, frame, lead, buffer),
-        Effect::Program { buffer } => program(g, r, frame, lead, buffer),
-        Effect::ProgramOver { buffer } => program_over(g, r, frame, lead, buffer),
-        Effect::ProgramThrough { buffer } => program_through(g, r, frame, lead, buffer),
-        Effect::ErasePage => erase_page(g, r, frame, lead),
-        Effect::EraseBlock => erase_block(g, r, frame, lead),
-        Effect::EraseSector => erase_sector(g, r, frame, lead),
-        Effect::EraseChip => start(
-            r,
-            Operation::EraseChip {
-                sectors: registers::unprotected_set(g, r),
-            },
-        ),
-        Effect::Transfer { buffer } => transfer(g, r, frame, lead, buffer),
-        Effect::Compare { buffer } => compare(g, r, frame, lead, buffer),
-        Effect::Rewrite { buffer } => rewrite(g, r, frame, lead, buffer),
-        Effect::EnableProtection => decide(registers::with_enabled(r, true), Action::Silent, 0),
-        Effect::DisableProtection => disable_protection(r),
-        Effect::EraseProtection => erase_protection(r),
-        Effect::ProgramProtection => program_protection(r, frame),
-        Effect::LockSector => lock_sector(g, r, frame),
-        Effect::ProgramSecurity => program_security(r, frame),
-        Effect::ReadProtection => decide(r, Action::ReadProtection, lead),
-        Effect::ReadLockdown => decide(r, Action::ReadLockdown, lead),
-        Effect::ReadSecurity => decide(r, Action::ReadSecurity, lead),
-        Effect::ReadStatus => decide(r, Action::ReadStatus, lead),
-        Effect::ReadId => decide(r, Action::ReadId, lead),
-        Effect::PowerDown => decide(registers::with_deep(r, true), Action::Silent, 0),
-        Effect::Resume => decide(registers::with_deep(r, false), Action::Silent, 0),
-        Effect::Unlisted => ignore(r),
+        Effect::ReadPage => read_page(g, m, frame, lead),
+        Effect::ReadArray => read_array(g, m, frame, lead),
+        Effect::ReadBuffer { buffer } => read_buffer(g, m, frame, lead, buffer),
+        Effect::WriteBuffer { buffer } => write_buffer(g, m, frame, lead, buffer),
+        Effect::Program { buffer } => program(g, m, frame, lead, buffer),
+        Effect::ProgramOver { buffer } => program_over(g, m, frame, lead, buffer),
+        Effect::ProgramThrough { buffer } => program_through(g, m, frame, lead, buffer),
+        Effect::ErasePage => erase_page(g, m, frame, lead),
+        Effect::EraseBlock => erase_block(g, m, frame, lead),
+        Effect::EraseSector => erase_sector(g, m, frame, lead),
+        Effect::EraseChip => erase_chip(g, m, frame, lead),
+        Effect::Transfer { buffer } => transfer(g, m, frame, lead, buffer),
+        Effect::Compare { buffer } => compare(g, m, frame, lead, buffer),
+        Effect::Rewrite { buffer } => rewrite(g, m, frame, lead, buffer),
+        Effect::EnableProtection => rule(Change::Enable { on: true }, Action::Silent, 0),
+        Effect::DisableProtection => disable_protection(m),
+        Effect::EraseProtection => erase_protection(m),
+        Effect::ProgramProtection => program_protection(m, frame),
+        Effect::LockSector => lock_sector(g, m, frame),
+        Effect::ProgramSecurity => program_security(m, frame),
+        Effect::ReadProtection => tell(Action::ReadProtection, lead),
+        Effect::ReadLockdown => tell(Action::ReadLockdown, lead),
+        Effect::ReadSecurity => tell(Action::ReadSecurity, lead),
+        Effect::ReadStatus => tell(Action::ReadStatus, lead),
+        Effect::ReadId => tell(Action::ReadId, lead),
+        Effect::PowerDown => rule(Change::Sleep { on: true }, Action::Silent, 0),
+        Effect::Resume => rule(Change::Sleep { on: false }, Action::Silent, 0),
+        Effect::Unlisted => ignore(),
     }
 }
 
 // ---- frames, busy ends and cuts
 
 // What a frame does to the registers, and what it asks of the memory.
-pub fn control_frame(g: Geometry, r: Registers, frame: &[u8]) -> Decision
+pub fn control_frame(g: Geometry, m: Marks, frame: &[u8]) -> Ruling
     requires { ⌜ Sized g (g .pages * g .size) ⌝ }
-    ensures { λ d. ⌜ d ≡ control g r (now (frame .entry)) ⌝ }
+    ensures { λ d. ⌜ Applies m d (λ r. control g r (now (frame .entry))) ⌝ }
 {
     let d = commands::decode(frame);
     let e = d.effect;
-    if is_obeyed(r, e) {
-        return row(g, r, frame, d.lead, e);
+    if is_obeyed(m, e) {
+        return row(g, m, frame, d.lead, e);
     }
-    ignore(r)
+    ignore()
 }
 
 // FC: protection AND data.

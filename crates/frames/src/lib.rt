@@ -1,48 +1,39 @@
-// A frame on a chip whose part is known: the reply, and what it does to the buffers.
+// A frame on a chip whose part is known: the reply, and what it does to the buffers. The buffers are lent as one slice of 528 bytes.
 ghost use mathlib.Core.Path.{_≡_};
 ghost use mathlib.Core.Bool.{cond};
 ghost use mathlib.Core.List.{_++_};
 ghost use Prim.Native.Nat.{_≤_, _<_};
 ghost use lib.ListN.{length};
 ghost use Rattle.geometry.specs.Parts.{Sized};
-ghost use Rattle.slices.specs.Lists.{over, ringWrite};
+ghost use Rattle.slices.specs.Lists.{over, splice, ringWrite};
 ghost use Rattle.registers.specs.Data.{bytes16, bytes64};
 ghost use Rattle.registers.specs.Protection.{guarded};
 ghost use Rattle.control.specs.Names.{Names};
+ghost use Rattle.control.specs.Rulings.{WithMarks};
 ghost use Rattle.memory.specs.Replies.{replied, onceData, ringData};
-ghost use Rattle.state.specs.Memory.{memoryOf, bufferOf, withBuffer};
-ghost use Rattle.state.specs.Frames.{isIdle, statusOf, identity, dataOf, actedChip};
+ghost use Rattle.state.specs.Memory.{memoryIn, bufferStart, lent};
+ghost use Rattle.state.specs.Frames.{isIdle, isFree, statusOf, identity, dataOf, actedOn};
 ghost use Rattle.state.specs.Outcomes.{framed, sentTo, repliedBy};
 use commands::Buffer;
 use control::Action;
+use control::Marks;
+use control::Usage;
 use geometry::Geometry;
 use geometry::Part;
 use registers::Data16;
 use registers::Data64;
-use registers::Operation;
-use registers::Registers;
 use state::Answer;
 use state::Chip;
 use state::Outcome;
 
-fn is_idle(o: Operation) -> bool
-    ensures { λ r. ⌜ r ≡ isIdle o ⌝ }
+fn is_free(u: Usage) -> bool
+    ensures { λ r. ⌜ r ≡ isFree u ⌝ }
 {
-    match o {
-        Operation::Idle => true,
-        Operation::Program { buffer: _, page: _ } => false,
-        Operation::ProgramOver { buffer: _, page: _ } => false,
-        Operation::Transfer { buffer: _, page: _ } => false,
-        Operation::Compare { buffer: _, page: _ } => false,
-        Operation::Rewrite { buffer: _, page: _ } => false,
-        Operation::ErasePage { page: _ } => false,
-        Operation::EraseBlock { block: _ } => false,
-        Operation::EraseSector { sector: _ } => false,
-        Operation::EraseChip { sectors: _ } => false,
-        Operation::EraseProtection => false,
-        Operation::ProgramProtection { data: _ } => false,
-        Operation::LockSector { sector: _ } => false,
-        Operation::ProgramSecurity { data: _ } => false,
+    match u {
+        Usage::Free => true,
+        Usage::NoBuffer => false,
+        Usage::Uses { buffer: _ } => false,
+        Usage::Exclusive => false,
     }
 }
 
@@ -60,33 +51,29 @@ fn status(ready: bool, compare: bool, protect: bool) -> u8
 
 // ---- replies
 
-fn reply_buffer(g: Geometry, c: Chip, lead: usize, buffer: Buffer, start: usize, reply: &mut [u8])
-    requires { ⌜ (g .size ≤ 264) × (start < g .size) × (lead ≤ length (now reply)) ⌝ }
-    ensures { λ _. ⌜ now (reply .exit) ≡ replied (length (now (reply .entry))) lead (ringData (g .size) start (bufferOf c buffer)) ⌝ }
+fn reply_buffer(
+    g: Geometry,
+    buffers: &[u8],
+    lead: usize,
+    buffer: Buffer,
+    start: usize,
+    reply: &mut [u8],
+)
+    requires { ⌜ (g .size ≤ 264) × (start < g .size) × (lead ≤ length (now reply)) × (length (now buffers) ≡ 528) ⌝ }
+    ensures { λ _. ⌜ now (reply .exit) ≡ replied (length (now (reply .entry))) lead (ringData (g .size) start (lent buffer (now (buffers .entry)))) ⌝ }
 {
-    let b = state::buffer_of(c, buffer);
-    memory::reply_ring(reply, lead, &b, g.size, start);
+    let a = state::buffer_start(buffer);
+    let e = a + 264;
+    memory::reply_ring(reply, lead, &buffers[a..e], g.size, start);
 }
 
-fn reply_security(r: Registers, lead: usize, reply: &mut [u8])
+fn reply_status(m: Marks, compare: bool, lead: usize, reply: &mut [u8])
     requires { ⌜ lead ≤ length (now reply) ⌝ }
-    ensures { λ _. ⌜ now (reply .exit) ≡ replied (length (now (reply .entry))) lead (onceData (r .user ++ r .factory)) ⌝ }
+    ensures { λ _. ⌜ WithMarks m (λ r. now (reply .exit) ≡ replied (length (now (reply .entry))) lead (λ _. statusOf (isIdle (r .operation)) compare (guarded r))) ⌝ }
 {
-    let user = r.user;
-    let factory = r.factory;
-    let mut bytes = [0u8; 128];
-    slices::copy(&mut bytes[..64], &user);
-    slices::copy(&mut bytes[64..], &factory);
-    memory::reply_once(reply, lead, &bytes);
-}
-
-fn reply_status(c: Chip, lead: usize, reply: &mut [u8])
-    requires { ⌜ lead ≤ length (now reply) ⌝ }
-    ensures { λ _. ⌜ now (reply .exit) ≡ replied (length (now (reply .entry))) lead (λ _. statusOf (isIdle (c .registers .operation)) (c .compare) (guarded (c .registers))) ⌝ }
-{
-    let r = c.registers;
-    let o = r.operation;
-    let value = status(is_idle(o), c.compare, registers::is_guarded(r));
+    let u = m.usage;
+    let seals = m.seals;
+    let value = status(is_free(u), compare, registers::is_guarded(seals));
     memory::reply_repeated(reply, lead, value);
 }
 
@@ -106,17 +93,34 @@ fn reply_identity(lead: usize, reply: &mut [u8])
     memory::reply_once(reply, lead, &b);
 }
 
-// The reply to a frame: made from the chip as it was before the frame.
-fn respond(g: Geometry, c: Chip, array: &[u8], a: Action, lead: usize, reply: &mut [u8])
-    requires { ⌜ (Sized g (length (now array))) × (Names g a) × (lead ≤ length (now reply)) ⌝ }
-    ensures { λ _. ⌜ now (reply .exit) ≡ replied (length (now (reply .entry))) lead (dataOf g (c .registers) (memoryOf c (now (array .entry))) a) ⌝ }
+// The reply to a frame: made from the chip as it was before the frame. `security`: user and factory bytes.
+pub fn respond(
+    g: Geometry,
+    m: Marks,
+    compare: bool,
+    security: &[u8],
+    buffers: &[u8],
+    array: &[u8],
+    a: Action,
+    lead: usize,
+    reply: &mut [u8],
+)
+    requires { ⌜ (Sized g (length (now array))) × (Names g a) × (lead ≤ length (now reply)) × (length (now buffers) ≡ 528) ⌝ }
+    ensures { λ _. ⌜ WithMarks m (λ r. now (security .entry) ≡ r .user ++ r .factory → now (reply .exit) ≡ replied (length (now (reply .entry))) lead (dataOf g r (memoryIn (now (array .entry)) (now (buffers .entry)) compare) a)) ⌝ }
 {
-    let r = c.registers;
+    let seals = m.seals;
     match a {
         Action::Silent => memory::reply_nothing(reply, lead),
         Action::ReadPage { page, start } => memory::reply_page(g, reply, lead, array, page, start),
         Action::ReadArray { start } => memory::reply_ring(reply, lead, array, array.len(), start),
-        Action::ReadBuffer { buffer, start } => reply_buffer(g, c, lead, buffer, start, reply),
+        Action::ReadBuffer { buffer, start } => reply_buffer(
+            g,
+            buffers,
+            lead,
+            buffer,
+            start,
+            reply,
+        ),
         Action::WriteBuffer {
             buffer: _,
             start: _,
@@ -124,73 +128,74 @@ fn respond(g: Geometry, c: Chip, array: &[u8], a: Action, lead: usize, reply: &m
         Action::LoadProtection { data: _ } => memory::reply_nothing(reply, lead),
         Action::LoadSecurity { data: _ } => memory::reply_nothing(reply, lead),
         Action::ReadProtection => {
-            let bytes = r.protection;
+            let bytes = seals.protection;
             reply_register(bytes, lead, reply)
         }
         Action::ReadLockdown => {
-            let bytes = r.lockdown;
+            let bytes = seals.lockdown;
             reply_register(bytes, lead, reply)
         }
-        Action::ReadSecurity => reply_security(r, lead, reply),
-        Action::ReadStatus => reply_status(c, lead, reply),
+        Action::ReadSecurity => memory::reply_once(reply, lead, security),
+        Action::ReadStatus => reply_status(m, compare, lead, reply),
         Action::ReadId => reply_identity(lead, reply),
     }
 }
 
 // ---- what a frame does to the buffers
 
-fn write_buffer(g: Geometry, c: Chip, buffer: Buffer, start: usize, bytes: &[u8]) -> Chip
-    requires { ⌜ (g .size ≤ 264) × (start < g .size) ⌝ }
-    ensures { λ r. ⌜ r ≡ withBuffer c buffer (ringWrite (g .size) start (now (bytes .entry)) (bufferOf c buffer)) ⌝ }
+fn write_buffer(g: Geometry, buffers: &mut [u8], buffer: Buffer, start: usize, bytes: &[u8])
+    requires { ⌜ (g .size ≤ 264) × (start < g .size) × (length (now buffers) ≡ 528) ⌝ }
+    ensures { λ _. ⌜ now (buffers .exit) ≡ splice (bufferStart buffer) (ringWrite (g .size) start (now (bytes .entry)) (lent buffer (now (buffers .entry)))) (now (buffers .entry)) ⌝ }
 {
-    let mut b = state::buffer_of(c, buffer);
-    slices::ring_write(&mut b, g.size, start, bytes);
-    state::with_buffer(c, buffer, b)
+    let a = state::buffer_start(buffer);
+    let e = a + 264;
+    slices::ring_write(&mut buffers[a..e], g.size, start, bytes);
 }
 
-fn load_protection(c: Chip, data: Data16) -> Chip
-    ensures { λ r. ⌜ r ≡ withBuffer c Buffer.One (over (bytes16 «data») (c .buffer1)) ⌝ }
+fn load_protection(buffers: &mut [u8], data: Data16)
+    requires { ⌜ length (now buffers) ≡ 528 ⌝ }
+    ensures { λ _. ⌜ now (buffers .exit) ≡ over (bytes16 «data») (now (buffers .entry)) ⌝ }
 {
     let bytes = registers::unpacked16(data);
-    let mut b = c.buffer1;
-    slices::copy(&mut b[..16], &bytes);
-    state::with_buffer(c, Buffer::One, b)
+    slices::copy(&mut buffers[..16], &bytes);
 }
 
-fn load_security(c: Chip, data: Data64) -> Chip
-    ensures { λ r. ⌜ r ≡ withBuffer c Buffer.One (over (bytes64 «data») (c .buffer1)) ⌝ }
+fn load_security(buffers: &mut [u8], data: Data64)
+    requires { ⌜ length (now buffers) ≡ 528 ⌝ }
+    ensures { λ _. ⌜ now (buffers .exit) ≡ over (bytes64 «data») (now (buffers .entry)) ⌝ }
 {
     let bytes = registers::unpacked64(data);
-    let mut b = c.buffer1;
-    slices::copy(&mut b[..64], &bytes);
-    state::with_buffer(c, Buffer::One, b)
+    slices::copy(&mut buffers[..64], &bytes);
 }
 
-// The chip with the buffer that the frame writes; its registers are set by the caller.
-fn act(g: Geometry, c: Chip, a: Action, bytes: &[u8]) -> Chip
-    requires { ⌜ (g .size ≤ 264) × (Names g a) ⌝ }
-    ensures { λ r. ⌜ r ≡ actedChip g a (now (bytes .entry)) c ⌝ }
+// What a frame writes into a buffer; `bytes`: its data.
+pub fn act(g: Geometry, buffers: &mut [u8], a: Action, bytes: &[u8])
+    requires { ⌜ (g .size ≤ 264) × (Names g a) × (length (now buffers) ≡ 528) ⌝ }
+    ensures { λ _. ⌜ now (buffers .exit) ≡ actedOn g a (now (bytes .entry)) (now (buffers .entry)) ⌝ }
 {
     match a {
-        Action::Silent => c,
-        Action::ReadPage { page: _, start: _ } => c,
-        Action::ReadArray { start: _ } => c,
+        Action::Silent => {}
+        Action::ReadPage { page: _, start: _ } => {}
+        Action::ReadArray { start: _ } => {}
         Action::ReadBuffer {
             buffer: _,
             start: _,
-        } => c,
-        Action::WriteBuffer { buffer, start } => write_buffer(g, c, buffer, start, bytes),
-        Action::LoadProtection { data } => load_protection(c, data),
-        Action::LoadSecurity { data } => load_security(c, data),
-        Action::ReadProtection => c,
-        Action::ReadLockdown => c,
-        Action::ReadSecurity => c,
-        Action::ReadStatus => c,
-        Action::ReadId => c,
+        } => {}
+        Action::WriteBuffer { buffer, start } => write_buffer(g, buffers, buffer, start, bytes),
+        Action::LoadProtection { data } => load_protection(buffers, data),
+        Action::LoadSecurity { data } => load_security(buffers, data),
+        Action::ReadProtection => {}
+        Action::ReadLockdown => {}
+        Action::ReadSecurity => {}
+        Action::ReadStatus => {}
+        Action::ReadId => {}
     }
 }
 
-fn is_framed(frame: usize, reply: usize) -> bool
+// ---- a frame
+
+// A frame of 1 to 1,100 bytes, with a reply as long.
+pub fn is_framed(frame: usize, reply: usize) -> bool
     ensures { λ r. ⌜ r ≡ framed frame reply ⌝ }
 {
     if frame < 1 {
@@ -202,6 +207,7 @@ fn is_framed(frame: usize, reply: usize) -> bool
     frame == reply
 }
 
+// The frame sent to a chip by value.
 pub fn send_to(g: Geometry, c: Chip, array: &[u8], frame: &[u8], reply: &mut [u8]) -> Outcome
     requires { ⌜ Sized g (length (now array)) ⌝ }
     ensures { λ r. ⌜ (r ≡ sentTo (Part.Known g) c (now (array .entry)) (now (frame .entry)) (length (now (reply .entry)))) × (now (reply .exit) ≡ repliedBy (Part.Known g) c (now (array .entry)) (now (frame .entry)) (now (reply .entry))) ⌝ }
@@ -213,14 +219,18 @@ pub fn send_to(g: Geometry, c: Chip, array: &[u8], frame: &[u8], reply: &mut [u8
         };
     }
     let r = c.registers;
-    let d = control::control_frame(g, r, frame);
+    let m = control::marks_of(r);
+    let d = control::control_frame(g, m, frame);
     let a = d.action;
     let lead = d.lead;
-    respond(g, c, array, a, lead, reply);
-    let n = act(g, c, a, &frame[lead..]);
-    let after = d.registers;
+    let security = state::security_of(r);
+    let mut buffers = state::buffers_of(c);
+    respond(g, m, c.compare, &security, &buffers, array, a, lead, reply);
+    act(g, &mut buffers, a, &frame[lead..]);
+    let change = d.change;
+    let after = control::apply(r, change);
     Outcome {
         answer: Answer::Done,
-        chip: state::with_registers(n, after),
+        chip: state::chip_of(after, buffers, c.compare),
     }
 }

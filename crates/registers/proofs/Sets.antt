@@ -1,7 +1,8 @@
 -- Sets of sectors, held as numbers: bit s is sector s. A number is its last bit and twice the rest, so what holds of its bits goes
 -- by recursion on their place.
 -- Assumes nothing.
-use mathlib.Core.Path.{_≡_, sym, ap, _∙_}
+use mathlib.Core.Path.{_≡_, refl, sym, ap, _∙_}
+use mathlib.Core.List.{[]}
 use mathlib.Core.Bool.{Bool, true, false, cond, not}
 use Prim.Native.Nat.{ℕ, zero, suc, _+_, _-_, _*_, _/_, _%_, _^_, _<_, _≤_}
 use native.Mathlib.Nat.{add-zero, zero-add, zero-div, div-eq-of-lt, lt-of-lt-of-le, pow-suc}
@@ -11,9 +12,11 @@ use lib.Dec.{eqb}
 use lib.Pow.{pow-mono, shr-shr}
 use Rattle.geometry.specs.declared.Geometry.{Geometry}
 use Rattle.geometry.specs.Sectors.{sectorCount}
+use Rattle.registers.specs.declared.Operation.the-variants.{Idle}
 use Rattle.registers.specs.declared.Registers.{Registers}
+use Rattle.registers.specs.declared.Seals.{Seals}
 use Rattle.registers.specs.Operations.{inSet}
-use Rattle.registers.specs.Protection.{writeProtected, unprotectedFrom, unprotectedSet}
+use Rattle.registers.specs.Protection.{writeProtected, sealsOf, unprotectedFrom, unprotectedSet}
 
 -- a number below 2 ^ n has none of the sectors from n on
 pub in-beyond : (sectors n s : ℕ) → sectors < 2 ^ n → n ≤ s → inSet sectors s ≡ false
@@ -92,6 +95,32 @@ from-all g r n s m e l h =
     let d : n - s ≡ sectorCount g = omega arith in
     let z : s ≡ 0 = omega arith in
     h ∙ ap (λ (k : ℕ). unprotectedFrom r k s) d ∙ ap (λ (t : ℕ). unprotectedFrom r (sectorCount g) t) z
+
+-- ---- what is not among the seals does not matter
+
+-- registers with these seals and nothing else
+abbrev pub bare : Seals → Registers
+bare s =
+    record {
+      protection = s .protection;
+      lockdown = s .lockdown;
+      user = [];
+      factory = [];
+      programmed = false;
+      enabled = s .enabled;
+      wp = s .wp;
+      deep = false;
+      operation = Idle;
+    }
+
+from-alike : (r : Registers) (n s : ℕ) → unprotectedFrom (bare (sealsOf r)) n s ≡ unprotectedFrom r n s
+unfolding unprotectedFrom writeProtected
+from-alike r zero s = refl
+from-alike r (suc n) s = ap (λ (m : ℕ). cond (writeProtected r s) 0 1 + 2 * m) (from-alike r n (s + 1))
+
+pub set-alike : (g : Geometry) (r : Registers) (z : Seals) → sealsOf r ≡ z → unprotectedSet g (bare z) ≡ unprotectedSet g r
+unfolding unprotectedSet
+set-alike g r z e = ap (λ (x : Seals). unprotectedSet g (bare x)) (sym e) ∙ from-alike r (sectorCount g) 0
 
 -- ---- the sectors that a Chip Erase finds unsealed
 pub unprotected-small : (g : Geometry) (r : Registers) → unprotectedSet g r < 2 ^ sectorCount g

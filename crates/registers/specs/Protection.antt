@@ -1,6 +1,7 @@
 -- Listed, locked and sealed sectors (01, "The chip"). Sectors are numbered 0 to 16: 0 is 0a, 1 is 0b, j + 1 is sector j.
 -- Assumes nothing.
 use Prim.Native.Nat.{ℕ, zero, suc, _+_, _-_, _*_, _/_, _%_}
+use mathlib.Core.Path.{_≡_}
 use mathlib.Core.Bool.{Bool, cond, not, _&&_, _||_}
 use mathlib.Core.List.{List}
 use lib.ListN.{getD, set}
@@ -9,6 +10,7 @@ use lib.Bits.{bitOr}
 use Rattle.geometry.specs.declared.Geometry.{Geometry}
 use Rattle.geometry.specs.Sectors.{sectorCount}
 use Rattle.registers.specs.declared.Registers.{Registers}
+use Rattle.registers.specs.declared.Seals.{Seals}
 
 -- "Byte j serves sector j; in byte 0, bits 7-6 serve 0a and bits 5-4 serve 0b": the bits that serve a sector
 unfoldable pub bitsOf : List ℕ → ℕ → ℕ
@@ -23,6 +25,14 @@ marked bytes s = not (eqb (bitsOf bytes s) 0)
 -- "while the mark is set or WP is low"
 abbrev pub guarded : Registers → Bool
 guarded r = r .enabled || not (r .wp)
+
+-- what of the registers decides that
+abbrev pub sealsOf : Registers → Seals
+sealsOf r = record { protection = r .protection; lockdown = r .lockdown; enabled = r .enabled; wp = r .wp }
+
+-- it holds of all registers that have these seals
+abbrev pub WithSeals : Seals → (Registers → Type 0) → Type 0
+WithSeals s P = (r : Registers) → sealsOf r ≡ s → P r
 
 -- "It is sealed if locked, or if listed while the mark is set or WP is low."
 unfoldable pub writeProtected : Registers → ℕ → Bool

@@ -7,7 +7,7 @@ ghost use lib.ListN.{length, drop};
 ghost use Rattle.geometry.specs.Parts.{Sized};
 ghost use Rattle.registers.specs.Data.{padded, pack16, pack64, bytes16, bytes64};
 ghost use Rattle.registers.specs.Fields.{withProtection, withLockdown, withUser, withEnabled, withWp, withDeep, withOperation, restarted};
-ghost use Rattle.registers.specs.Protection.{bitsOf, marked, guarded, writeProtected, unprotectedSet, maskOf, lockedBytes};
+ghost use Rattle.registers.specs.Protection.{bitsOf, marked, guarded, writeProtected, unprotectedSet, WithSeals, maskOf, lockedBytes};
 ghost use Rattle.registers.specs.Operations.{within, placed, runOf, sectorsOf, bufferUsed};
 use commands::Buffer;
 use geometry::Geometry;
@@ -72,6 +72,14 @@ pub struct Registers {
     // 01's deep mark: deep power-down.
     pub deep: bool,
     pub operation: Operation,
+}
+
+// What of the registers decides which sectors are sealed.
+pub struct Seals {
+    pub protection: [u8; 16],
+    pub lockdown: [u8; 16],
+    pub enabled: bool,
+    pub wp: bool,
 }
 
 // ---- the data of an FC or 9B
@@ -246,42 +254,42 @@ fn is_marked(bytes: [u8; 16], sector: usize) -> bool
 }
 
 // The software-protect mark is set, or WP is low.
-pub fn is_guarded(r: Registers) -> bool
-    ensures { λ b. ⌜ b ≡ guarded r ⌝ }
+pub fn is_guarded(s: Seals) -> bool
+    ensures { λ b. ⌜ WithSeals s (λ r. b ≡ guarded r) ⌝ }
 {
-    if r.enabled {
+    if s.enabled {
         return true;
     }
-    !r.wp
+    !s.wp
 }
 
 // 01's sealed.
-pub fn is_write_protected(r: Registers, sector: usize) -> bool
+pub fn is_write_protected(s: Seals, sector: usize) -> bool
     requires { ⌜ sector < 17 ⌝ }
-    ensures { λ b. ⌜ b ≡ writeProtected r sector ⌝ }
+    ensures { λ b. ⌜ WithSeals s (λ r. b ≡ writeProtected r sector) ⌝ }
 {
-    let lockdown = r.lockdown;
+    let lockdown = s.lockdown;
     if is_marked(lockdown, sector) {
         return true;
     }
-    let protection = r.protection;
+    let protection = s.protection;
     if is_marked(protection, sector) {
-        return is_guarded(r);
+        return is_guarded(s);
     }
     false
 }
 
 // The sectors of the part that are not sealed: bit i is sector i.
-pub fn unprotected_set(g: Geometry, r: Registers) -> u32
+pub fn unprotected_set(g: Geometry, seals: Seals) -> u32
     requires { ⌜ Sized g (g .pages * g .size) ⌝ }
-    ensures { λ m. ⌜ m ≡ unprotectedSet g r ⌝ }
+    ensures { λ m. ⌜ WithSeals seals (λ r. m ≡ unprotectedSet g r) ⌝ }
 {
     let mut s = geometry::sector_count(g);
     let mut m: u32 = 0;
     while 0 < s {
         s -= 1;
         m = 2 * m;
-        if !is_write_protected(r, s) {
+        if !is_write_protected(seals, s) {
             m += 1;
         }
     }

@@ -40,9 +40,7 @@ pub extern "C" fn slipknoll_send(
 ) -> u8
     ensures { λ r. ⌜ (r ≡ answered (sendOutcome (decodeChip (now (block .entry))) (now (array .entry)) (now (frame .entry)) (length (now (reply .entry))))) × (now (block .exit) ≡ storedIn (now (block .entry)) (sendOutcome (decodeChip (now (block .entry))) (now (array .entry)) (now (frame .entry)) (length (now (reply .entry))))) × (now (reply .exit) ≡ sendReply (decodeChip (now (block .entry))) (now (array .entry)) (now (frame .entry)) (now (reply .entry))) ⌝ }
 {
-    let c = blocks::decode(block);
-    let o = chip::send(c, array, frame, reply);
-    blocks::store(block, o)
+    inplace::send(block, array, frame, reply)
 }
 
 // The operation under way ends and takes effect. Answers 0, 1.
@@ -50,9 +48,7 @@ pub extern "C" fn slipknoll_send(
 pub extern "C" fn slipknoll_end_busy(block: &mut [u8; 765], array: &mut [u8]) -> u8
     ensures { λ r. ⌜ (r ≡ answered (endOutcome (decodeChip (now (block .entry))) (now (array .entry)))) × (now (block .exit) ≡ storedIn (now (block .entry)) (endOutcome (decodeChip (now (block .entry))) (now (array .entry)))) × (now (array .exit) ≡ endArray (decodeChip (now (block .entry))) (now (array .entry))) ⌝ }
 {
-    let c = blocks::decode(block);
-    let o = chip::end_busy(c, array);
-    blocks::store(block, o)
+    inplace::end_busy(block, array)
 }
 
 // The WP pin is moved. Answer 0.

@@ -14,42 +14,49 @@ use Rattle.geometry.specs.declared.Geometry.{Geometry}
 use Rattle.geometry.specs.Parts.{Sized}
 use Rattle.commands.specs.declared.Buffer.{Buffer}
 use Rattle.commands.specs.declared.Buffer.the-variants.{One, Two}
+use Rattle.registers.specs.declared.Operation.{Operation}
+use Rattle.registers.specs.declared.Operation.the-variants.{Idle, Program, ProgramOver, Transfer, Compare, Rewrite, ErasePage, EraseBlock, EraseSector, EraseChip, EraseProtection, ProgramProtection, LockSector, ProgramSecurity}
 use Rattle.registers.specs.declared.Registers.{Registers}
 use Rattle.control.specs.declared.Action.{Action}
 use Rattle.control.specs.declared.Action.the-variants.{ReadPage, ReadArray, ReadBuffer, WriteBuffer}
 use Rattle.control.specs.declared.Decision.{Decision}
+use Rattle.control.specs.declared.Ruling.{Ruling}
 use Rattle.control.specs.Control.{control}
+use Rattle.control.specs.Rulings.{applied, changed}
 use Rattle.control.specs.Names.{Names}
+use Rattle.control.specs.Obeyed.{usageOf}
 use Rattle.control.proofs.Names.{control-names, control-lead}
 use Rattle.memory.specs.Replies.{replied}
-use Rattle.state.specs.declared.Chip.{Chip}
-use Rattle.state.specs.Memory.{Memory, memoryOf, chipOf, withRegisters, either, bufferOf, withBuffer, withCompare}
-use Rattle.state.specs.Frames.{dataOf, replyOf, acted, sentMemory, actedChip}
+use Rattle.state.specs.Memory.{Memory, memoryIn, either}
+use Rattle.state.specs.Frames.{isIdle, isFree, dataOf, replyOf, acted, sentMemory, actedOn}
+use Rattle.state.proofs.Lent.{acted-lent}
 
 -- both buffers as they were
 pub either-same : (b : Buffer) (l : List ℕ) → either b l l ≡ l
 either-same One l = refl
 either-same Two l = refl
 
--- the chip as it was, whichever buffer is meant
-pub chip-same : (b : Buffer) (c : Chip) → c ≡ record { registers = c .registers; buffer1 = either b (c .buffer1) (c .buffer1); buffer2 = either b (c .buffer2) (c .buffer2); compare = c .compare }
-chip-same One c = refl
-chip-same Two c = refl
-
-pub compare-same : (b : Buffer) (c : Chip) (bit : Bool)
-    → withCompare c bit ≡ record { registers = c .registers; buffer1 = either b (c .buffer1) (c .buffer1); buffer2 = either b (c .buffer2) (c .buffer2); compare = bit }
-compare-same One c bit = refl
-compare-same Two c bit = refl
-
 -- a buffer whose beginning was lent and came back as other bytes
 pub begun : (k : ℕ) (xs ys zs : List ℕ) → k ≤ length xs → k ≡ length zs → ys ≡ zs → ys ++ drop k xs ≡ over zs xs
 begun k xs ys zs h l e = head-spliced xs h l e ∙ splice-zero zs xs
 
--- one buffer changed
-pub buffer-changed : (b : Buffer) (c : Chip) (f : List ℕ → List ℕ)
-    → withBuffer c b (f (bufferOf c b)) ≡ record { registers = c .registers; buffer1 = either b (f (c .buffer1)) (c .buffer1); buffer2 = either b (c .buffer2) (f (c .buffer2)); compare = c .compare }
-buffer-changed One c f = refl
-buffer-changed Two c f = refl
+-- ---- ready or not, by what the operation uses
+pub free-idle : (o : Operation) → isFree (usageOf o) ≡ isIdle o
+unfolding isFree usageOf isIdle
+free-idle Idle = refl
+free-idle (Program b page) = refl
+free-idle (ProgramOver b page) = refl
+free-idle (Transfer b page) = refl
+free-idle (Compare b page) = refl
+free-idle (Rewrite b page) = refl
+free-idle (ErasePage page) = refl
+free-idle (EraseBlock block) = refl
+free-idle (EraseSector s) = refl
+free-idle (EraseChip sectors) = refl
+free-idle EraseProtection = refl
+free-idle (ProgramProtection d) = refl
+free-idle (LockSector s) = refl
+free-idle (ProgramSecurity d) = refl
 
 -- ---- what an action names
 module _ (g : Geometry) (a : Action) where
@@ -69,25 +76,38 @@ module _ (g : Geometry) (a : Action) where
   unfolding Names
   names-write b start e h = subst (Names g) e h
 
--- ---- a frame, as control decided it
-module _ (g : Geometry) (r : Registers) (f : List ℕ) (d : Decision) (e : d ≡ control g r f) where
+-- ---- a frame, as control ruled on it
+module _ (g : Geometry) (r : Registers) (f : List ℕ) (d : Ruling) (e : applied d r ≡ control g r f) where
+  ruled-action : d .action ≡ control g r f .action
+  unfolding applied
+  ruled-action = ap (λ (z : Decision). z .action) e
+
+  ruled-lead : d .lead ≡ control g r f .lead
+  unfolding applied
+  ruled-lead = ap (λ (z : Decision). z .lead) e
+
   pub decided-names : (n : ℕ) → Sized g n → Names g (d .action)
-  decided-names n s = subst (λ (z : Decision). Names g (z .action)) (sym e) (control-names g n r f s)
+  decided-names n s = subst (Names g) (sym ruled-action) (control-names g n r f s)
 
   pub decided-lead : (n : ℕ) → length f ≡ n → d .lead ≤ n
-  decided-lead n l = subst (λ (z : Decision). z .lead ≤ n) (sym e) (omega (arith, control-lead g r f))
+  decided-lead n l = omega (arith, ruled-lead, control-lead g r f)
 
   pub decided-reply : (m : Memory) (n : ℕ) (ys : List ℕ) → length f ≡ n → ys ≡ replied n (d .lead) (dataOf g r m (d .action)) → ys ≡ replyOf g r m f
   unfolding replyOf
-  decided-reply m n ys l h = h ∙ (λ i. replied (sym l i) (e i .lead) (dataOf g r m (e i .action)))
+  decided-reply m n ys l h = h ∙ (λ i. replied (sym l i) (ruled-lead i) (dataOf g r m (ruled-action i)))
 
-pub decided-chip : (g : Geometry) (c : Chip) (xs f : List ℕ) (d : Decision) (k n : Chip) → d ≡ control g (c .registers) f
-    → k ≡ actedChip g (d .action) (take (length f - d .lead) (drop (d .lead) f)) c → n ≡ withRegisters k (d .registers)
-    → n ≡ chipOf (control g (c .registers) f .registers) (sentMemory g (c .registers) f (memoryOf c xs))
-unfolding sentMemory acted actedChip
-decided-chip g c xs f d k n e p q =
-    q ∙ ap (λ (z : Chip). withRegisters z (d .registers)) (p ∙ ap (λ (l : List ℕ). actedChip g (d .action) l c) (tail-part (d .lead) f))
-    ∙ ap (λ (z : Decision). withRegisters (actedChip g (z .action) (drop (z .lead) f) c) (z .registers)) e
+  -- what is left of registers and buffers
+  pub decided-registers : changed (d .change) r ≡ control g r f .registers
+  unfolding applied
+  decided-registers = ap (λ (z : Decision). z .registers) e
+
+  pub decided-memory : (m : Memory) (xs bs zs : List ℕ) (bit : Bool) → length bs ≡ 528 → memoryIn xs bs bit ≡ m
+      → zs ≡ actedOn g (d .action) (take (length f - d .lead) (drop (d .lead) f)) bs → memoryIn xs zs bit ≡ sentMemory g r f m
+  unfolding sentMemory
+  decided-memory m xs bs zs bit l k p =
+      ap (λ (z : List ℕ). memoryIn xs z bit) (p ∙ ap (λ (t : List ℕ). actedOn g (d .action) t bs) (tail-part (d .lead) f))
+      ∙ acted-lent g (d .action) (drop (d .lead) f) xs bs bit l
+      ∙ (λ i. acted g (ruled-action i) (drop (ruled-lead i) f) (k i))
 
 -- ---- an array has room for any register
 pub sized-room : (g : Geometry) (n : ℕ) → Sized g n → 64 ≤ n

@@ -32,7 +32,7 @@ either-length One l k n p q = p
 either-length Two l k n p q = q
 
 -- ---- a frame
-written-length : (g : Geometry) (a : Action) (bytes buffer : List ℕ) → length (written g a bytes buffer) ≡ length buffer
+pub written-length : (g : Geometry) (a : Action) (bytes buffer : List ℕ) → length (written g a bytes buffer) ≡ length buffer
 unfolding written
 written-length g Silent bytes buffer = refl
 written-length g (ReadPage page start) bytes buffer = refl

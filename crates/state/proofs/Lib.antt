@@ -6,4 +6,5 @@ pub mod Lengths
 pub mod Loads
 pub mod Keeps
 pub mod Placed
+pub mod Lent
 pub mod Arms

@@ -3,6 +3,7 @@
 use Prim.Native.Nat.{ℕ}
 use mathlib.Core.Bool.{Bool}
 use mathlib.Core.List.{List}
+use lib.ListN.{take, drop}
 use Rattle.commands.specs.declared.Buffer.{Buffer}
 use Rattle.commands.specs.declared.Buffer.the-variants.{One, Two}
 use Rattle.registers.specs.declared.Registers.{Registers}
@@ -39,12 +40,16 @@ bufferIn b m = either b (m .buffer1) (m .buffer2)
 abbrev pub putBuffer : Buffer → List ℕ → Memory → Memory
 putBuffer b l m = record { array = m .array; buffer1 = either b l (m .buffer1); buffer2 = either b (m .buffer2) l; compare = m .compare }
 
--- the same of the chip record
-abbrev pub bufferOf : Chip → Buffer → List ℕ
-bufferOf c b = either b (c .buffer1) (c .buffer2)
+-- ---- the two buffers as one list of 528 bytes, as they are lent
 
-abbrev pub withBuffer : Chip → Buffer → List ℕ → Chip
-withBuffer c b l = record { registers = c .registers; buffer1 = either b l (c .buffer1); buffer2 = either b (c .buffer2) l; compare = c .compare }
+-- where a buffer begins
+abbrev pub bufferStart : Buffer → ℕ
+bufferStart One = 0
+bufferStart Two = 264
 
-abbrev pub withCompare : Chip → Bool → Chip
-withCompare c bit = record { registers = c .registers; buffer1 = c .buffer1; buffer2 = c .buffer2; compare = bit }
+abbrev pub lent : Buffer → List ℕ → List ℕ
+lent b bs = take 264 (drop (bufferStart b) bs)
+
+-- array, buffers and compare bit, put together
+abbrev pub memoryIn : List ℕ → List ℕ → Bool → Memory
+memoryIn xs bs bit = record { array = xs; buffer1 = lent One bs; buffer2 = lent Two bs; compare = bit }

@@ -1,8 +1,10 @@
 // The chip record, its answers, and the definitions that the entry points' promises cite.
 // Internal to this repository; the entry points are in crate chip.
 ghost use mathlib.Core.Path.{_≡_};
+ghost use mathlib.Core.List.{[], _++_};
+ghost use Prim.Native.Nat.{_≤_};
 ghost use Rattle.state.specs.Answers.{numberOf};
-ghost use Rattle.state.specs.Memory.{withRegisters, bufferOf, withBuffer};
+ghost use Rattle.state.specs.Memory.{chipOf, withRegisters, bufferStart, memoryIn};
 use commands::Buffer;
 use registers::Registers;
 
@@ -68,33 +70,53 @@ pub fn with_registers(c: Chip, r: Registers) -> Chip
     n
 }
 
-pub fn buffer_of(c: Chip, b: Buffer) -> [u8; 264]
-    ensures { λ r. ⌜ r ≡ bufferOf c b ⌝ }
+// Where a buffer begins in the two of them.
+pub fn buffer_start(b: Buffer) -> usize
+    ensures { λ r. ⌜ (r ≡ bufferStart b) × (r ≤ 264) ⌝ }
 {
     match b {
-        Buffer::One => {
-            let x = c.buffer1;
-            x
-        }
-        Buffer::Two => {
-            let x = c.buffer2;
-            x
-        }
+        Buffer::One => 0,
+        Buffer::Two => 264,
     }
 }
 
-pub fn with_buffer(c: Chip, b: Buffer, bytes: [u8; 264]) -> Chip
-    ensures { λ r. ⌜ r ≡ withBuffer c b bytes ⌝ }
+// Both buffers, to be lent as one.
+pub fn buffers_of(c: Chip) -> [u8; 528]
+    ensures { λ r. ⌜ r ≡ c .buffer1 ++ c .buffer2 ⌝ }
 {
-    let mut n = c;
-    match b {
-        Buffer::One => {
-            n.buffer1 = bytes;
-            n
-        }
-        Buffer::Two => {
-            n.buffer2 = bytes;
-            n
-        }
+    let first = c.buffer1;
+    let second = c.buffer2;
+    let mut bytes = [0u8; 528];
+    slices::copy(&mut bytes[..264], &first);
+    slices::copy(&mut bytes[264..], &second);
+    bytes
+}
+
+// User and factory bytes, to be lent as one.
+pub fn security_of(r: Registers) -> [u8; 128]
+    ensures { λ b. ⌜ b ≡ r .user ++ r .factory ⌝ }
+{
+    let user = r.user;
+    let factory = r.factory;
+    let mut bytes = [0u8; 128];
+    slices::copy(&mut bytes[..64], &user);
+    slices::copy(&mut bytes[64..], &factory);
+    bytes
+}
+
+// A chip of its parts.
+pub fn chip_of(r: Registers, buffers: [u8; 528], compare: bool) -> Chip
+    ensures { λ c. ⌜ c ≡ chipOf r (memoryIn [] buffers compare) ⌝ }
+{
+    let bytes = buffers;
+    let mut first = [0u8; 264];
+    slices::copy(&mut first, &bytes[..264]);
+    let mut second = [0u8; 264];
+    slices::copy(&mut second, &bytes[264..528]);
+    Chip {
+        registers: r,
+        buffer1: first,
+        buffer2: second,
+        compare: compare,
     }
 }

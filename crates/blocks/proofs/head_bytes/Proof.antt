@@ -1,8 +1,10 @@
--- `blocks::head_bytes` meets its contract: the bytes are those of the definition, one by one. Assumes nothing.
-use Rattle.blocks.specs.Block.{headBytes}
+-- `blocks::head_bytes` meets its contract: the bytes are those of the definition, one by one.
+-- Assumes nothing.
 use borrow.Author.Needs.{needs}
+use Rattle.blocks.specs.Block.{headBytes}
 use Rattle.blocks.proofs.head_bytes.Statement.{statement}
 use Rattle.blocks.proofs.head_bytes.Tie as tie
+use Rattle.blocks.proofs.flag_byte.Reads as flag-byte-reads
 
 flag-byte-requires : tie.Need-flag-byte-requires
 flag-byte-requires c κs = search needs
@@ -16,11 +18,8 @@ flag-byte-requires-3 c κs = search needs
 flag-byte-requires-4 : tie.Need-flag-byte-requires-4
 flag-byte-requires-4 c κs = search needs
 
-cast-t9 : tie.Need-cast-t9
-cast-t9 c = search needs
-
-cast-t11 : tie.Need-cast-t11
-cast-t11 c = search needs
+cast-t12 : tie.Need-cast-t12
+cast-t12 c = search needs
 
 cast-t14 : tie.Need-cast-t14
 cast-t14 c = search needs
@@ -31,8 +30,11 @@ cast-t17 c = search needs
 cast-t20 : tie.Need-cast-t20
 cast-t20 c = search needs
 
-cast-t22 : tie.Need-cast-t22
-cast-t22 c = search needs
+cast-t23 : tie.Need-cast-t23
+cast-t23 c = search needs
+
+cast-t25 : tie.Need-cast-t25
+cast-t25 c = search needs
 
 returns : tie.Need-returns
 unfolding headBytes
@@ -46,10 +48,10 @@ head-bytes-spec =
     flag-byte-requires-2
     flag-byte-requires-3
     flag-byte-requires-4
-    cast-t9
-    cast-t11
+    cast-t12
     cast-t14
     cast-t17
     cast-t20
-    cast-t22
+    cast-t23
+    cast-t25
     returns)

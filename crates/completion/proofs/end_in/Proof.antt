@@ -1,38 +1,67 @@
 -- `completion::end_in` meets its contract: the memory, then the registers.
 -- Assumes nothing.
-use mathlib.Core.Path.{_∙_}
 use borrow.Author.Needs.{needs}
-use Rattle.state.specs.Memory.{withRegisters}
+use mathlib.Core.List.{List}
+use mathlib.Core.Path.{_≡_, ap, _∙_}
+use Prim.Native.Nat.{ℕ}
+use lib.ListN.{length}
+use Rattle.state.specs.Memory.{Memory, memoryIn, chipOf}
+use Rattle.state.specs.Completion.{completedMemory}
 use Rattle.state.specs.Outcomes.{outcome, endedIn, endedArray}
 use Rattle.state.specs.declared.Answer.the-variants as Answers
+use Rattle.state.proofs.Lent.{memory-joined}
 use Rattle.completion.proofs.end_in.Statement.{statement}
 use Rattle.completion.proofs.end_in.Tie as tie
+use Rattle.completion.proofs.complete_memory.Reads as complete-memory-reads
+use Rattle.control.proofs.complete.Reads as complete-reads
+use Rattle.state.proofs.buffers_of.Reads as buffers-of-reads
+use Rattle.state.proofs.chip_of.Reads as chip-of-reads
+
+-- the lengths of the chip's buffers, and of both together
+long : (s : tie.Start) → (length (s .args .c .buffer1) ≡ 264) × (length (s .args .c .buffer2) ≡ 264)
+long s = (search needs, search needs)
+
+both : (p : tie.After-buffers-of) → length (p .buffers-of .result) ≡ 528
+both p = search needs
+
+buffers-of-requires : tie.Need-buffers-of-requires
+buffers-of-requires c κs = search needs
+
+slice-aggregate-complete-memory : tie.Need-slice-aggregate-complete-memory
+slice-aggregate-complete-memory c = search needs
 
 complete-memory-requires : tie.Need-complete-memory-requires
-complete-memory-requires c κs = search needs
+complete-memory-requires c κs =
+    let s = c .before .before .before .before .before in
+    (s .pre .0, s .pre .1, both (c .before .before))
 
 complete-requires : tie.Need-complete-requires
 complete-requires c κs = search needs
 
-with-registers-requires : tie.Need-with-registers-requires
-with-registers-requires c κs = search needs
+chip-of-requires : tie.Need-chip-of-requires
+chip-of-requires c κs = search needs
 
 same-length : tie.Need-same-length
 same-length c = search needs
 
 returns : tie.Need-returns
 unfolding endedIn endedArray
-returns c = (
-  λ i. outcome Answers.Done ((c .with-registers .ensures ∙ (λ j. withRegisters (c .before .before .before .before .complete-memory .ensures .0 j) (c .before .complete .ensures j))) i),
-  c .before .before .before .before .complete-memory .ensures .1,
-)
+returns c =
+    let s = c .before .before .before .before .before .before .before .before .before .before .before in
+    let a = s .args in
+    let w = long s in
+    let j = ap (λ (bs : List ℕ). memoryIn (a .array .now) bs (a .c .compare)) (c .before .before .before .before .before .before .before .before .buffers-of .ensures) ∙ memory-joined (a .c) (a .array .now) (w .0) (w .1) in
+    let m = c .before .before .before .before .before .complete-memory .ensures ∙ ap (completedMemory (a .g) (a .c .registers .operation)) j in
+    (ap (outcome Answers.Done) (c .chip-of .ensures ∙ (λ i. chipOf (c .before .complete .ensures i) (m i))), ap (λ (x : Memory). x .array) m)
 
 pub end-in-spec : {M : Type 1} → statement M
 end-in-spec =
     tie.close
     (tie.spec
+    buffers-of-requires
+    slice-aggregate-complete-memory
     complete-memory-requires
     complete-requires
-    with-registers-requires
+    chip-of-requires
     same-length
     returns)

@@ -1,31 +1,59 @@
--- `completion::program` meets its contract: the buffer is copied out, and the page becomes it.
+-- `completion::program` meets its contract: the part that is lent on is the buffer.
 -- Assumes nothing.
-use mathlib.Core.List.{List}
-use mathlib.Core.Path.{refl, ap, _∙_}
-use Prim.Native.Nat.{ℕ}
 use borrow.Author.Needs.{needs}
+use mathlib.Core.List.{List}
+use mathlib.Core.Path.{ap, _∙_}
+use Prim.Native.Nat.{ℕ}
+use native.Mathlib.Omega.{arith}
+use lib.ListN.{take, drop}
+use Rattle.slices.proofs.Laws.{run-part, run-length}
 use Rattle.memory.specs.Pages.{programmed}
 use Rattle.completion.proofs.program.Statement.{statement}
 use Rattle.completion.proofs.program.Tie as tie
+use Rattle.memory.proofs.program.Reads as program-reads
+use Rattle.state.proofs.buffer_start.Reads as buffer-start-reads
 
-buffer-of-requires : tie.Need-buffer-of-requires
-buffer-of-requires c κs = search needs
+buffer-start-requires : tie.Need-buffer-start-requires
+buffer-start-requires c κs = search needs
 
-slice-aggregate-program : tie.Need-slice-aggregate-program
-slice-aggregate-program c = search needs
+add-e : tie.Need-add-e
+add-e c = search needs
+
+sub-program : tie.Need-sub-program
+sub-program c = search needs
+
+part-program-start : tie.Need-part-program-start
+part-program-start c = search needs
+
+part-program-end : tie.Need-part-program-end
+part-program-end c = search needs
 
 program-requires : tie.Need-program-requires
-program-requires c κs = search needs
+program-requires c κs =
+    let s = c .before .before .before .before .before in
+    let l = run-length (c .before .before .buffer-start .result) 264 (s .args .buffers .now) (omega arith) in
+    (s .pre .0, s .pre .1, omega (arith, s .pre .0 .most))
 
 same-length : tie.Need-same-length
 same-length c = search needs
 
 returns : tie.Need-returns
 returns c =
-    let a = c .before .before .before .before .before .before .before .args in
-    (refl, c .before .before .program .ensures ∙ ap (λ (l : List ℕ). programmed (a .g) (a .page) l (a .array .now)) (c .before .before .before .before .before .buffer-of .ensures))
+    let s = c .before .before .before .before .before .before .before .before .args in
+    let bs = s .buffers .now in
+    c .before .before .program .ensures
+    ∙ ap (λ (l : List ℕ). programmed (s .g) (s .page) l (s .array .now))
+    (run-part (c .before .before .before .before .before .buffer-start .result) 264 bs ∙ ap (λ (n : ℕ). take 264 (drop n bs)) (c .before .before .before .before .before .buffer-start .ensures .0))
 
 pub program-spec : {M : Type 1} → statement M
 program-spec =
     tie.close
-    (tie.spec buffer-of-requires slice-aggregate-program program-requires same-length returns)
+    (tie.spec
+    buffer-start-requires
+    add-e
+    sub-program
+    part-program-start
+    part-program-end
+    program-requires
+    same-length
+    returns)

@@ -3,6 +3,7 @@
 -- Assumes nothing.
 use mathlib.Core.Path.{sym, _∙_}
 use borrow.Author.Needs.{needs}
+use Rattle.control.specs.Rulings.{applied, changed}
 use Rattle.control.proofs.Steps.{obeyed-row, refused-row, decoded-room, decoded-data}
 use Rattle.control.proofs.control_frame.Statement.{statement}
 use Rattle.control.proofs.control_frame.Tie as tie
@@ -21,17 +22,20 @@ row-requires c κs = let f = c .before .before .before .before .args .frame .now
 returns : tie.Need-returns
 returns c = let s = c .before .before .before .before .before .args in
     let d = c .before .before .before .decode in
-    c .row .ensures
-    ∙ obeyed-row (s .g) (s .r) (s .frame .now) (d .result) (d .ensures) (sym (c .before .before .is-obeyed .ensures) ∙ c .before .if1 .taken)
+    λ r e.
+    c .row .ensures r e
+    ∙ obeyed-row (s .g) r (s .frame .now) (d .result) (d .ensures) (sym (c .before .before .is-obeyed .ensures r e) ∙ c .before .if1 .taken)
 
 ignore-requires : tie.Need-ignore-requires
 ignore-requires c κs = search needs
 
 returns-2 : tie.Need-returns-2
+unfolding applied changed
 returns-2 c = let s = c .before .before .before .before .before .args in
     let d = c .before .before .before .decode in
-    c .ignore .ensures
-    ∙ refused-row (s .g) (s .r) (s .frame .now) (d .result) (d .ensures) (sym (c .before .before .is-obeyed .ensures) ∙ c .before .if1 .left)
+    λ r e.
+    rw (c .ignore .ensures)
+    (refused-row (s .g) r (s .frame .now) (d .result) (d .ensures) (sym (c .before .before .is-obeyed .ensures r e) ∙ c .before .if1 .left))
 
 pub control-frame-spec : {M : Type 1} → statement M
 control-frame-spec =

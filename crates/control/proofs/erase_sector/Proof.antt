@@ -16,7 +16,7 @@ start-on-requires c κs = search needs
 
 returns : tie.Need-returns
 unfolding rowDecided
-returns c = rw (c .start-on .ensures, c .before .sector-of .ensures .0, c .before .before .page-named .ensures .0)
+returns c = λ r e. rw (c .start-on .ensures r e, c .before .sector-of .ensures .0, c .before .before .page-named .ensures .0)
 
 pub erase-sector-spec : {M : Type 1} → statement M
 erase-sector-spec =

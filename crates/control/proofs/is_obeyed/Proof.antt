@@ -5,7 +5,9 @@ use mathlib.Core.Logic.{⊎-elim}
 use mathlib.Core.Path.{_≡_, sym, _∙_, ap}
 use borrow.Author.Needs.{needs}
 use borrow.Author.Tests.{not-true, not-false}
+use Rattle.control.specs.declared.Marks.{Marks}
 use Rattle.control.specs.Obeyed.{allowed, classOf, isWake, obeyed, usageOf}
+use Rattle.control.proofs.Bearing.{deep-of}
 use Rattle.control.proofs.Steps.{deep-refuses, awake-allows, woken-allows}
 use Rattle.control.proofs.is_obeyed.Statement.{statement}
 use Rattle.control.proofs.is_obeyed.Tie as tie
@@ -19,23 +21,22 @@ is-wake-requires c κs = search needs
 returns : tie.Need-returns
 returns c = let s = c .before .before .before .before .args in
     let w = c .before .is-wake in
-    sym (deep-refuses (s .r) (s .e) (c .before .before .if1 .taken)
+    λ r h.
+    sym (deep-refuses r (s .e) (deep-of r (s .m) h (c .before .before .if1 .taken))
     (ap isWake (sym (c .before .before .before .class-of .ensures)) ∙ sym (w .ensures) ∙ not-true (w .result) (c .if2 .taken)))
-
-usage-of-requires : tie.Need-usage-of-requires
-usage-of-requires c κs = search needs
 
 is-allowed-requires : tie.Need-is-allowed-requires
 is-allowed-requires c κs = search needs
 
 returns-2 : tie.Need-returns-2
-returns-2 c = let s = c .before .before .before .before .args in
-    let k = c .before .before .before .class-of .ensures in
-    let e : obeyed (s .r) (s .e) ≡ allowed (usageOf (s .r .operation)) (classOf (s .e)) =
+returns-2 c = let s = c .before .before .before .args in
+    let k = c .before .before .class-of .ensures in
+    λ r h.
+    let e : obeyed r (s .e) ≡ allowed (usageOf (r .operation)) (classOf (s .e)) =
     ⊎-elim
-    (λ w. woken-allows (s .r) (s .e) (ap isWake (sym k) ∙ sym (w .1 .ensures) ∙ not-false (w .1 .result) (w .2 .left)))
-    (λ w. awake-allows (s .r) (s .e) (w .left)) (c .before .before .if1 .came) in
-    c .is-allowed .ensures ∙ (λ i. allowed (c .before .usage-of .ensures i) (k i)) ∙ sym e
+    (λ w. woken-allows r (s .e) (ap isWake (sym k) ∙ sym (w .1 .ensures) ∙ not-false (w .1 .result) (w .2 .left)))
+    (λ w. awake-allows r (s .e) (deep-of r (s .m) h (w .left))) (c .before .if1 .came) in
+    c .is-allowed .ensures ∙ (λ i. allowed (ap (λ (x : Marks). x .usage) (sym h) i) (k i)) ∙ sym e
 
 pub is-obeyed-spec : {M : Type 1} → statement M
 is-obeyed-spec =
@@ -44,6 +45,5 @@ is-obeyed-spec =
     class-of-requires
     is-wake-requires
     returns
-    usage-of-requires
     is-allowed-requires
     returns-2)

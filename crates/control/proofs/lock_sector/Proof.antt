@@ -2,6 +2,7 @@
 -- Assumes nothing.
 use borrow.Author.Needs.{needs}
 use Rattle.control.specs.Control.{sectorLocked}
+use Rattle.control.specs.Rulings.{applied, changed}
 use Rattle.control.proofs.lock_sector.Statement.{statement}
 use Rattle.control.proofs.lock_sector.Tie as tie
 
@@ -15,8 +16,8 @@ start-requires : tie.Need-start-requires
 start-requires c κs = search needs
 
 returns : tie.Need-returns
-unfolding sectorLocked
-returns c = rw (c .start .ensures, c .before .sector-of .ensures .0, c .before .before .page-named .ensures .0)
+unfolding sectorLocked applied changed
+returns c = λ r e. rw (c .start .ensures, c .before .sector-of .ensures .0, c .before .before .page-named .ensures .0)
 
 pub lock-sector-spec : {M : Type 1} → statement M
 lock-sector-spec =

@@ -13,7 +13,7 @@ start-on-requires c κs = search needs
 
 returns : tie.Need-returns
 unfolding rowDecided
-returns c = rw (c .start-on .ensures, c .before .page-named .ensures .0)
+returns c = λ r e. rw (c .start-on .ensures r e, c .before .page-named .ensures .0)
 
 pub program-over-spec : {M : Type 1} → statement M
 program-over-spec = tie.close (tie.spec page-named-requires start-on-requires returns)

@@ -2,6 +2,8 @@
 -- Assumes nothing.
 use borrow.Author.Needs.{needs}
 use Rattle.control.specs.Control.{securityData}
+use Rattle.control.specs.Rulings.{applied, changed}
+use Rattle.control.proofs.Bearing.{used-of}
 use Rattle.control.proofs.Steps.{security-free, security-used}
 use Rattle.control.proofs.program_security.Statement.{statement}
 use Rattle.control.proofs.program_security.Tie as tie
@@ -10,23 +12,22 @@ ignore-requires : tie.Need-ignore-requires
 ignore-requires c κs = search needs
 
 returns : tie.Need-returns
+unfolding applied changed
 returns c = let s = c .before .before .before .args in
-    rw (c .ignore .ensures) (security-used (s .r) (s .frame .now) (c .before .if1 .taken))
+    λ r e. rw (c .ignore .ensures) (security-used r (s .frame .now) (used-of r (s .m) e (c .before .if1 .taken)))
 
 security-data-requires : tie.Need-security-data-requires
 security-data-requires c κs = search needs
 
-with-operation-requires : tie.Need-with-operation-requires
-with-operation-requires c κs = search needs
-
-decide-requires : tie.Need-decide-requires
-decide-requires c κs = search needs
+rule-requires : tie.Need-rule-requires
+rule-requires c κs = search needs
 
 returns-2 : tie.Need-returns-2
-unfolding securityData
-returns-2 c = let s = c .before .before .before .before .before .args in
-    rw (c .decide .ensures, c .before .with-operation .ensures, c .before .before .security-data .ensures)
-    (security-free (s .r) (s .frame .now) (c .before .before .before .if1 .left))
+unfolding securityData applied changed
+returns-2 c = let s = c .before .before .before .before .args in
+    λ r e.
+    rw (c .rule .ensures, c .before .security-data .ensures)
+    (security-free r (s .frame .now) (used-of r (s .m) e (c .before .before .if1 .left)))
 
 pub program-security-spec : {M : Type 1} → statement M
 program-security-spec =
@@ -35,6 +36,5 @@ program-security-spec =
     ignore-requires
     returns
     security-data-requires
-    with-operation-requires
-    decide-requires
+    rule-requires
     returns-2)

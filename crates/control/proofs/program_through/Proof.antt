@@ -6,6 +6,8 @@ use borrow.Author.Needs.{needs}
 use Rattle.geometry.specs.Parts.{pageAt, byteAt, addressAt}
 use Rattle.geometry.specs.Sectors.{sectorOf}
 use Rattle.control.specs.Control.{rowDecided}
+use Rattle.control.specs.Rulings.{applied, changed}
+use Rattle.control.proofs.Bearing.{seals-of}
 use Rattle.control.proofs.Steps.{through-open, through-sealed, tested}
 use Rattle.control.proofs.program_through.Statement.{statement}
 use Rattle.control.proofs.program_through.Tie as tie
@@ -23,33 +25,32 @@ ignore-requires : tie.Need-ignore-requires
 ignore-requires c κs = search needs
 
 returns : tie.Need-returns
-unfolding rowDecided
-returns c = let s = c .before .before .before .before .before .before .args in
+unfolding rowDecided applied changed
+returns c = let s = c .before .before .before .before .before .before .before .args in
     let n = addressAt (s .frame .now) 1 in
     let page = pageAt (s .g) n in
+    λ r k.
     rw (c .ignore .ensures)
-    (through-sealed (s .r) (s .buffer) page (byteAt (s .g) n) (s .lead)
-    (tested (s .r) page (c .before .before .before .sector-of .ensures .0 ∙ ap sectorOf (c .before .before .before .before .page-named .ensures .0))
-    (c .before .before .is-write-protected .ensures) (c .before .if1 .taken)))
-
-with-operation-requires : tie.Need-with-operation-requires
-with-operation-requires c κs = search needs
+    (through-sealed r (s .buffer) page (byteAt (s .g) n) (s .lead)
+    (tested r page (c .before .before .before .sector-of .ensures .0 ∙ ap sectorOf (c .before .before .before .before .before .page-named .ensures .0))
+    (c .before .before .is-write-protected .ensures r (seals-of r (s .m) k)) (c .before .if1 .taken)))
 
 byte-named-requires : tie.Need-byte-named-requires
 byte-named-requires c κs = search needs
 
-decide-requires : tie.Need-decide-requires
-decide-requires c κs = search needs
+rule-requires : tie.Need-rule-requires
+rule-requires c κs = search needs
 
 returns-2 : tie.Need-returns-2
-unfolding rowDecided
+unfolding rowDecided applied changed
 returns-2 c = let s = c .before .before .before .before .before .before .before .before .args in
     let n = addressAt (s .frame .now) 1 in
     let page = pageAt (s .g) n in
-    rw (c .decide .ensures, c .before .before .with-operation .ensures, c .before .byte-named .ensures .0, c .before .before .before .before .before .before .page-named .ensures .0)
-    (through-open (s .r) (s .buffer) page (byteAt (s .g) n) (s .lead)
-    (tested (s .r) page (c .before .before .before .before .before .sector-of .ensures .0 ∙ ap sectorOf (c .before .before .before .before .before .before .page-named .ensures .0))
-    (c .before .before .before .before .is-write-protected .ensures) (c .before .before .before .if1 .left)))
+    λ r k.
+    rw (c .rule .ensures, c .before .byte-named .ensures .0, c .before .before .before .before .before .before .page-named .ensures .0)
+    (through-open r (s .buffer) page (byteAt (s .g) n) (s .lead)
+    (tested r page (c .before .before .before .before .sector-of .ensures .0 ∙ ap sectorOf (c .before .before .before .before .before .before .page-named .ensures .0))
+    (c .before .before .before .is-write-protected .ensures r (seals-of r (s .m) k)) (c .before .before .if1 .left)))
 
 pub program-through-spec : {M : Type 1} → statement M
 program-through-spec =
@@ -60,7 +61,6 @@ program-through-spec =
     is-write-protected-requires
     ignore-requires
     returns
-    with-operation-requires
     byte-named-requires
-    decide-requires
+    rule-requires
     returns-2)

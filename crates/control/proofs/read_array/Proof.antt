@@ -5,6 +5,7 @@ use native.Mathlib.Omega.{arith}
 use borrow.Author.Needs.{needs}
 use Rattle.geometry.proofs.Pages.{sized-small}
 use Rattle.control.specs.Control.{rowDecided}
+use Rattle.control.specs.Rulings.{applied, changed}
 use Rattle.control.proofs.read_array.Statement.{statement}
 use Rattle.control.proofs.read_array.Tie as tie
 
@@ -20,12 +21,12 @@ byte-named-requires c κs = search needs
 add-start : tie.Need-add-start
 add-start c = let m = sized-small (c .before .before .before .before .args .g) _ (c .before .before .before .before .pre .0) in omega arith
 
-decide-requires : tie.Need-decide-requires
-decide-requires c κs = search needs
+tell-requires : tie.Need-tell-requires
+tell-requires c κs = search needs
 
 returns : tie.Need-returns
-unfolding rowDecided
-returns c = rw (c .decide .ensures, c .before .before .page-start .ensures .0, c .before .before .before .page-named .ensures .0, c .before .byte-named .ensures .0)
+unfolding rowDecided applied changed
+returns c = λ r e. rw (c .tell .ensures, c .before .before .page-start .ensures .0, c .before .before .before .page-named .ensures .0, c .before .byte-named .ensures .0)
 
 pub read-array-spec : {M : Type 1} → statement M
 read-array-spec =
@@ -35,5 +36,5 @@ read-array-spec =
     page-start-requires
     byte-named-requires
     add-start
-    decide-requires
+    tell-requires
     returns)

@@ -2,18 +2,19 @@
 -- Assumes nothing.
 use borrow.Author.Needs.{needs}
 use Rattle.control.specs.Control.{rowDecided}
+use Rattle.control.specs.Rulings.{applied, changed}
 use Rattle.control.proofs.read_buffer.Statement.{statement}
 use Rattle.control.proofs.read_buffer.Tie as tie
 
 byte-named-requires : tie.Need-byte-named-requires
 byte-named-requires c κs = search needs
 
-decide-requires : tie.Need-decide-requires
-decide-requires c κs = search needs
+tell-requires : tie.Need-tell-requires
+tell-requires c κs = search needs
 
 returns : tie.Need-returns
-unfolding rowDecided
-returns c = rw (c .decide .ensures, c .before .byte-named .ensures .0)
+unfolding rowDecided applied changed
+returns c = λ r e. rw (c .tell .ensures, c .before .byte-named .ensures .0)
 
 pub read-buffer-spec : {M : Type 1} → statement M
-read-buffer-spec = tie.close (tie.spec byte-named-requires decide-requires returns)
+read-buffer-spec = tie.close (tie.spec byte-named-requires tell-requires returns)

@@ -5,6 +5,7 @@ use mathlib.Core.Path.{refl}
 use borrow.Author.Needs.{needs}
 use Rattle.commands.specs.Room.{room, takes}
 use Rattle.control.specs.Control.{rowDecided}
+use Rattle.control.specs.Rulings.{applied, changed}
 use Rattle.control.proofs.Steps.{has-room, has-data}
 use Rattle.control.proofs.row.Statement.{statement}
 use Rattle.control.proofs.row.Tie as tie
@@ -82,12 +83,6 @@ erase-sector-requires c κs = (c .before .before .before .pre .0, has-room (c .e
 enum-told-6 : tie.Need-enum-told-6
 enum-told-6 c = search needs
 
-unprotected-set-requires : tie.Need-unprotected-set-requires
-unprotected-set-requires c κs = search needs
-
-start-requires : tie.Need-start-requires
-start-requires c κs = search needs
-
 enum-known-e-6 : tie.Need-enum-known-e-6
 enum-known-e-6 c = search needs
 
@@ -111,12 +106,6 @@ rewrite-requires c κs = (c .before .before .before .before .pre .0, has-room (c
 
 enum-told-7 : tie.Need-enum-told-7
 enum-told-7 c = search needs
-
-with-enabled-requires : tie.Need-with-enabled-requires
-with-enabled-requires c κs = search needs
-
-decide-requires : tie.Need-decide-requires
-decide-requires c κs = search needs
 
 enum-told-8 : tie.Need-enum-told-8
 enum-told-8 c = search needs
@@ -154,50 +143,23 @@ program-security-requires c κs = has-data (c .enum-told12 .given .1) (c .before
 enum-told-13 : tie.Need-enum-told-13
 enum-told-13 c = search needs
 
-decide-requires-2 : tie.Need-decide-requires-2
-decide-requires-2 c κs = search needs
-
 enum-told-14 : tie.Need-enum-told-14
 enum-told-14 c = search needs
-
-decide-requires-3 : tie.Need-decide-requires-3
-decide-requires-3 c κs = search needs
 
 enum-told-15 : tie.Need-enum-told-15
 enum-told-15 c = search needs
 
-decide-requires-4 : tie.Need-decide-requires-4
-decide-requires-4 c κs = search needs
-
 enum-told-16 : tie.Need-enum-told-16
 enum-told-16 c = search needs
-
-decide-requires-5 : tie.Need-decide-requires-5
-decide-requires-5 c κs = search needs
 
 enum-told-17 : tie.Need-enum-told-17
 enum-told-17 c = search needs
 
-decide-requires-6 : tie.Need-decide-requires-6
-decide-requires-6 c κs = search needs
-
 enum-told-18 : tie.Need-enum-told-18
 enum-told-18 c = search needs
 
-with-deep-requires : tie.Need-with-deep-requires
-with-deep-requires c κs = search needs
-
-decide-requires-7 : tie.Need-decide-requires-7
-decide-requires-7 c κs = search needs
-
 enum-told-19 : tie.Need-enum-told-19
 enum-told-19 c = search needs
-
-with-deep-requires-2 : tie.Need-with-deep-requires-2
-with-deep-requires-2 c κs = search needs
-
-decide-requires-8 : tie.Need-decide-requires-8
-decide-requires-8 c κs = search needs
 
 enum-told-20 : tie.Need-enum-told-20
 enum-told-20 c = search needs
@@ -205,104 +167,130 @@ enum-told-20 c = search needs
 ignore-requires : tie.Need-ignore-requires
 ignore-requires c κs = search needs
 
+erase-chip-requires : tie.Need-erase-chip-requires
+erase-chip-requires c κs = search needs
+
+rule-requires : tie.Need-rule-requires
+rule-requires c κs = search needs
+
+tell-requires : tie.Need-tell-requires
+tell-requires c κs = search needs
+
+tell-requires-2 : tie.Need-tell-requires-2
+tell-requires-2 c κs = search needs
+
+tell-requires-3 : tie.Need-tell-requires-3
+tell-requires-3 c κs = search needs
+
+tell-requires-4 : tie.Need-tell-requires-4
+tell-requires-4 c κs = search needs
+
+tell-requires-5 : tie.Need-tell-requires-5
+tell-requires-5 c κs = search needs
+
+rule-requires-2 : tie.Need-rule-requires-2
+rule-requires-2 c κs = search needs
+
+rule-requires-3 : tie.Need-rule-requires-3
+rule-requires-3 c κs = search needs
+
 returns : tie.Need-returns
-returns c = rw (c .before .enum-told .given .1) (c .read-page .ensures)
+returns c = λ r k. rw (c .before .enum-told .given .1) (c .read-page .ensures r k)
 
 returns-2 : tie.Need-returns-2
-returns-2 c = rw (c .before .enum-told2 .given .1) (c .read-array .ensures)
+returns-2 c = λ r k. rw (c .before .enum-told2 .given .1) (c .read-array .ensures r k)
 
 returns-3 : tie.Need-returns-3
-returns-3 c = rw (c .before .before .e .given .1) (c .read-buffer .ensures)
+returns-3 c = λ r k. rw (c .before .before .e .given .1) (c .read-buffer .ensures r k)
 
 returns-4 : tie.Need-returns-4
-returns-4 c = rw (c .before .before .e2 .given .1) (c .write-buffer .ensures)
+returns-4 c = λ r k. rw (c .before .before .e2 .given .1) (c .write-buffer .ensures r k)
 
 returns-5 : tie.Need-returns-5
-returns-5 c = rw (c .before .before .e3 .given .1) (c .program .ensures)
+returns-5 c = λ r k. rw (c .before .before .e3 .given .1) (c .program .ensures r k)
 
 returns-6 : tie.Need-returns-6
-returns-6 c = rw (c .before .before .e4 .given .1) (c .program-over .ensures)
+returns-6 c = λ r k. rw (c .before .before .e4 .given .1) (c .program-over .ensures r k)
 
 returns-7 : tie.Need-returns-7
-returns-7 c = rw (c .before .before .e5 .given .1) (c .program-through .ensures)
+returns-7 c = λ r k. rw (c .before .before .e5 .given .1) (c .program-through .ensures r k)
 
 returns-8 : tie.Need-returns-8
-returns-8 c = rw (c .before .enum-told3 .given .1) (c .erase-page .ensures)
+returns-8 c = λ r k. rw (c .before .enum-told3 .given .1) (c .erase-page .ensures r k)
 
 returns-9 : tie.Need-returns-9
-returns-9 c = rw (c .before .enum-told4 .given .1) (c .erase-block .ensures)
+returns-9 c = λ r k. rw (c .before .enum-told4 .given .1) (c .erase-block .ensures r k)
 
 returns-10 : tie.Need-returns-10
-returns-10 c = rw (c .before .enum-told5 .given .1) (c .erase-sector .ensures)
+returns-10 c = λ r k. rw (c .before .enum-told5 .given .1) (c .erase-sector .ensures r k)
 
 returns-11 : tie.Need-returns-11
-unfolding rowDecided
-returns-11 c = rw (c .before .before .enum-told6 .given .1, c .start .ensures, c .before .unprotected-set .ensures)
+returns-11 c = λ r k. rw (c .before .enum-told6 .given .1) (c .erase-chip .ensures r k)
 
 returns-12 : tie.Need-returns-12
-returns-12 c = rw (c .before .before .e6 .given .1) (c .transfer .ensures)
+returns-12 c = λ r k. rw (c .before .before .e6 .given .1) (c .transfer .ensures r k)
 
 returns-13 : tie.Need-returns-13
-returns-13 c = rw (c .before .before .e7 .given .1) (c .compare .ensures)
+returns-13 c = λ r k. rw (c .before .before .e7 .given .1) (c .compare .ensures r k)
 
 returns-14 : tie.Need-returns-14
-returns-14 c = rw (c .before .before .e8 .given .1) (c .rewrite .ensures)
+returns-14 c = λ r k. rw (c .before .before .e8 .given .1) (c .rewrite .ensures r k)
 
 returns-15 : tie.Need-returns-15
-unfolding rowDecided
-returns-15 c = rw (c .before .before .enum-told7 .given .1, c .decide .ensures, c .before .with-enabled .ensures)
+unfolding rowDecided applied changed
+returns-15 c = λ r k. rw (c .before .enum-told7 .given .1, c .rule .ensures)
 
 returns-16 : tie.Need-returns-16
 unfolding rowDecided
-returns-16 c = rw (c .before .enum-told8 .given .1) (c .disable-protection .ensures)
+returns-16 c = λ r k. rw (c .before .enum-told8 .given .1) (c .disable-protection .ensures r k)
 
 returns-17 : tie.Need-returns-17
 unfolding rowDecided
-returns-17 c = rw (c .before .enum-told9 .given .1) (c .erase-protection .ensures)
+returns-17 c = λ r k. rw (c .before .enum-told9 .given .1) (c .erase-protection .ensures r k)
 
 returns-18 : tie.Need-returns-18
 unfolding rowDecided
-returns-18 c = rw (c .before .enum-told10 .given .1) (c .program-protection .ensures)
+returns-18 c = λ r k. rw (c .before .enum-told10 .given .1) (c .program-protection .ensures r k)
 
 returns-19 : tie.Need-returns-19
 unfolding rowDecided
-returns-19 c = rw (c .before .enum-told11 .given .1) (c .lock-sector .ensures)
+returns-19 c = λ r k. rw (c .before .enum-told11 .given .1) (c .lock-sector .ensures r k)
 
 returns-20 : tie.Need-returns-20
 unfolding rowDecided
-returns-20 c = rw (c .before .enum-told12 .given .1) (c .program-security .ensures)
+returns-20 c = λ r k. rw (c .before .enum-told12 .given .1) (c .program-security .ensures r k)
 
 returns-21 : tie.Need-returns-21
-unfolding rowDecided
-returns-21 c = rw (c .before .enum-told13 .given .1) (c .decide2 .ensures)
+unfolding rowDecided applied changed
+returns-21 c = λ r k. rw (c .before .enum-told13 .given .1, c .tell .ensures)
 
 returns-22 : tie.Need-returns-22
-unfolding rowDecided
-returns-22 c = rw (c .before .enum-told14 .given .1) (c .decide3 .ensures)
+unfolding rowDecided applied changed
+returns-22 c = λ r k. rw (c .before .enum-told14 .given .1, c .tell2 .ensures)
 
 returns-23 : tie.Need-returns-23
-unfolding rowDecided
-returns-23 c = rw (c .before .enum-told15 .given .1) (c .decide4 .ensures)
+unfolding rowDecided applied changed
+returns-23 c = λ r k. rw (c .before .enum-told15 .given .1, c .tell3 .ensures)
 
 returns-24 : tie.Need-returns-24
-unfolding rowDecided
-returns-24 c = rw (c .before .enum-told16 .given .1) (c .decide5 .ensures)
+unfolding rowDecided applied changed
+returns-24 c = λ r k. rw (c .before .enum-told16 .given .1, c .tell4 .ensures)
 
 returns-25 : tie.Need-returns-25
-unfolding rowDecided
-returns-25 c = rw (c .before .enum-told17 .given .1) (c .decide6 .ensures)
+unfolding rowDecided applied changed
+returns-25 c = λ r k. rw (c .before .enum-told17 .given .1, c .tell5 .ensures)
 
 returns-26 : tie.Need-returns-26
-unfolding rowDecided
-returns-26 c = rw (c .before .before .enum-told18 .given .1, c .decide7 .ensures, c .before .with-deep .ensures)
+unfolding rowDecided applied changed
+returns-26 c = λ r k. rw (c .before .enum-told18 .given .1, c .rule2 .ensures)
 
 returns-27 : tie.Need-returns-27
-unfolding rowDecided
-returns-27 c = rw (c .before .before .enum-told19 .given .1, c .decide8 .ensures, c .before .with-deep2 .ensures)
+unfolding rowDecided applied changed
+returns-27 c = λ r k. rw (c .before .enum-told19 .given .1, c .rule3 .ensures)
 
 returns-28 : tie.Need-returns-28
-unfolding rowDecided
-returns-28 c = rw (c .before .enum-told20 .given .1) (c .ignore .ensures)
+unfolding rowDecided applied changed
+returns-28 c = λ r k. rw (c .before .enum-told20 .given .1, c .ignore .ensures)
 
 pub row-spec : {M : Type 1} → statement M
 row-spec =
@@ -329,8 +317,7 @@ row-spec =
     enum-told-5
     erase-sector-requires
     enum-told-6
-    unprotected-set-requires
-    start-requires
+    erase-chip-requires
     enum-known-e-6
     transfer-requires
     enum-known-e-7
@@ -338,8 +325,7 @@ row-spec =
     enum-known-e-8
     rewrite-requires
     enum-told-7
-    with-enabled-requires
-    decide-requires
+    rule-requires
     enum-told-8
     disable-protection-requires
     enum-told-9
@@ -351,21 +337,19 @@ row-spec =
     enum-told-12
     program-security-requires
     enum-told-13
-    decide-requires-2
+    tell-requires
     enum-told-14
-    decide-requires-3
+    tell-requires-2
     enum-told-15
-    decide-requires-4
+    tell-requires-3
     enum-told-16
-    decide-requires-5
+    tell-requires-4
     enum-told-17
-    decide-requires-6
+    tell-requires-5
     enum-told-18
-    with-deep-requires
-    decide-requires-7
+    rule-requires-2
     enum-told-19
-    with-deep-requires-2
-    decide-requires-8
+    rule-requires-3
     enum-told-20
     ignore-requires
     returns

@@ -2,6 +2,7 @@
 -- Assumes nothing.
 use borrow.Author.Needs.{needs}
 use Rattle.control.specs.Control.{rowDecided}
+use Rattle.control.specs.Rulings.{applied, changed}
 use Rattle.control.proofs.transfer.Statement.{statement}
 use Rattle.control.proofs.transfer.Tie as tie
 
@@ -12,8 +13,8 @@ start-requires : tie.Need-start-requires
 start-requires c κs = search needs
 
 returns : tie.Need-returns
-unfolding rowDecided
-returns c = rw (c .start .ensures, c .before .page-named .ensures .0)
+unfolding rowDecided applied changed
+returns c = λ r e. rw (c .start .ensures, c .before .page-named .ensures .0)
 
 pub transfer-spec : {M : Type 1} → statement M
 transfer-spec = tie.close (tie.spec page-named-requires start-requires returns)

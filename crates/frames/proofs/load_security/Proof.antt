@@ -1,59 +1,54 @@
--- `frames::load_security` meets its contract: buffer 1 is copied out, its first 64 bytes replaced, and put back.
+-- `frames::load_security` meets its contract: the first 64 bytes that are lent on become the data.
 -- Assumes nothing.
+use borrow.Author.Needs.{needs}
 use mathlib.Core.Path.{_≡_, sym, ap, _∙_}
 use native.Mathlib.Omega.{arith}
-use lib.Seq.{length-take-le}
 use lib.ListN.{length}
-use borrow.Author.Needs.{needs}
-use Rattle.commands.specs.declared.Buffer.the-variants.{One}
-use Rattle.state.specs.Memory.{withBuffer}
+use lib.Seq.{length-take-le}
 use Rattle.state.proofs.Arms.{begun}
 use Rattle.frames.proofs.load_security.Statement.{statement}
 use Rattle.frames.proofs.load_security.Tie as tie
+use Rattle.registers.proofs.unpacked64.Reads as unpacked64-reads
+use Rattle.slices.proofs.copy.Reads as copy-reads
 
 unpacked64-requires : tie.Need-unpacked64-requires
 unpacked64-requires c κs = search needs
 
-array-borrow-prefix-b : tie.Need-array-borrow-prefix-b
-array-borrow-prefix-b c =
-    let l : length (c .before .before .args .c .buffer1) ≡ 264 = search needs in
-    omega arith
+slice-relend-prefix-copy : tie.Need-slice-relend-prefix-copy
+slice-relend-prefix-copy c = search needs
 
 slice-aggregate-copy : tie.Need-slice-aggregate-copy
 slice-aggregate-copy c =
-    let b = c .before .before .before .args .c .buffer1 in
-    let l : length b ≡ 264 = search needs in
-    sym (length-take-le 64 b (omega arith))
+    let s = c .before .before .before in
+    sym (length-take-le 64 (s .args .buffers .now) (omega arith))
 
 slice-aggregate-copy-2 : tie.Need-slice-aggregate-copy-2
 slice-aggregate-copy-2 c = search needs
 
 copy-requires : tie.Need-copy-requires
 copy-requires c κs =
-    let b = c .before .before .before .before .args .c .buffer1 in
-    let l : length b ≡ 264 = search needs in
-    let k : length (c .before .before .before .unpacked64 .result) ≡ 64 = search needs in
-    length-take-le 64 b (omega arith) ∙ sym k
+    let s = c .before .before .before .before in
+    let k : length (c .before .before .unpacked64 .result) ≡ 64 = search needs in
+    length-take-le 64 (s .args .buffers .now) (omega arith) ∙ sym k
 
-with-buffer-requires : tie.Need-with-buffer-requires
-with-buffer-requires c κs = search needs
+same-length : tie.Need-same-length
+same-length c = search needs
 
 returns : tie.Need-returns
 returns c =
-    let a = c .before .before .before .before .before .before .before .args in
-    let l : length (a .c .buffer1) ≡ 264 = search needs in
-    let k : length (c .before .before .before .before .before .before .unpacked64 .result) ≡ 64 = search needs in
-    c .with-buffer .ensures
-    ∙ ap (withBuffer (a .c) One) (begun 64 (a .c .buffer1) _ _ (omega arith) (sym k ∙ ap length (c .before .before .before .before .before .before .unpacked64 .ensures)) (c .before .before .copy .ensures ∙ c .before .before .before .before .before .before .unpacked64 .ensures))
+    let s = c .before .before .before .before .before .before .before in
+    let u = c .before .before .before .before .before .unpacked64 in
+    let k : length (u .result) ≡ 64 = search needs in
+    begun 64 (s .args .buffers .now) _ _ (omega arith) (sym k ∙ ap length (u .ensures)) (c .before .before .copy .ensures ∙ u .ensures)
 
 pub load-security-spec : {M : Type 1} → statement M
 load-security-spec =
     tie.close
     (tie.spec
     unpacked64-requires
-    array-borrow-prefix-b
+    slice-relend-prefix-copy
     slice-aggregate-copy
     slice-aggregate-copy-2
     copy-requires
-    with-buffer-requires
+    same-length
     returns)

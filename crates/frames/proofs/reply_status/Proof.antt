@@ -1,15 +1,22 @@
 -- `frames::reply_status` meets its contract: the status byte is repeated.
 -- Assumes nothing.
-use mathlib.Core.Path.{_∙_}
-use lib.ListN.{length}
 use borrow.Author.Needs.{needs}
+use mathlib.Core.Path.{ap, _∙_, sym}
+use lib.ListN.{length}
+use Rattle.control.specs.declared.Marks.{Marks}
+use Rattle.control.proofs.Bearing.{seals-of}
 use Rattle.memory.specs.Replies.{replied}
-use Rattle.state.specs.Frames.{statusOf}
+use Rattle.state.specs.Frames.{isFree, statusOf}
+use Rattle.state.proofs.Arms.{free-idle}
 use Rattle.frames.proofs.reply_status.Statement.{statement}
 use Rattle.frames.proofs.reply_status.Tie as tie
+use Rattle.frames.proofs.is_free.Reads as is-free-reads
+use Rattle.frames.proofs.status.Reads as status-reads
+use Rattle.memory.proofs.reply_repeated.Reads as reply-repeated-reads
+use Rattle.registers.proofs.is_guarded.Reads as is-guarded-reads
 
-is-idle-requires : tie.Need-is-idle-requires
-is-idle-requires c κs = search needs
+is-free-requires : tie.Need-is-free-requires
+is-free-requires c κs = search needs
 
 is-guarded-requires : tie.Need-is-guarded-requires
 is-guarded-requires c κs = search needs
@@ -26,14 +33,17 @@ same-length c = search needs
 returns : tie.Need-returns
 returns c =
     let a = c .before .before .before .before .before .before .before .before .before .args in
+    λ r e.
+    let f = c .before .before .before .before .before .before .is-free .ensures ∙ ap (λ (x : Marks). isFree (x .usage)) (sym e) ∙ free-idle (r .operation) in
+    let p = c .before .before .before .before .before .is-guarded .ensures r (seals-of r (a .m) e) in
     c .before .before .reply-repeated .ensures
-    ∙ (λ i. replied (length (a .reply .now)) (a .lead) (λ _. (c .before .before .before .before .status .ensures ∙ (λ j. statusOf (c .before .before .before .before .before .before .is-idle .ensures j) (a .c .compare) (c .before .before .before .before .before .is-guarded .ensures j))) i))
+    ∙ (λ i. replied (length (a .reply .now)) (a .lead) (λ _. (c .before .before .before .before .status .ensures ∙ (λ j. statusOf (f j) (a .compare) (p j))) i))
 
 pub reply-status-spec : {M : Type 1} → statement M
 reply-status-spec =
     tie.close
     (tie.spec
-    is-idle-requires
+    is-free-requires
     is-guarded-requires
     status-requires
     reply-repeated-requires

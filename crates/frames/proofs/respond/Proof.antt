@@ -1,11 +1,34 @@
 -- `frames::respond` meets its contract: each arm is a clause of `dataOf`; the action names what its function asks for.
 -- Assumes nothing.
-use native.Mathlib.Omega.{arith}
 use borrow.Author.Needs.{needs}
+use mathlib.Core.List.{List}
+use mathlib.Core.Path.{_≡_, refl, ap, _∙_, sym}
+use Prim.Native.Nat.{ℕ}
+use native.Mathlib.Omega.{arith}
+use lib.ListN.{length}
+use Rattle.commands.specs.declared.Buffer.{Buffer}
+use Rattle.commands.specs.declared.Buffer.the-variants.{One, Two}
+use Rattle.control.specs.declared.Marks.{Marks}
+use Rattle.memory.specs.Replies.{replied, onceData, ringData}
 use Rattle.state.specs.Frames.{dataOf}
+use Rattle.state.specs.Memory.{lent, either}
 use Rattle.state.proofs.Arms.{names-page, names-array, names-read}
 use Rattle.frames.proofs.respond.Statement.{statement}
 use Rattle.frames.proofs.respond.Tie as tie
+use Rattle.frames.proofs.reply_buffer.Reads as reply-buffer-reads
+use Rattle.frames.proofs.reply_identity.Reads as reply-identity-reads
+use Rattle.frames.proofs.reply_register.Reads as reply-register-reads
+use Rattle.frames.proofs.reply_status.Reads as reply-status-reads
+use Rattle.memory.proofs.reply_nothing.Reads as reply-nothing-reads
+use Rattle.memory.proofs.reply_once.Reads as reply-once-reads
+use Rattle.memory.proofs.reply_page.Reads as reply-page-reads
+use Rattle.memory.proofs.reply_ring.Reads as reply-ring-reads
+
+-- the buffer that is meant
+either-lent : (b : Buffer) (size start lead n : ℕ) (bs : List ℕ)
+    → replied n lead (ringData size start (lent b bs)) ≡ replied n lead (ringData size start (either b (lent One bs) (lent Two bs)))
+either-lent One size start lead n bs = refl
+either-lent Two size start lead n bs = refl
 
 enum-told : tie.Need-enum-told
 enum-told c = search needs
@@ -18,7 +41,7 @@ enum-known-a c = search needs
 
 reply-page-requires : tie.Need-reply-page-requires
 reply-page-requires c κs =
-    let s = c .before .before .before .before .before .before .before in
+    let s = c .before .before .before .before .before .before .before .before .before in
     let n = names-page (s .args .g) (s .args .a) _ _ (c .before .before .a .given .1) (s .pre .1) in
     (s .pre .0, n .0, n .1, s .pre .2)
 
@@ -27,7 +50,7 @@ enum-known-a-2 c = search needs
 
 reply-ring-requires : tie.Need-reply-ring-requires
 reply-ring-requires c κs =
-    let s = c .before .before .before .before .before .before .before in
+    let s = c .before .before .before .before .before .before .before .before .before in
     (s .pre .2, omega (arith, names-array (s .args .g) (s .args .a) _ (c .before .before .a2 .given .1) (s .pre .1), s .pre .0 .whole), omega arith)
 
 enum-known-a-3 : tie.Need-enum-known-a-3
@@ -35,8 +58,8 @@ enum-known-a-3 c = search needs
 
 reply-buffer-requires : tie.Need-reply-buffer-requires
 reply-buffer-requires c κs =
-    let s = c .before .before .before .before .before .before .before in
-    (s .pre .0 .most, names-read (s .args .g) (s .args .a) _ _ (c .before .before .a3 .given .1) (s .pre .1), s .pre .2)
+    let s = c .before .before .before .before .before .before .before .before .before in
+    (s .pre .0 .most, names-read (s .args .g) (s .args .a) _ _ (c .before .before .a3 .given .1) (s .pre .1), s .pre .2, s .pre .3)
 
 enum-told-2 : tie.Need-enum-told-2
 enum-told-2 c = search needs
@@ -71,8 +94,8 @@ reply-register-requires-2 c κs = search needs
 enum-told-7 : tie.Need-enum-told-7
 enum-told-7 c = search needs
 
-reply-security-requires : tie.Need-reply-security-requires
-reply-security-requires c κs = search needs
+reply-once-requires : tie.Need-reply-once-requires
+reply-once-requires c κs = search needs
 
 enum-told-8 : tie.Need-enum-told-8
 enum-told-8 c = search needs
@@ -91,84 +114,96 @@ same-length c = search needs
 
 returns : tie.Need-returns
 unfolding dataOf
-returns c = rw (c .before .before .before .before .enum-told .given .1) (c .before .before .reply-nothing .ensures)
+returns c = λ r e k. rw (c .before .before .before .before .enum-told .given .1) (c .before .before .reply-nothing .ensures)
 
 same-length-2 : tie.Need-same-length-2
 same-length-2 c = search needs
 
 returns-2 : tie.Need-returns-2
 unfolding dataOf
-returns-2 c = rw (c .before .before .before .before .before .a .given .1) (c .before .before .reply-page .ensures)
+returns-2 c = λ r e k. rw (c .before .before .before .before .before .a .given .1) (c .before .before .reply-page .ensures)
 
 same-length-3 : tie.Need-same-length-3
 same-length-3 c = search needs
 
 returns-3 : tie.Need-returns-3
 unfolding dataOf
-returns-3 c = rw (c .before .before .before .before .before .a2 .given .1) (c .before .before .reply-ring .ensures)
+returns-3 c = λ r e k. rw (c .before .before .before .before .before .a2 .given .1) (c .before .before .reply-ring .ensures)
 
 same-length-4 : tie.Need-same-length-4
 same-length-4 c = search needs
 
 returns-4 : tie.Need-returns-4
 unfolding dataOf
-returns-4 c = rw (c .before .before .before .before .before .a3 .given .1) (c .before .before .reply-buffer .ensures)
+returns-4 c = λ r e k. rw (c .before .before .before .before .before .a3 .given .1) (c .before .before .reply-buffer .ensures ∙ either-lent (c .before .before .before .before .before .a3 .given .0 .0) (c .before .before .before .before .before .before .before .before .before .before .before .before .args .g .size) (c .before .before .before .before .before .a3 .given .0 .1 .0) (c .before .before .before .before .before .before .before .before .before .before .before .before .args .lead) (length (c .before .before .before .before .before .before .before .before .before .before .before .before .args .reply .now)) (c .before .before .before .before .before .before .before .before .before .before .before .before .args .buffers .now))
 
 same-length-5 : tie.Need-same-length-5
 same-length-5 c = search needs
 
 returns-5 : tie.Need-returns-5
 unfolding dataOf
-returns-5 c = rw (c .before .before .before .before .enum-told2 .given .1) (c .before .before .reply-nothing2 .ensures)
+returns-5 c = λ r e k. rw (c .before .before .before .before .enum-told2 .given .1) (c .before .before .reply-nothing2 .ensures)
 
 same-length-6 : tie.Need-same-length-6
 same-length-6 c = search needs
 
 returns-6 : tie.Need-returns-6
 unfolding dataOf
-returns-6 c = rw (c .before .before .before .before .enum-told3 .given .1) (c .before .before .reply-nothing3 .ensures)
+returns-6 c = λ r e k. rw (c .before .before .before .before .enum-told3 .given .1) (c .before .before .reply-nothing3 .ensures)
 
 same-length-7 : tie.Need-same-length-7
 same-length-7 c = search needs
 
 returns-7 : tie.Need-returns-7
 unfolding dataOf
-returns-7 c = rw (c .before .before .before .before .enum-told4 .given .1) (c .before .before .reply-nothing4 .ensures)
+returns-7 c = λ r e k. rw (c .before .before .before .before .enum-told4 .given .1) (c .before .before .reply-nothing4 .ensures)
 
 same-length-8 : tie.Need-same-length-8
 same-length-8 c = search needs
 
 returns-8 : tie.Need-returns-8
 unfolding dataOf
-returns-8 c = rw (c .before .before .before .before .before .enum-told5 .given .1) (c .before .before .reply-register .ensures)
+returns-8 c =
+    let s = c .before .before .before .before .before .before .before .before .before .before .before .before .args in
+    λ r e k.
+    rw (c .before .before .before .before .before .enum-told5 .given .1)
+    (c .before .before .reply-register .ensures ∙ ap (λ (x : Marks). replied (length (s .reply .now)) (s .lead) (onceData (x .seals .protection))) (sym e))
 
 same-length-9 : tie.Need-same-length-9
 same-length-9 c = search needs
 
 returns-9 : tie.Need-returns-9
 unfolding dataOf
-returns-9 c = rw (c .before .before .before .before .before .enum-told6 .given .1) (c .before .before .reply-register2 .ensures)
+returns-9 c =
+    let s = c .before .before .before .before .before .before .before .before .before .before .before .before .args in
+    λ r e k.
+    rw (c .before .before .before .before .before .enum-told6 .given .1)
+    (c .before .before .reply-register2 .ensures ∙ ap (λ (x : Marks). replied (length (s .reply .now)) (s .lead) (onceData (x .seals .lockdown))) (sym e))
 
 same-length-10 : tie.Need-same-length-10
 same-length-10 c = search needs
 
 returns-10 : tie.Need-returns-10
 unfolding dataOf
-returns-10 c = rw (c .before .before .before .before .enum-told7 .given .1) (c .before .before .reply-security .ensures)
+returns-10 c =
+    let s = c .before .before .before .before .before .before .before .before .before .before .before .args in
+    λ r e k.
+    rw (c .before .before .before .before .enum-told7 .given .1)
+    (c .before .before .reply-once .ensures ∙ ap (λ (l : List ℕ). replied (length (s .reply .now)) (s .lead) (onceData l)) k)
 
 same-length-11 : tie.Need-same-length-11
 same-length-11 c = search needs
 
 returns-11 : tie.Need-returns-11
 unfolding dataOf
-returns-11 c = rw (c .before .before .before .before .enum-told8 .given .1) (c .before .before .reply-status .ensures)
+returns-11 c = λ r e k. rw (c .before .before .before .before .enum-told8 .given .1) (c .before .before .reply-status .ensures r e)
 
 same-length-12 : tie.Need-same-length-12
 same-length-12 c = search needs
 
 returns-12 : tie.Need-returns-12
 unfolding dataOf
-returns-12 c = rw (c .before .before .before .before .enum-told9 .given .1) (c .before .before .reply-identity .ensures)
+returns-12 c = λ r e k. rw (c .before .before .before .before .enum-told9 .given .1) (c .before .before .reply-identity .ensures)
 
 pub respond-spec : {M : Type 1} → statement M
 respond-spec =
@@ -193,7 +228,7 @@ respond-spec =
     enum-told-6
     reply-register-requires-2
     enum-told-7
-    reply-security-requires
+    reply-once-requires
     enum-told-8
     reply-status-requires
     enum-told-9

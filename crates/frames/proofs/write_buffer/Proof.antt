@@ -1,38 +1,62 @@
--- `frames::write_buffer` meets its contract: the buffer is copied out, written and put back.
+-- `frames::write_buffer` meets its contract: the part that is lent on is the buffer.
 -- Assumes nothing.
+use borrow.Author.Needs.{needs}
 use mathlib.Core.List.{List}
 use mathlib.Core.Path.{ap, _∙_}
-use Prim.Native.Nat.{ℕ}
-use borrow.Author.Needs.{needs}
-use Rattle.slices.specs.Lists.{ringWrite}
-use Rattle.state.specs.Memory.{withBuffer}
+use Prim.Native.Nat.{ℕ, _+_, _-_}
+use native.Mathlib.Omega.{arith}
+use lib.ListN.{take, drop}
+use Rattle.slices.specs.Lists.{splice, ringWrite}
+use Rattle.slices.proofs.Laws.{run-part, run-length, kept-spliced}
 use Rattle.frames.proofs.write_buffer.Statement.{statement}
 use Rattle.frames.proofs.write_buffer.Tie as tie
+use Rattle.slices.proofs.ring_write.Reads as ring-write-reads
+use Rattle.state.proofs.buffer_start.Reads as buffer-start-reads
 
-buffer-of-requires : tie.Need-buffer-of-requires
-buffer-of-requires c κs = search needs
+buffer-start-requires : tie.Need-buffer-start-requires
+buffer-start-requires c κs = search needs
 
-slice-aggregate-ring-write : tie.Need-slice-aggregate-ring-write
-slice-aggregate-ring-write c = search needs
+add-e : tie.Need-add-e
+add-e c = search needs
+
+sub-ring-write : tie.Need-sub-ring-write
+sub-ring-write c = search needs
+
+part-ring-write-start : tie.Need-part-ring-write-start
+part-ring-write-start c = search needs
+
+part-ring-write-end : tie.Need-part-ring-write-end
+part-ring-write-end c = search needs
 
 ring-write-requires : tie.Need-ring-write-requires
-ring-write-requires c κs = search needs
+ring-write-requires c κs =
+    let s = c .before .before .before .before in
+    let a = c .before .buffer-start .result in
+    let l = run-length a 264 (s .args .buffers .now) (omega arith) in
+    (s .pre .1, omega arith)
 
-with-buffer-requires : tie.Need-with-buffer-requires
-with-buffer-requires c κs = search needs
+same-length : tie.Need-same-length
+same-length c = search needs
 
 returns : tie.Need-returns
 returns c =
-    let a = c .before .before .before .before .before .before .args in
-    c .with-buffer .ensures
-    ∙ ap (withBuffer (a .c) (a .buffer)) (c .before .before .ring-write .ensures ∙ ap (λ (l : List ℕ). ringWrite (a .g .size) (a .start) (a .bytes .now) l) (c .before .before .before .before .buffer-of .ensures))
+    let s = c .before .before .before .before .before .before .before in
+    let x = s .args in
+    let bs = x .buffers .now in
+    let a = c .before .before .before .before .buffer-start .result in
+    kept-spliced a (a + 264 - a) bs (omega arith) (c .before .before .ring-write .kept .0) (c .before .before .ring-write .ensures)
+    ∙ ap (λ (l : List ℕ). splice a (ringWrite (x .g .size) (x .start) (x .bytes .now) l) bs) (run-part a 264 bs)
+    ∙ ap (λ (n : ℕ). splice n (ringWrite (x .g .size) (x .start) (x .bytes .now) (take 264 (drop n bs))) bs) (c .before .before .before .before .buffer-start .ensures .0)
 
 pub write-buffer-spec : {M : Type 1} → statement M
 write-buffer-spec =
     tie.close
     (tie.spec
-    buffer-of-requires
-    slice-aggregate-ring-write
+    buffer-start-requires
+    add-e
+    sub-ring-write
+    part-ring-write-start
+    part-ring-write-end
     ring-write-requires
-    with-buffer-requires
+    same-length
     returns)

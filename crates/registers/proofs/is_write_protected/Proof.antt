@@ -1,7 +1,12 @@
 -- `registers::is_write_protected` meets its contract: locked, or listed and guarded, as the definition has it.
 -- Assumes nothing.
 use Rattle.registers.proofs.Protection.{protected-locked, protected-listed, protected-free}
-use mathlib.Core.Path.{sym, _∙_}
+use mathlib.Core.Path.{_≡_, sym, ap, _∙_}
+use mathlib.Core.Bool.{Bool}
+use Prim.Native.Nat.{ℕ}
+use Rattle.registers.specs.declared.Registers.{Registers}
+use Rattle.registers.specs.declared.Seals.{Seals}
+use Rattle.registers.specs.Protection.{marked, sealsOf}
 use borrow.Author.Needs.{needs}
 use Rattle.registers.proofs.is_write_protected.Statement.{statement}
 use Rattle.registers.proofs.is_write_protected.Tie as tie
@@ -9,10 +14,17 @@ use Rattle.registers.proofs.is_write_protected.Tie as tie
 is-marked-requires : tie.Need-is-marked-requires
 is-marked-requires c κs = search needs
 
+-- what holds of the seals holds of the registers that have them
+locked : (r : Registers) (s : Seals) (n : ℕ) {b v : Bool} → sealsOf r ≡ s → b ≡ marked (s .lockdown) n → b ≡ v → marked (r .lockdown) n ≡ v
+locked r s n e h k = ap (λ (x : Seals). marked (x .lockdown) n) e ∙ sym h ∙ k
+
+listed : (r : Registers) (s : Seals) (n : ℕ) {b v : Bool} → sealsOf r ≡ s → b ≡ marked (s .protection) n → b ≡ v → marked (r .protection) n ≡ v
+listed r s n e h k = ap (λ (x : Seals). marked (x .protection) n) e ∙ sym h ∙ k
+
 returns : tie.Need-returns
 returns c =
     let s = c .before .before .before .args in
-    sym (protected-locked (s .r) (s .sector) (sym (c .before .is-marked .ensures) ∙ c .if1 .taken))
+    λ r e. sym (protected-locked r (s .sector) (locked r (s .s) (s .sector) e (c .before .is-marked .ensures) (c .if1 .taken)))
 
 is-marked-requires-2 : tie.Need-is-marked-requires-2
 is-marked-requires-2 c κs = search needs
@@ -23,17 +35,19 @@ is-guarded-requires c κs = search needs
 returns-2 : tie.Need-returns-2
 returns-2 c =
     let s = c .before .before .before .before .before .before .before .args in
-    c .is-guarded .ensures
-    ∙ sym (protected-listed (s .r) (s .sector)
-    (sym (c .before .before .before .before .before .is-marked .ensures) ∙ c .before .before .before .before .if1 .left)
-    (sym (c .before .before .is-marked2 .ensures) ∙ c .before .if2 .taken))
+    λ r e.
+    c .is-guarded .ensures r e
+    ∙ sym (protected-listed r (s .sector)
+    (locked r (s .s) (s .sector) e (c .before .before .before .before .before .is-marked .ensures) (c .before .before .before .before .if1 .left))
+    (listed r (s .s) (s .sector) e (c .before .before .is-marked2 .ensures) (c .before .if2 .taken)))
 
 returns-3 : tie.Need-returns-3
 returns-3 c =
     let s = c .before .before .before .before .before .before .args in
-    sym (protected-free (s .r) (s .sector)
-    (sym (c .before .before .before .before .is-marked .ensures) ∙ c .before .before .before .if1 .left)
-    (sym (c .before .is-marked2 .ensures) ∙ c .if2 .left))
+    λ r e.
+    sym (protected-free r (s .sector)
+    (locked r (s .s) (s .sector) e (c .before .before .before .before .is-marked .ensures) (c .before .before .before .if1 .left))
+    (listed r (s .s) (s .sector) e (c .before .is-marked2 .ensures) (c .if2 .left)))
 
 pub is-write-protected-spec : {M : Type 1} → statement M
 is-write-protected-spec =

@@ -1,26 +1,26 @@
 -- `registers::unprotected_set` meets its contract. The loop's invariant: m is the set of the sectors from s on. Assumes nothing.
 use borrow.Author.Needs.{needs}
 use borrow.Author.Tests.{not-true, not-false}
-use mathlib.Core.Path.{_≡_, sym, _∙_}
+use mathlib.Core.Path.{_≡_, refl, sym, _∙_}
 use Prim.Native.Nat.{_-_, _≤_}
 use native.Mathlib.Omega.{arith}
 use Rattle.geometry.proofs.Sectors.{sector-most}
 use Rattle.registers.specs.Protection.{unprotectedFrom}
-use Rattle.registers.proofs.Sets.{from-none, from-most, from-free, from-sealed, from-all}
+use Rattle.registers.proofs.Sets.{bare, set-alike, from-none, from-most, from-free, from-sealed, from-all}
 use Rattle.registers.proofs.unprotected_set.Statement.{statement}
 use Rattle.registers.proofs.unprotected_set.Tie as tie
 
 abbrev Inv-loop : tie.InvT-loop
-Inv-loop r s₀ m₀ s m = (s ≤ s₀) × (m ≡ unprotectedFrom r (s₀ - s) s)
+Inv-loop z s₀ m₀ s m = (s ≤ s₀) × (m ≡ unprotectedFrom (bare z) (s₀ - s) s)
 
 abbrev μ-loop : tie.MeasureT-loop
-μ-loop r s₀ m₀ s m = s
+μ-loop z s₀ m₀ s m = s
 
 sector-count-requires : tie.Need-sector-count-requires Inv-loop μ-loop
 sector-count-requires c κs = omega (arith, c .pre .blocks)
 
 loop-holds : tie.Need-loop-holds Inv-loop μ-loop
-loop-holds c = (omega arith, from-none (c .before .args .r) (c .sector-count .result))
+loop-holds c = (omega arith, from-none (bare (c .before .args .seals)) (c .sector-count .result))
 
 sub-s : tie.Need-sub-s Inv-loop μ-loop
 sub-s c = search needs
@@ -30,7 +30,7 @@ mul-m c =
     let s = c .before .before .before in
     let l = c .before .loop in
     let n = c .before .before .sector-count in
-    omega (arith, from-most (s .args .r) (n .result - l .s) (l .s) (omega (arith, sector-most (s .args .g) (s .pre .few))))
+    omega (arith, from-most (bare (s .args .seals)) (n .result - l .s) (l .s) (omega (arith, sector-most (s .args .g) (s .pre .few))))
 
 is-write-protected-requires : tie.Need-is-write-protected-requires Inv-loop μ-loop
 is-write-protected-requires c κs = let s = c .before .before .before in omega (arith, sector-most (s .args .g) (s .pre .few))
@@ -40,7 +40,7 @@ add-m c =
     let s = c .before .before .before .before .before in
     let l = c .before .before .before .loop in
     let n = c .before .before .before .before .sector-count in
-    omega (arith, from-most (s .args .r) (n .result - l .s) (l .s) (omega (arith, sector-most (s .args .g) (s .pre .few))))
+    omega (arith, from-most (bare (s .args .seals)) (n .result - l .s) (l .s) (omega (arith, sector-most (s .args .g) (s .pre .few))))
 
 loop-less : tie.Need-loop-less Inv-loop μ-loop
 loop-less c = search needs
@@ -50,8 +50,8 @@ loop-again c =
     let l = c .before .before .before .loop in
     let p = c .before .is-write-protected in
     let n = c .before .before .before .before .sector-count .result in
-    let e = sym (p .ensures) ∙ not-true (p .result) (c .if1 .taken) in
-    (omega arith, from-free (c .before .before .before .before .before .args .r) n (l .s) (l .m) (omega arith) (omega arith) e (l .inv .1))
+    let e = sym (p .ensures (bare (c .before .before .before .before .before .args .seals)) refl) ∙ not-true (p .result) (c .if1 .taken) in
+    (omega arith, from-free (bare (c .before .before .before .before .before .args .seals)) n (l .s) (l .m) (omega arith) (omega arith) e (l .inv .1))
 
 loop-less-2 : tie.Need-loop-less-2 Inv-loop μ-loop
 loop-less-2 c = search needs
@@ -61,15 +61,15 @@ loop-again-2 c =
     let l = c .before .before .before .loop in
     let p = c .before .is-write-protected in
     let n = c .before .before .before .before .sector-count .result in
-    let e = sym (p .ensures) ∙ not-false (p .result) (c .if1 .left) in
-    (omega arith, from-sealed (c .before .before .before .before .before .args .r) n (l .s) (l .m) (omega arith) (omega arith) e (l .inv .1))
+    let e = sym (p .ensures (bare (c .before .before .before .before .before .args .seals)) refl) ∙ not-false (p .result) (c .if1 .left) in
+    (omega arith, from-sealed (bare (c .before .before .before .before .before .args .seals)) n (l .s) (l .m) (omega arith) (omega arith) e (l .inv .1))
 
 returns : tie.Need-returns Inv-loop μ-loop
 returns c =
     let s = c .before .before .before .args in
     let n = c .before .before .sector-count in
     let l = c .before .loop in
-    from-all (s .g) (s .r) (n .result) (l .s) (l .m) (n .ensures) (omega arith) (l .inv .1)
+    λ r e. from-all (s .g) (bare (s .seals)) (n .result) (l .s) (l .m) (n .ensures) (omega arith) (l .inv .1) ∙ set-alike (s .g) r (s .seals) e
 
 pub unprotected-set-spec : {M : Type 1} → statement M
 unprotected-set-spec =

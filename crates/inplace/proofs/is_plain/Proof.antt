@@ -1,9 +1,11 @@
--- `frames::is_idle` meets its contract: each arm is a clause of the definition.
+-- `inplace::is_plain` meets its contract: arm for arm, by `completedBy`.
 -- Assumes nothing.
+use mathlib.Core.Path.{subst, sym}
+use lib.Dec.{T}
 use borrow.Author.Needs.{needs}
-use Rattle.state.specs.Frames.{isIdle}
-use Rattle.frames.proofs.is_idle.Statement.{statement}
-use Rattle.frames.proofs.is_idle.Tie as tie
+use Rattle.control.specs.Completion.{completedBy}
+use Rattle.inplace.proofs.is_plain.Statement.{statement}
+use Rattle.inplace.proofs.is_plain.Tie as tie
 
 enum-told : tie.Need-enum-told
 enum-told c = search needs
@@ -48,63 +50,59 @@ enum-told-14 : tie.Need-enum-told-14
 enum-told-14 c = search needs
 
 returns : tie.Need-returns
-unfolding isIdle
-returns c = rw (c .enum-told .given .1)
+unfolding completedBy
+returns c = λ h r. rw (c .enum-told .given .1)
 
 returns-2 : tie.Need-returns-2
-unfolding isIdle
-returns-2 c = rw (c .enum-told2 .given .1)
+unfolding completedBy
+returns-2 c = λ h r. rw (c .enum-told2 .given .1)
 
 returns-3 : tie.Need-returns-3
-unfolding isIdle
-returns-3 c = rw (c .enum-told3 .given .1)
+unfolding completedBy
+returns-3 c = λ h r. rw (c .enum-told3 .given .1)
 
 returns-4 : tie.Need-returns-4
-unfolding isIdle
-returns-4 c = rw (c .enum-told4 .given .1)
+unfolding completedBy
+returns-4 c = λ h r. rw (c .enum-told4 .given .1)
 
 returns-5 : tie.Need-returns-5
-unfolding isIdle
-returns-5 c = rw (c .enum-told5 .given .1)
+unfolding completedBy
+returns-5 c = λ h r. rw (c .enum-told5 .given .1)
 
 returns-6 : tie.Need-returns-6
-unfolding isIdle
-returns-6 c = rw (c .enum-told6 .given .1)
+unfolding completedBy
+returns-6 c = λ h r. rw (c .enum-told6 .given .1)
 
 returns-7 : tie.Need-returns-7
-unfolding isIdle
-returns-7 c = rw (c .enum-told7 .given .1)
+unfolding completedBy
+returns-7 c = λ h r. rw (c .enum-told7 .given .1)
 
 returns-8 : tie.Need-returns-8
-unfolding isIdle
-returns-8 c = rw (c .enum-told8 .given .1)
+unfolding completedBy
+returns-8 c = λ h r. rw (c .enum-told8 .given .1)
 
 returns-9 : tie.Need-returns-9
-unfolding isIdle
-returns-9 c = rw (c .enum-told9 .given .1)
+unfolding completedBy
+returns-9 c = λ h r. rw (c .enum-told9 .given .1)
 
 returns-10 : tie.Need-returns-10
-unfolding isIdle
-returns-10 c = rw (c .enum-told10 .given .1)
+unfolding completedBy
+returns-10 c = λ h r. rw (c .enum-told10 .given .1)
 
 returns-11 : tie.Need-returns-11
-unfolding isIdle
-returns-11 c = rw (c .enum-told11 .given .1)
+returns-11 c = λ h. absurd (subst T (sym h) tt)
 
 returns-12 : tie.Need-returns-12
-unfolding isIdle
-returns-12 c = rw (c .enum-told12 .given .1)
+returns-12 c = λ h. absurd (subst T (sym h) tt)
 
 returns-13 : tie.Need-returns-13
-unfolding isIdle
-returns-13 c = rw (c .enum-told13 .given .1)
+returns-13 c = λ h. absurd (subst T (sym h) tt)
 
 returns-14 : tie.Need-returns-14
-unfolding isIdle
-returns-14 c = rw (c .enum-told14 .given .1)
+returns-14 c = λ h. absurd (subst T (sym h) tt)
 
-pub is-idle-spec : {M : Type 1} → statement M
-is-idle-spec =
+pub is-plain-spec : {M : Type 1} → statement M
+is-plain-spec =
     tie.close
     (tie.spec
     enum-told

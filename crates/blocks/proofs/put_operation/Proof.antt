@@ -1,0 +1,55 @@
+-- `blocks::put_operation` meets its contract: the data are stored right behind the head.
+-- Assumes nothing.
+use borrow.Author.Needs.{needs}
+use mathlib.Core.List.{List}
+use mathlib.Core.Path.{sym, ap, _∙_}
+use Prim.Native.Nat.{ℕ}
+use Rattle.slices.specs.Lists.{splice}
+use Rattle.slices.proofs.Laws.{splice-append}
+use Rattle.blocks.specs.Block.{headOf, headBytes, flagged, dataBytes}
+use Rattle.blocks.proofs.put_operation.Statement.{statement}
+use Rattle.blocks.proofs.put_operation.Tie as tie
+use Rattle.blocks.proofs.head.Reads as head-reads
+use Rattle.blocks.proofs.head_bytes.Reads as head-bytes-reads
+use Rattle.blocks.proofs.put.Reads as put-reads
+use Rattle.blocks.proofs.put_data.Reads as put-data-reads
+
+head-requires : tie.Need-head-requires
+head-requires c κs = search needs
+
+head-bytes-requires : tie.Need-head-bytes-requires
+head-bytes-requires c κs = search needs
+
+slice-aggregate-put : tie.Need-slice-aggregate-put
+slice-aggregate-put c = search needs
+
+put-requires : tie.Need-put-requires
+put-requires c κs = search needs
+
+put-data-requires : tie.Need-put-data-requires
+put-data-requires c κs = search needs
+
+same-length : tie.Need-same-length
+same-length c = search needs
+
+returns : tie.Need-returns
+unfolding headBytes
+returns c =
+    let a = c .before .before .before .before .before .before .before .before .before .before .before .before .args in
+    let b = a .block .now in
+    let f = flagged (a .programmed) (a .enabled) (a .wp) (a .deep) in
+    c .before .before .put-data .ensures
+    ∙ ap (λ (t : List ℕ). splice 172 (dataBytes (a .o)) t) (c .before .before .before .before .before .before .put .ensures ∙ ap (λ (l : List ℕ). splice 160 l b) (c .before .before .before .before .before .before .before .before .before .head-bytes .ensures ∙ ap (headBytes f) (c .before .before .before .before .before .before .before .before .before .before .head .ensures)))
+    ∙ sym (splice-append 160 (headBytes f (headOf (a .o))) (dataBytes (a .o)) b)
+
+pub put-operation-spec : {M : Type 1} → statement M
+put-operation-spec =
+    tie.close
+    (tie.spec
+    head-requires
+    head-bytes-requires
+    slice-aggregate-put
+    put-requires
+    put-data-requires
+    same-length
+    returns)

@@ -1,0 +1,109 @@
+-- `inplace::end_in` meets its contract: the chip is made idle, then the buffers are lent to the operation that was under way.
+-- Assumes nothing.
+use borrow.Author.Needs.{needs}
+use mathlib.Core.List.{_++_}
+use mathlib.Core.Bool.{Bool}
+use mathlib.Core.Path.{sym, ap, _∙_}
+use Prim.Native.Nat.{ℕ}
+use native.Mathlib.Omega.{arith}
+use lib.ListN.{take, drop, set, length-set}
+use Rattle.slices.proofs.Laws.{run-length}
+use Rattle.registers.specs.declared.Operation.{Operation}
+use Rattle.registers.specs.declared.Operation.the-variants.{Idle}
+use Rattle.registers.specs.declared.Registers.{Registers}
+use Rattle.registers.specs.Fields.{withOperation}
+use Rattle.control.specs.declared.Change.the-variants.{Start}
+use Rattle.control.specs.Completion.{completedBy, completed}
+use Rattle.control.specs.Rulings.{changed}
+use Rattle.state.specs.Memory.{Memory, memoryIn, memoryOf, chipOf}
+use Rattle.state.specs.Completion.{completedMemory}
+use Rattle.blocks.specs.Block.{decodeRegisters, decodeChip, encodeChip}
+use Rattle.inplace.proofs.Held.{back-length, lent-both, back-bit}
+use Rattle.inplace.proofs.end_in.Statement.{statement}
+use Rattle.inplace.proofs.end_in.Tie as tie
+use Rattle.blocks.proofs.flag_byte.Reads as flag-byte-reads
+use Rattle.blocks.proofs.is_set.Reads as is-set-reads
+use Rattle.blocks.proofs.settle.Reads as settle-reads
+use Rattle.completion.proofs.complete_memory.Reads as complete-memory-reads
+
+slice-read-is-set : tie.Need-slice-read-is-set
+slice-read-is-set c = search needs
+
+is-set-requires : tie.Need-is-set-requires
+is-set-requires c κs = search needs
+
+settle-requires : tie.Need-settle-requires
+settle-requires c κs = (c .before .before .before .before .before .pre .1, c .before .before .before .before .before .pre .2)
+
+sub-complete-memory : tie.Need-sub-complete-memory
+sub-complete-memory c = search needs
+
+part-complete-memory-start : tie.Need-part-complete-memory-start
+part-complete-memory-start c = search needs
+
+part-complete-memory-end : tie.Need-part-complete-memory-end
+part-complete-memory-end c = omega (arith, c .before .before .settle .kept .0, c .before .before .before .before .before .before .before .before .pre .1)
+
+complete-memory-requires : tie.Need-complete-memory-requires
+complete-memory-requires c κs =
+    let s = c .before .before .before .before .before .before .before .before .before .before in
+    (s .pre .0, s .pre .3, run-length 236 528 (c .before .before .before .before .settle .last .0) (omega (arith, c .before .before .before .before .settle .kept .0, s .pre .1)))
+
+flag-byte-requires : tie.Need-flag-byte-requires
+flag-byte-requires c κs = search needs
+
+slice-write-block : tie.Need-slice-write-block
+slice-write-block c = search needs
+
+same-length : tie.Need-same-length
+same-length c =
+    let s = c .before .before .before .before .before .before .before .before .before .before .before .before .before .before .before .before in
+    let y = c .before .before .before .before .before .before .before .before .before .before .settle .last .0 in
+    let zs = c .before .before .before .before .before .complete-memory .last .1 .1 .0 in
+    let n = run-length 236 528 y (omega (arith, c .before .before .before .before .before .before .before .before .before .before .settle .kept .0, s .pre .1)) in
+    length-set (take 236 y ++ (zs ++ drop 528 (drop 236 y))) 764 (c .flag-byte .result)
+    ∙ back-length y zs (c .before .before .before .before .before .before .before .before .before .before .settle .kept .0 ∙ s .pre .1) (c .before .before .before .before .before .complete-memory .kept .1 .1 .0 ∙ n) ∙ sym (s .pre .1)
+
+same-length-2 : tie.Need-same-length-2
+same-length-2 c = search needs
+
+returns : tie.Need-returns
+unfolding completed changed decodeRegisters decodeChip
+returns c =
+    let s = c .before .before .before .before .before .before .before .before .before .before .before .before .before .before .before .before in
+    let a = s .args in
+    let b = a .block .now in
+    let r = decodeRegisters b in
+    let xs = a .array .now in
+    let l = s .pre .1 in
+    let k = Start Idle in
+    let y = c .before .before .before .before .before .before .before .before .before .before .settle .last .0 in
+    let h = c .before .before .before .before .before .before .before .before .before .before .settle .ensures in
+    let zs = c .before .before .before .before .before .complete-memory .last .1 .1 .0 in
+    let n = run-length 236 528 y (omega (arith, c .before .before .before .before .before .before .before .before .before .before .settle .kept .0, l)) in
+    let m =
+    c .before .before .before .before .before .complete-memory .ensures
+    ∙ ap (λ (x : Memory). completedMemory (a .g) (a .o) x) (ap (λ (bit : Bool). memoryIn xs (take 528 (drop 236 y)) bit) (c .before .before .before .before .before .before .before .before .before .before .before .before .is-set .ensures) ∙ lent-both b k l y h xs)
+    ∙ ap (λ (o : Operation). completedMemory (a .g) o (memoryOf (decodeChip b) xs)) (s .pre .2)
+    in
+    let q = ap (λ (x : Registers). withOperation x Idle) (sym (s .pre .4 r)) ∙ ap (λ (o : Operation). withOperation (completedBy o r) Idle) (s .pre .2) in (
+      ap (λ (v : ℕ). set (take 236 y ++ (zs ++ drop 528 (drop 236 y))) 764 v) (c .flag-byte .ensures) ∙ back-bit b k l y h zs (c .before .before .before .before .before .complete-memory .result) (c .before .before .before .before .before .complete-memory .kept .1 .1 .0 ∙ n) ∙ (λ i. encodeChip (chipOf (q i) (m i))),
+      ap (λ (x : Memory). x .array) m,
+    )
+
+pub end-in-spec : {M : Type 1} → statement M
+end-in-spec =
+    tie.close
+    (tie.spec
+    slice-read-is-set
+    is-set-requires
+    settle-requires
+    sub-complete-memory
+    part-complete-memory-start
+    part-complete-memory-end
+    complete-memory-requires
+    flag-byte-requires
+    slice-write-block
+    same-length
+    same-length-2
+    returns)

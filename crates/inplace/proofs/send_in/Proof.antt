@@ -1,0 +1,160 @@
+-- `inplace::send_in` meets its contract: the reply is made of the parts that are lent, the change stored, and the buffer written, all by what control ruled on the frame.
+-- Assumes nothing.
+use borrow.Author.Needs.{needs}
+use mathlib.Core.Bool.{Bool}
+use mathlib.Core.Path.{refl, sym, ap, _∙_}
+use native.Mathlib.Omega.{arith}
+use lib.ListN.{length, take, drop}
+use Rattle.slices.proofs.Laws.{run-length}
+use Rattle.memory.specs.Replies.{replied}
+use Rattle.state.specs.Memory.{Memory, memoryIn, memoryOf, chipOf}
+use Rattle.state.specs.Frames.{dataOf}
+use Rattle.state.proofs.Arms.{decided-names, decided-lead, decided-reply, decided-registers, decided-memory}
+use Rattle.blocks.specs.Block.{decodeRegisters, decodeChip, encodeChip}
+use Rattle.blocks.proofs.Lends.{security-lent, buffers-lent}
+use Rattle.inplace.proofs.Held.{lent-both, back}
+use Rattle.inplace.proofs.send_in.Statement.{statement}
+use Rattle.inplace.proofs.send_in.Tie as tie
+use Rattle.blocks.proofs.is_set.Reads as is-set-reads
+use Rattle.blocks.proofs.marks_at.Reads as marks-at-reads
+use Rattle.blocks.proofs.settle.Reads as settle-reads
+use Rattle.control.proofs.control_frame.Reads as control-frame-reads
+use Rattle.frames.proofs.act.Reads as act-reads
+use Rattle.frames.proofs.respond.Reads as respond-reads
+
+slice-read-is-set : tie.Need-slice-read-is-set
+slice-read-is-set c = search needs
+
+is-set-requires : tie.Need-is-set-requires
+is-set-requires c κs = search needs
+
+marks-at-requires : tie.Need-marks-at-requires
+marks-at-requires c κs = search needs
+
+control-frame-requires : tie.Need-control-frame-requires
+control-frame-requires c κs = search needs
+
+sub-respond : tie.Need-sub-respond
+sub-respond c = search needs
+
+part-respond-start : tie.Need-part-respond-start
+part-respond-start c = search needs
+
+part-respond-end : tie.Need-part-respond-end
+part-respond-end c = search needs
+
+sub-respond-2 : tie.Need-sub-respond-2
+sub-respond-2 c = search needs
+
+part-respond-start-2 : tie.Need-part-respond-start-2
+part-respond-start-2 c = search needs
+
+part-respond-end-2 : tie.Need-part-respond-end-2
+part-respond-end-2 c = search needs
+
+respond-requires : tie.Need-respond-requires
+respond-requires c κs =
+    let s = c .before .before .before .before .before .before .before .before .before .before .before .before .before in
+    let a = s .args in
+    let b = a .block .now in
+    let r = decodeRegisters b in
+    let e = c .before .before .before .before .control-frame .ensures r (sym (c .before .before .before .before .before .marks-at .ensures)) in (
+      s .pre .0,
+      decided-names (a .g) r (a .frame .now) _ e _ (s .pre .0),
+      decided-lead (a .g) r (a .frame .now) _ e _ (s .pre .3),
+      run-length 236 528 b (omega arith),
+    )
+
+settle-requires : tie.Need-settle-requires
+settle-requires c κs = (c .before .before .before .before .before .before .before .before .before .before .before .before .before .before .before .before .before .pre .1, c .before .before .before .before .before .before .before .before .before .before .before .before .before .before .before .before .before .pre .2)
+
+sub-act : tie.Need-sub-act
+sub-act c = search needs
+
+part-act-start : tie.Need-part-act-start
+part-act-start c = search needs
+
+part-act-end : tie.Need-part-act-end
+part-act-end c = omega (arith, c .before .before .settle .kept .0, c .before .before .before .before .before .before .before .before .before .before .before .before .before .before .before .before .before .before .before .before .pre .1)
+
+sub-act-2 : tie.Need-sub-act-2
+sub-act-2 c =
+    let a = c .before .before .before .before .before .before .before .before .before .before .before .before .before .before .before .before .before .before .before .before .before .args in
+    let b = a .block .now in
+    let r = decodeRegisters b in
+    decided-lead (a .g) r (a .frame .now) _ (c .before .before .before .before .before .before .before .before .before .before .before .before .control-frame .ensures r (sym (c .before .before .before .before .before .before .before .before .before .before .before .before .before .marks-at .ensures))) _ refl
+
+part-act-start-2 : tie.Need-part-act-start-2
+part-act-start-2 c =
+    let a = c .before .before .before .before .before .before .before .before .before .before .before .before .before .before .before .before .before .before .before .before .before .args in
+    let b = a .block .now in
+    let r = decodeRegisters b in
+    decided-lead (a .g) r (a .frame .now) _ (c .before .before .before .before .before .before .before .before .before .before .before .before .control-frame .ensures r (sym (c .before .before .before .before .before .before .before .before .before .before .before .before .before .marks-at .ensures))) _ refl
+
+part-act-end-2 : tie.Need-part-act-end-2
+part-act-end-2 c = search needs
+
+act-requires : tie.Need-act-requires
+act-requires c κs =
+    let s = c .before .before .before .before .before .before .before .before .before .before .before .before .before .before .before .before .before .before .before .before .before .before in
+    let a = s .args in
+    let b = a .block .now in
+    let r = decodeRegisters b in
+    let e = c .before .before .before .before .before .before .before .before .before .before .before .before .before .control-frame .ensures r (sym (c .before .before .before .before .before .before .before .before .before .before .before .before .before .before .marks-at .ensures)) in
+    (s .pre .0 .most, decided-names (a .g) r (a .frame .now) _ e _ (s .pre .0), run-length 236 528 (c .before .before .before .before .settle .last .0) (omega (arith, c .before .before .before .before .settle .kept .0, s .pre .1)))
+
+same-length : tie.Need-same-length
+same-length c = search needs
+
+same-length-2 : tie.Need-same-length-2
+same-length-2 c = search needs
+
+returns : tie.Need-returns
+returns c =
+    let s = c .before .before .before .before .before .before .before .before .before .before .before .before .before .before .before .before .before .before .before .before .before .before .before .before .before in
+    let a = s .args in
+    let b = a .block .now in
+    let r = decodeRegisters b in
+    let f = a .frame .now in
+    let xs = a .array .now in
+    let l = s .pre .1 in
+    let d = c .before .before .before .before .before .before .before .before .before .before .before .before .before .before .before .before .control-frame .result in
+    let m = sym (c .before .before .before .before .before .before .before .before .before .before .before .before .before .before .before .before .before .marks-at .ensures) in
+    let e = c .before .before .before .before .before .before .before .before .before .before .before .before .before .before .before .before .control-frame .ensures r m in
+    let k = d .change in
+    let y = c .before .before .before .before .before .before .before .settle .last .0 in
+    let h = c .before .before .before .before .before .before .before .settle .ensures in
+    let n = run-length 236 528 y (omega (arith, c .before .before .before .before .before .before .before .settle .kept .0, l)) in
+    let j = ap (λ (bit : Bool). memoryIn xs (take 528 (drop 236 b)) bit) (c .before .before .before .before .before .before .before .before .before .before .before .before .before .before .before .before .before .before .before .is-set .ensures) ∙ buffers-lent b xs l in (
+      back b k l y h (c .before .before .act .last .1 .0) (c .before .before .act .kept .1 .0 ∙ n)
+          ∙ (λ i. encodeChip (chipOf (decided-registers (a .g) r f d e i) (decided-memory (a .g) r f d e (memoryOf (decodeChip b) xs) xs (take 528 (drop 236 y)) _ (decodeChip b .compare) n (lent-both b k l y h xs) (c .before .before .act .ensures) i))),
+      decided-reply (a .g) r f d e (memoryOf (decodeChip b) xs) _ _ (s .pre .3)
+          (c .before .before .before .before .before .before .before .before .before .before .before .respond .ensures r m (security-lent b l) ∙ ap (λ (x : Memory). replied (length (a .reply .now)) (d .lead) (dataOf (a .g) r x (d .action))) j),
+    )
+
+pub send-in-spec : {M : Type 1} → statement M
+send-in-spec =
+    tie.close
+    (tie.spec
+    slice-read-is-set
+    is-set-requires
+    marks-at-requires
+    control-frame-requires
+    sub-respond
+    part-respond-start
+    part-respond-end
+    sub-respond-2
+    part-respond-start-2
+    part-respond-end-2
+    respond-requires
+    settle-requires
+    sub-act
+    part-act-start
+    part-act-end
+    sub-act-2
+    part-act-start-2
+    part-act-end-2
+    act-requires
+    same-length
+    same-length-2
+    returns)
