@@ -165,8 +165,8 @@ fn plain(block: &[u8], tag: u8, n: usize) -> Operation
     }
 }
 
-// The operation under way.
-pub fn operation(block: &[u8]) -> Operation
+// The operation under way, by its tag and buffer.
+fn operation_in(block: &[u8]) -> Operation
     requires { ⌜ length (now block) ≡ 765 ⌝ }
     ensures { λ r. ⌜ r ≡ decodeOperation (now (block .entry)) ⌝ }
 {
@@ -178,6 +178,19 @@ pub fn operation(block: &[u8]) -> Operation
         2 => buffered(tag, Buffer::Two, n),
         _ => beyond(),
     }
+}
+
+// The operation under way. Mostly there is none, so that is told first.
+pub fn operation(block: &[u8]) -> Operation
+    requires { ⌜ length (now block) ≡ 765 ⌝ }
+    ensures { λ r. ⌜ r ≡ decodeOperation (now (block .entry)) ⌝ }
+{
+    if block[164] == 0 {
+        if block[165] == 0 {
+            return Operation::Idle;
+        }
+    }
+    operation_in(block)
 }
 
 // What of the registers decides on a frame, with the operation under way.
@@ -351,6 +364,16 @@ fn put_data(block: &mut [u8], o: Operation)
     }
 }
 
+// Marks stored, and no operation: the 76 bytes from index 160 on.
+fn put_idle(block: &mut [u8], programmed: bool, enabled: bool, wp: bool, deep: bool)
+    requires { ⌜ length (now block) ≡ 765 ⌝ }
+    ensures { λ _. ⌜ now (block .exit) ≡ splice 160 (headBytes (flagged programmed enabled wp deep) (headOf Operation.Idle) ++ dataBytes Operation.Idle) (now (block .entry)) ⌝ }
+{
+    let bytes = head_bytes(programmed, enabled, wp, deep, headed(0x00, 0, 0, 0));
+    put(block, 160, &bytes);
+    clear_data(block);
+}
+
 // Marks and operation stored: the 76 bytes from index 160 on.
 fn put_operation(
     block: &mut [u8],
@@ -363,6 +386,10 @@ fn put_operation(
     requires { ⌜ length (now block) ≡ 765 ⌝ }
     ensures { λ _. ⌜ now (block .exit) ≡ splice 160 (headBytes (flagged programmed enabled wp deep) (headOf o) ++ dataBytes o) (now (block .entry)) ⌝ }
 {
+    if let Operation::Idle = o {
+        put_idle(block, programmed, enabled, wp, deep);
+        return;
+    }
     let bytes = head_bytes(programmed, enabled, wp, deep, head(o));
     put(block, 160, &bytes);
     put_data(block, o);
@@ -385,8 +412,8 @@ fn encode_registers(block: &mut [u8], r: Registers)
     put_operation(block, r.programmed, r.enabled, r.wp, r.deep, o);
 }
 
-// The change stored into a block whose operation under way is `o`; what else the block holds stays, as it is stored.
-pub fn settle(block: &mut [u8], o: Operation, c: Change)
+// The change stored, with the operation that is then under way.
+fn settle_in(block: &mut [u8], o: Operation, c: Change)
     requires { ⌜ (length (now block) ≡ 765) × (o ≡ decodeOperation (now block)) ⌝ }
     ensures { λ _. ⌜ now (block .exit) ≡ encodeChip (withRegisters (decodeChip (now (block .entry))) (changed c (decodeRegisters (now (block .entry))))) ⌝ }
 {
@@ -408,6 +435,34 @@ pub fn settle(block: &mut [u8], o: Operation, c: Change)
         Change::Enable { on } => put_operation(block, programmed, on, wp, deep, o),
         Change::Sleep { on } => put_operation(block, programmed, enabled, wp, on, o),
     }
+}
+
+// No operation is under way any more; what else the block holds stays, as it is stored.
+pub fn rest(block: &mut [u8])
+    requires { ⌜ length (now block) ≡ 765 ⌝ }
+    ensures { λ _. ⌜ now (block .exit) ≡ encodeChip (withRegisters (decodeChip (now (block .entry))) (changed (Change.Start Operation.Idle) (decodeRegisters (now (block .entry))))) ⌝ }
+{
+    let programmed = is_set(block[160]);
+    let enabled = is_set(block[161]);
+    let wp = is_set(block[162]);
+    let deep = is_set(block[163]);
+    block[764] = flag_byte(is_set(block[764]));
+    put_idle(block, programmed, enabled, wp, deep);
+}
+
+// The change stored into a block whose operation under way is `o`; what else the block holds stays, as it is stored. Mostly nothing
+// changes on an idle chip.
+pub fn settle(block: &mut [u8], o: Operation, c: Change)
+    requires { ⌜ (length (now block) ≡ 765) × (o ≡ decodeOperation (now block)) ⌝ }
+    ensures { λ _. ⌜ now (block .exit) ≡ encodeChip (withRegisters (decodeChip (now (block .entry))) (changed c (decodeRegisters (now (block .entry))))) ⌝ }
+{
+    if let Change::Nothing = c {
+        if let Operation::Idle = o {
+            rest(block);
+            return;
+        }
+    }
+    settle_in(block, o, c);
 }
 
 // The chip stored into the block.

@@ -7,7 +7,7 @@ use mathlib.Core.List.{List}
 use Prim.Native.Nat.{ℕ, _*_, _/_, _<_, _≤_}
 use native.Mathlib.Omega.{arith}
 use lib.ListN.{replicate}
-use lib.Dec.{eqb, ltb, leb}
+use lib.Dec.{eqb, ltb, leb, lit≤}
 use borrow.Author.Tests.{leb-true, leb-false, ltb-false, not-false}
 use Rattle.geometry.specs.declared.Geometry.{Geometry}
 use Rattle.geometry.specs.declared.Part.{Part}
@@ -87,6 +87,22 @@ none false false true c d h = absurd (omega arith)
 none false false false true d h = absurd (omega arith)
 none false false false false true h = absurd (omega arith)
 none false false false false false h = (refl, refl, refl, refl, refl)
+
+-- what is told is one of 1 to 7
+few : (a b o c d : Bool) → numberOf (early a b o (cond c Answers.Log (cond d Answers.Script Answers.Done))) ≤ 7
+unfolding numberOf
+few true b o c d = lit≤ tt
+few false true o c d = lit≤ tt
+few false false true c d = lit≤ tt
+few false false false true d = lit≤ tt
+few false false false false true = lit≤ tt
+few false false false false false = lit≤ tt
+
+pub refusal-few : (g : Geometry) (n : ℕ) (k : Kind) (slot limit : ℕ) (o : Bool) (log : ℕ) (script : List ℕ) (junk : ℕ)
+    → numberOf (callRefusal g n k slot limit o log script junk) ≤ 7
+unfolding callRefusal
+refusal-few g n k slot limit o log script junk =
+    few (leb (g .pages / 8) slot) (not (leb 1 limit && leb limit 1000)) o (ltb log (6 * bound k limit)) (badScript g n script junk)
 
 both : (b c : Bool) → (b && c) ≡ true → (b ≡ true) × (c ≡ true)
 both true c e = (refl, e)

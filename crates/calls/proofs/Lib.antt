@@ -8,3 +8,4 @@ pub mod Turns
 pub mod Begins
 pub mod Whole
 pub mod Delivery
+pub mod Told

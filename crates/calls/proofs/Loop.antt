@@ -15,10 +15,13 @@ use Rattle.geometry.specs.declared.Part.the-variants.{Known}
 use Rattle.geometry.specs.Parts.{partOf}
 use Rattle.registers.proofs.Places.{placed-known}
 use Rattle.state.specs.declared.Answer.the-variants as Answers
+use Rattle.state.specs.declared.Chip.{Chip}
+use Rattle.state.specs.Answers.{numberOf}
 use Rattle.state.specs.Outcomes.{partFor}
+use Rattle.slots.specs.declared.Course.{Course}
 use Rattle.slots.specs.Driver.{heardIn, isEnded}
 use Rattle.slots.specs.Refusals.{hasCut}
-use Rattle.slots.specs.Calls.{Request, Open, Closed, scripted, replies, openAfter, stepOpen, stepClosed, run}
+use Rattle.slots.specs.Calls.{Request, Open, Closed, scripted, replies, openAfter, stepOpen, stepClosed, run, firstCourse}
 use Rattle.slots.proofs.Answers.{run-ended}
 use Rattle.slots.proofs.Bound.{Ok, after-ok, stop-ok, some-left, start-ok, bound-small}
 use Rattle.slots.proofs.Size.{cases}
@@ -44,9 +47,9 @@ step-ok g v p q n e w =
 
 -- ---- the invariant
 
-pub record Along (g : Geometry) (s₀ : Session) (xs₀ payload st₀ script l₀ : List ℕ) (s : Session) (xs st l : List ℕ) : Type 0 where
-  pub same : run (boundBy s₀) g (requestOf s₀ script) (openOf s₀ l₀) (closedOf s₀ xs₀ payload st₀)
-      ≡ run (boundBy s₀ - s .frames) g (requestOf s₀ script) (openOf s l) (closedOf s xs payload st)
+pub record Along (g : Geometry) (c₀ : Chip) (s₀ : Session) (xs₀ payload st₀ script l₀ : List ℕ) (c : Chip) (s : Session) (xs st l : List ℕ) : Type 0 where
+  pub same : run (boundBy s₀) g (requestOf s₀ script) (openOf c₀ s₀ l₀) (closedOf c₀ s₀ xs₀ payload st₀)
+      ≡ run (boundBy s₀ - s .frames) g (requestOf s₀ script) (openOf c s l) (closedOf c s xs payload st)
   pub asks : requestOf s script ≡ requestOf s₀ script
   pub array : s .driver .array ≡ length xs₀
   pub ok : Ok (s₀ .driver .kind) (s₀ .driver .limit) (boundBy s₀ - s .frames) (s .driver .course)
@@ -54,18 +57,18 @@ pub record Along (g : Geometry) (s₀ : Session) (xs₀ payload st₀ script l�
   pub polled : s .polls ≤ s .frames
   pub rest : drop (6 * s .frames) l ≡ drop (6 * s .frames) l₀
   pub room : length l ≡ length l₀
-  pub part : partFor (s .chip) xs ≡ Known g
+  pub part : partFor c xs ≡ Known g
   pub long : length xs ≡ length xs₀
   pub cuts : s .cut ≡ true → hasCut script ≡ true
 
 -- at the start
-module _ (g : Geometry) (s₀ : Session) (xs₀ payload st₀ script l₀ : List ℕ) (h : Starts g s₀ xs₀ l₀) where
-  pub along-start : Along g s₀ xs₀ payload st₀ script l₀ s₀ xs₀ st₀ l₀
+module _ (g : Geometry) (c₀ : Chip) (s₀ : Session) (xs₀ payload st₀ script l₀ : List ℕ) (h : Starts g c₀ s₀ xs₀ l₀) where
+  pub along-start : Along g c₀ s₀ xs₀ payload st₀ script l₀ c₀ s₀ xs₀ st₀ l₀
   along-start =
       let f : s₀ .frames ≡ 0 = h .frames in
       let n : boundBy s₀ - s₀ .frames ≡ boundBy s₀ = omega arith in
       record {
-        same = ap (λ (k : ℕ). run k g (requestOf s₀ script) (openOf s₀ l₀) (closedOf s₀ xs₀ payload st₀)) (sym n);
+        same = ap (λ (k : ℕ). run k g (requestOf s₀ script) (openOf c₀ s₀ l₀) (closedOf c₀ s₀ xs₀ payload st₀)) (sym n);
         asks = refl;
         array = h .array;
         ok =
@@ -80,19 +83,24 @@ module _ (g : Geometry) (s₀ : Session) (xs₀ payload st₀ script l₀ : List
         cuts = λ e. absurd (true≢false (sym e ∙ h .cut));
       }
 
+  -- nothing has ended yet
+  pub start-going : isEnded (s₀ .driver .course .phase) ≡ false
+  unfolding firstCourse isEnded numberOf
+  start-going = ap (λ (o : Course). isEnded (o .phase)) (h .course)
+
   -- in a turn
-  module _ (s : Session) (xs st l : List ℕ) (a : Along g s₀ xs₀ payload st₀ script l₀ s xs st l) (e : isEnded (s .driver .course .phase) ≡ false) where
+  module _ (c : Chip) (s : Session) (xs st l : List ℕ) (a : Along g c₀ s₀ xs₀ payload st₀ script l₀ c s xs st l) (e : isEnded (s .driver .course .phase) ≡ false) where
     left : 1 ≤ boundBy s₀ - s .frames
     left = some-left (s .driver .course) (a .ok) e
 
-    pub along-going : Going g s xs l
+    pub along-going : Going g c s xs l
     along-going =
         let b = bound-small (s₀ .driver .kind) (s₀ .driver .limit) (h .most) in
         record {
           part = a .part;
           sound =
               record {
-                part = ap partOf (a .array ∙ sym (a .long)) ∙ (placed-known (length xs) (s .chip .registers .operation) g (a .part)) .0;
+                part = ap partOf (a .array ∙ sym (a .long)) ∙ (placed-known (length xs) (c .registers .operation) g (a .part)) .0;
                 slot = subst⁻¹ (λ (v : Request). v .asked .slot < g .pages / 8) (a .asks) (h .slot);
                 page = a .ok .page;
               };
@@ -102,16 +110,16 @@ module _ (g : Geometry) (s₀ : Session) (xs₀ payload st₀ script l₀ : List
           polls = omega (arith, b, a .few, a .polled);
         }
 
-    module _ (r : Session) (ys bytes lines : List ℕ) (t : Turned g s xs payload st script l r ys bytes lines) where
-      pub along-turned : Along g s₀ xs₀ payload st₀ script l₀ r ys bytes lines
+    module _ (k : Chip) (r : Session) (ys bytes lines : List ℕ) (t : Turned g c s xs payload st script l k r ys bytes lines) where
+      pub along-turned : Along g c₀ s₀ xs₀ payload st₀ script l₀ k r ys bytes lines
       along-turned =
           let v = requestOf s₀ script in
-          let p = openOf s l in
-          let q = closedOf s xs payload st in
+          let p = openOf c s l in
+          let q = closedOf c s xs payload st in
           let m : boundBy s₀ - s .frames ≡ suc (boundBy s₀ - r .frames) = omega (arith, left, t .frames) in
           let f : r .frames ≡ s .frames + 1 = t .frames in
-          let shown : stepOpen g v p q ≡ openOf r lines = subst (λ (w : Request). stepOpen g w p q ≡ openOf r lines) (a .asks) (t .shown) in
-          let kept : stepClosed g v p q ≡ closedOf r ys payload bytes = subst (λ (w : Request). stepClosed g w p q ≡ closedOf r ys payload bytes) (a .asks) (t .kept) in
+          let shown : stepOpen g v p q ≡ openOf k r lines = subst (λ (w : Request). stepOpen g w p q ≡ openOf k r lines) (a .asks) (t .shown) in
+          let kept : stepClosed g v p q ≡ closedOf k r ys payload bytes = subst (λ (w : Request). stepClosed g w p q ≡ closedOf k r ys payload bytes) (a .asks) (t .kept) in
           record {
             same =
                 a .same ∙ ap (λ (n : ℕ). run n g v p q) m ∙ run-suc (boundBy s₀ - r .frames) g v p q
@@ -127,17 +135,17 @@ module _ (g : Geometry) (s₀ : Session) (xs₀ payload st₀ script l₀ : List
             room = t .room ∙ a .room;
             part = t .part;
             long = t .long ∙ a .long;
-            cuts = λ c. has-cut script (s .frames) (eqb-true (scripted script (s .frames)) 2 (sym (t .cut) ∙ c));
+            cuts = λ w. has-cut script (s .frames) (eqb-true (scripted script (s .frames)) 2 (sym (t .cut) ∙ w));
           }
 
       pub turned-less : boundBy s₀ - r .frames < boundBy s₀ - s .frames
       turned-less = omega (arith, left, t .frames)
 
   -- at the end
-  pub along-ended : (s : Session) (xs st l : List ℕ) → Along g s₀ xs₀ payload st₀ script l₀ s xs st l → isEnded (s .driver .course .phase) ≡ true
-      → Driven g s₀ xs₀ payload st₀ script l₀ s xs st l
-  along-ended s xs st l a e =
-      let z = run-ended (boundBy s₀ - s .frames) g (requestOf s₀ script) (openOf s l) (closedOf s xs payload st) e in
+  pub along-ended : (c : Chip) (s : Session) (xs st l : List ℕ) → Along g c₀ s₀ xs₀ payload st₀ script l₀ c s xs st l → isEnded (s .driver .course .phase) ≡ true
+      → Driven g c₀ s₀ xs₀ payload st₀ script l₀ c s xs st l
+  along-ended c s xs st l a e =
+      let z = run-ended (boundBy s₀ - s .frames) g (requestOf s₀ script) (openOf c s l) (closedOf c s xs payload st) e in
       record {
         whole = a .same ∙ (λ i. (z .0 i, z .1 i));
         rest = a .rest;

@@ -6,8 +6,8 @@ use mathlib.Core.Bool.{true, cond}
 use mathlib.Core.List.{List, _++_}
 use Prim.Native.Nat.{ℕ, _+_, _*_, _≤_}
 use native.Mathlib.Omega.{arith}
-use lib.ListN.{length, take, length-take, length-append}
-use lib.Seq.{take-add, take-at, length-take-le}
+use lib.ListN.{length, take, length-take}
+use lib.Seq.{take-add, take-at}
 use lib.Dec.{eqb}
 use Rattle.slices.specs.Lists.{splice}
 use Rattle.slices.proofs.Laws.{length-splice, splice-part, take-splice, drop-splice}
@@ -43,14 +43,12 @@ written n l f e h =
     (omega (arith, length-take n l), sym k)
 
 -- such a frame, with a reply as long, is taken by the chip
-pub frame-taken : (g : Geometry) (s : Session) (xs log payload staged : List ℕ) (n : ℕ) (l m : List ℕ) → Going g s xs log
-    → n ≡ length (frameIn (s .driver) payload staged) → take n l ≡ frameIn (s .driver) payload staged → length m ≡ 272 → framed (length (take n l)) (length (take n m)) ≡ true
-frame-taken g s xs log payload staged n l m h e t r =
+pub frame-taken : (g : Geometry) (c : Chip) (s : Session) (xs log payload staged : List ℕ) (n : ℕ) → Going g c s xs log
+    → n ≡ length (frameIn (s .driver) payload staged) → framed n n ≡ true
+frame-taken g c s xs log payload staged n h e =
     let some = frame-some (h .sound) payload staged (h .going) in
     let few = frame-fits (s .driver) payload staged in
-    let k : length (take n l) ≡ n = ap length t ∙ sym e in
-    let j : length (take n m) ≡ n = length-take-le n m (omega arith) in
-    in-framed (length (take n l)) (length (take n m)) (omega arith) (omega arith) (k ∙ sym j)
+    in-framed n n (omega arith) (omega arith) refl
 
 -- its reply as it lies in the reply's buffer, and the array
 module _ {g : Geometry} {b at : ℕ} {f : List ℕ} {c : Chip} {xs l₀ : List ℕ} {r : Chip} {ys rp l : List ℕ} (x : Exchanged g b at f c xs l₀ r ys rp l) where
@@ -60,14 +58,12 @@ module _ {g : Geometry} {b at : ℕ} {f : List ℕ} {c : Chip} {xs l₀ : List �
   pub array-long : length ys ≡ length xs
   array-long = ap length (x .array) ∙ sent-long g b f (stateOf c xs)
 
-  pub reply-fits : (n : ℕ) (z : List ℕ) → n ≡ length f → n ≤ length (rp ++ z)
-  reply-fits n z e = omega (arith, length-append rp z, reply-long)
-
-  pub reply-whole : (n : ℕ) (z : List ℕ) → n ≡ length f → take n (rp ++ z) ≡ rp
+  reply-whole : (n : ℕ) (z : List ℕ) → n ≡ length f → take n (rp ++ z) ≡ rp
   reply-whole n z e = take-at rp z n (reply-long ∙ sym e)
 
-  pub reply-part : (n : ℕ) (z : List ℕ) → n ≡ length f → n ≡ length (take n (rp ++ z))
-  reply-part n z e = e ∙ sym reply-long ∙ ap length (sym (reply-whole n z e))
+  -- the first n bytes of its buffer
+  pub reply-first : (n : ℕ) (z : List ℕ) → n ≡ length f → Exchanged g b at f c xs l₀ r ys (take n (rp ++ z)) l
+  reply-first n z e = record { chip = x .chip; array = x .array; reply = reply-whole n z e ∙ x .reply; log = x .log }
 
 -- ---- the log: six bytes more
 outline-six : (f : List ℕ) → length (outline f) ≡ 6
@@ -111,7 +107,7 @@ poll-one Closing = omega arith
 poll-one (Ended n) = omega arith
 
 -- ---- the turn
-module _ (g : Geometry) (s : Session) (xs payload staged script log : List ℕ) (h : Going g s xs log) where
+module _ (g : Geometry) (c : Chip) (s : Session) (xs payload staged script log : List ℕ) (h : Going g c s xs log) where
   abbrev byte : ℕ
   byte = scripted script (s .frames)
 
@@ -119,10 +115,10 @@ module _ (g : Geometry) (s : Session) (xs payload staged script log : List ℕ) 
   frame = frameOf g (askedOf (s .driver)) (s .driver .course) (holdingOf (s .driver) payload staged)
 
   abbrev reply : List ℕ
-  reply = replyOf g (s .chip .registers) (memoryOf (s .chip) xs) frame
+  reply = replyOf g (c .registers) (memoryOf c xs) frame
 
   abbrev state : State
-  state = sentState g byte frame (stateOf (s .chip) xs)
+  state = sentState g byte frame (stateOf c xs)
 
   abbrev took : Driver
   took = tookIn (s .driver) payload staged reply
@@ -132,13 +128,13 @@ module _ (g : Geometry) (s : Session) (xs payload staged script log : List ℕ) 
 
   abbrev next : Session
   next =
-      record { chip = chipIn state; driver = withCourse took course; frames = s .frames + 1; polls = s .polls + isPoll (s .driver .course .phase); cut = eqb byte 2 }
+      record { driver = withCourse took course; frames = s .frames + 1; polls = s .polls + isPoll (s .driver .course .phase); cut = eqb byte 2 }
 
-  shown : stepOpen g (requestOf s script) (openOf s log) (closedOf s xs payload staged) ≡ openOf next (splice (6 * s .frames) (outline frame) log)
+  shown : stepOpen g (requestOf s script) (openOf c s log) (closedOf c s xs payload staged) ≡ openOf (chipIn state) next (splice (6 * s .frames) (outline frame) log)
   unfolding openAfter sentState tookIn
   shown =
       let e : after (askedOf (s .driver)) (s .driver .course) (heardIn (s .driver .course .phase) (s .driver .slot) reply) ≡ took .course = sym (sound-course (h .sound) reply) in
-      step-open g (requestOf s script) (openOf s log) (closedOf s xs payload staged) (h .going)
+      step-open g (requestOf s script) (openOf c s log) (closedOf c s xs payload staged) (h .going)
       ∙ (λ i. record {
         registers = state .registers;
         course = cond (eqb byte 2) (ended Answers.Cut (s .driver .course)) (e i);
@@ -148,12 +144,12 @@ module _ (g : Geometry) (s : Session) (xs payload staged script log : List ℕ) 
         cut = eqb byte 2;
       })
 
-  kept : stepClosed g (requestOf s script) (openOf s log) (closedOf s xs payload staged) ≡ closedOf next (state .memory .array) payload (stagedIn (s .driver) payload staged reply)
+  kept : stepClosed g (requestOf s script) (openOf c s log) (closedOf c s xs payload staged) ≡ closedOf (chipIn state) next (state .memory .array) payload (stagedIn (s .driver) payload staged reply)
   unfolding closedAfter sentState tookIn
   kept =
       let t = takenIn (s .driver .course .phase) g (askedOf (s .driver)) (s .driver .course) (holdingOf (s .driver) payload staged) reply in
       let k = taken-kept (s .driver .course .phase) g (askedOf (s .driver)) (s .driver .course) (holdingOf (s .driver) payload staged) reply in
-      step-closed g (requestOf s script) (openOf s log) (closedOf s xs payload staged) (h .going)
+      step-closed g (requestOf s script) (openOf c s log) (closedOf c s xs payload staged) (h .going)
       ∙ (λ i. record {
         memory = state .memory;
         holding = record {
@@ -164,7 +160,7 @@ module _ (g : Geometry) (s : Session) (xs payload staged script log : List ℕ) 
         };
       })
 
-  turned-next : Turned g s xs payload staged script log next (state .memory .array) (stagedIn (s .driver) payload staged reply) (splice (6 * s .frames) (outline frame) log)
+  turned-next : Turned g c s xs payload staged script log (chipIn state) next (state .memory .array) (stagedIn (s .driver) payload staged reply) (splice (6 * s .frames) (outline frame) log)
   unfolding tookIn
   turned-next =
       record {
@@ -177,27 +173,28 @@ module _ (g : Geometry) (s : Session) (xs payload staged script log : List ℕ) 
         cut = refl;
         rest = drop-splice (6 * (s .frames + 1)) (6 * s .frames) (outline frame) log (omega (arith, outline-six frame));
         room = length-splice (6 * s .frames) (outline frame) log;
-        part = sent-placed g byte frame (stateOf (s .chip) xs) (h .part);
-        long = sent-long g byte frame (stateOf (s .chip) xs);
+        part = sent-placed g byte frame (stateOf c xs) (h .part);
+        long = sent-long g byte frame (stateOf c xs);
       }
 
   -- from what the calls of the turn promise: the frame written, the exchange, the reply taken in
   pub turned : (b : ℕ) (f : List ℕ) (k : Chip) (ys rp lines heard : List ℕ) (e d : Driver) (bytes : List ℕ) (po : ℕ)
-      → b ≡ byte → f ≡ frameIn (s .driver) payload staged → Exchanged g b (6 * s .frames) f (s .chip) xs log k ys rp lines → heard ≡ rp
+      → b ≡ byte → f ≡ frameIn (s .driver) payload staged → Exchanged g b (6 * s .frames) f c xs log k ys rp lines → heard ≡ rp
       → e ≡ tookIn (s .driver) payload staged heard → bytes ≡ stagedIn (s .driver) payload staged heard
       → d ≡ withCourse e (cond (eqb b 2) (ended Answers.Cut (s .driver .course)) (e .course)) → po ≡ isPoll (s .driver .course .phase)
-      → Turned g s xs payload staged script log (record { chip = k; driver = d; frames = s .frames + 1; polls = s .polls + po; cut = eqb b 2 }) ys bytes lines
+      → Turned g c s xs payload staged script log k (record { driver = d; frames = s .frames + 1; polls = s .polls + po; cut = eqb b 2 }) ys bytes lines
   turned b f k ys rp lines heard e d bytes po eb ef x eh ee es ed ep =
       let sends : f ≡ frame = ef ∙ sound-frame (h .sound) payload staged in
-      let hears : heard ≡ reply = eh ∙ x .reply ∙ ap (replyOf g (s .chip .registers) (memoryOf (s .chip) xs)) sends in
+      let hears : heard ≡ reply = eh ∙ x .reply ∙ ap (replyOf g (c .registers) (memoryOf c xs)) sends in
       let takes : e ≡ took = ee ∙ ap (tookIn (s .driver) payload staged) hears in
-      let chip : k ≡ chipIn state = x .chip ∙ (λ i. chipIn (sentState g (eb i) (sends i) (stateOf (s .chip) xs))) in
-      let array : ys ≡ state .memory .array = x .array ∙ (λ i. sentState g (eb i) (sends i) (stateOf (s .chip) xs) .memory .array) in
+      let chip : k ≡ chipIn state = x .chip ∙ (λ i. chipIn (sentState g (eb i) (sends i) (stateOf c xs))) in
+      let array : ys ≡ state .memory .array = x .array ∙ (λ i. sentState g (eb i) (sends i) (stateOf c xs) .memory .array) in
       let driver : d ≡ withCourse took course = ed ∙ (λ i. withCourse (takes i) (cond (eqb (eb i) 2) (ended Answers.Cut (s .driver .course)) (takes i .course))) in
-      let session : _≡_ {A = Session} (record { chip = k; driver = d; frames = s .frames + 1; polls = s .polls + po; cut = eqb b 2 }) next =
-      λ i. record { chip = chip i; driver = driver i; frames = s .frames + 1; polls = s .polls + ep i; cut = eqb (eb i) 2 } in
-      subst⁻¹ (λ (r : Session). Turned g s xs payload staged script log r ys bytes lines) session
-      (subst⁻¹ (λ (l : List ℕ). Turned g s xs payload staged script log next l bytes lines) array
-      (subst⁻¹ (λ (l : List ℕ). Turned g s xs payload staged script log next (state .memory .array) l lines) (es ∙ ap (stagedIn (s .driver) payload staged) hears)
-      (subst⁻¹ (λ (l : List ℕ). Turned g s xs payload staged script log next (state .memory .array) (stagedIn (s .driver) payload staged reply) l)
-      (x .log ∙ ap (λ (t : List ℕ). splice (6 * s .frames) (outline t) log) sends) turned-next)))
+      let session : _≡_ {A = Session} (record { driver = d; frames = s .frames + 1; polls = s .polls + po; cut = eqb b 2 }) next =
+      λ i. record { driver = driver i; frames = s .frames + 1; polls = s .polls + ep i; cut = eqb (eb i) 2 } in
+      subst⁻¹ (λ (m : Chip). Turned g c s xs payload staged script log m (record { driver = d; frames = s .frames + 1; polls = s .polls + po; cut = eqb b 2 }) ys bytes lines) chip
+      (subst⁻¹ (λ (r : Session). Turned g c s xs payload staged script log (chipIn state) r ys bytes lines) session
+      (subst⁻¹ (λ (l : List ℕ). Turned g c s xs payload staged script log (chipIn state) next l bytes lines) array
+      (subst⁻¹ (λ (l : List ℕ). Turned g c s xs payload staged script log (chipIn state) next (state .memory .array) l lines) (es ∙ ap (stagedIn (s .driver) payload staged) hears)
+      (subst⁻¹ (λ (l : List ℕ). Turned g c s xs payload staged script log (chipIn state) next (state .memory .array) (stagedIn (s .driver) payload staged reply) l)
+      (x .log ∙ ap (λ (t : List ℕ). splice (6 * s .frames) (outline t) log) sends) turned-next))))

@@ -7,8 +7,8 @@ use Prim.Native.Nat.{ℕ, _+_, _*_, _≤_}
 use native.Mathlib.Omega.{arith}
 use lib.ListN.{length, take, drop, take-append-drop}
 use lib.Seq.{length-take-le}
-use lib.Dec.{ltb}
-use borrow.Author.Tests.{ne-eqb}
+use lib.Dec.{ltb, lit≤}
+use borrow.Author.Tests.{eq-eqb, ne-eqb}
 use Rattle.slices.specs.Lists.{over}
 use Rattle.slices.proofs.Laws.{over-append}
 use Rattle.geometry.specs.declared.Geometry.{Geometry}
@@ -22,23 +22,24 @@ use Rattle.state.specs.declared.Chip.{Chip}
 use Rattle.state.specs.Answers.{numberOf}
 use Rattle.state.specs.Memory.{memoryOf}
 use Rattle.state.specs.Outcomes.{partFor}
+use Rattle.blocks.specs.Block.{decodeChip}
 use Rattle.slots.specs.declared.Kind.{Kind}
 use Rattle.slots.specs.declared.Kind.the-variants.{Put, Patch, Get, Wipe}
 use Rattle.slots.specs.declared.Verdict.the-variants.{Good}
 use Rattle.slots.specs.Records.{limitOf}
 use Rattle.slots.specs.Driver.{isEnded, answerOf}
 use Rattle.slots.specs.Refusals.{bound, callRefusal}
-use Rattle.slots.specs.Calls.{State, Request, Secret, Open, Closed, refused, run, firstCourse, startOpen, startClosed, ran, reached, cutState, outFrom, callOut, callNext}
+use Rattle.slots.specs.Calls.{State, Out, Request, Secret, Open, Closed, refused, run, firstCourse, startOpen, startClosed, ran, reached, cutState, outFrom, callOut, callNext}
 use Rattle.slots.specs.Lists.{Op, request, secret, outOn, outOff, outBy, outOf, nextOn, nextOff, nextBy, nextOf}
-use Rattle.slots.proofs.Answers.{refused-call}
+use Rattle.slots.proofs.Answers.{early, refused-call, accepted-late}
 use Rattle.driver.specs.declared.Driver.{Driver}
 use Rattle.driver.specs.Start.{limitIn, refusalBy, startDriver}
 use Rattle.driver.proofs.Starts.{limit-known}
 use Rattle.calls.specs.declared.Done.{Done}
 use Rattle.calls.specs.declared.runs.Session.{Session}
-use Rattle.calls.specs.Promises.{stateOf, Lends}
+use Rattle.calls.specs.Promises.{heldIn, Lends}
 use Rattle.calls.specs.Runs.{openOf, closedOf, requestOf, Starts, Driven, oversizeBy, refusalFrom, blankSlot, begun, lastOf, Finished, opOf, Placed, Suits}
-use Rattle.calls.proofs.Begins.{Accepted, accepted, refusal-from, limit-few, blank-slot}
+use Rattle.calls.proofs.Begins.{Accepted, accepted, refusal-from, refusal-few, limit-few, blank-slot}
 use Rattle.calls.proofs.Promised.{promised, lent, lends-refused}
 use Rattle.calls.proofs.Scripts.{junk-fits}
 use Rattle.calls.proofs.Steps.{run-asks}
@@ -78,7 +79,7 @@ suits-placed Wipe place payload buffer h = h .0
 
 -- ---- a call, with all that it is given
 pub record Given : Type 0 where
-  pub chip : Chip
+  pub block : List ℕ
   pub array : List ℕ
   pub kind : Kind
   pub slot : ℕ
@@ -94,14 +95,14 @@ abbrev pub callOf : Given → Op
 callOf t = opOf (t .kind) (t .slot) (t .limit) (t .place) (t .payload) (t .buffer) (t .script) (t .junk) (t .log)
 
 abbrev stateIn : Given → State
-stateIn t = stateOf (t .chip) (t .array)
+stateIn t = heldIn (t .block) (t .array)
 
 abbrev pub Suited : Given → Type 0
 Suited t = Suits (t .kind) (t .place) (t .payload) (t .buffer)
 
--- a refusal hands back what it was given
+-- what a refusal hands back
 abbrev pub Stopped : Given → Answer → Done → Type 0
-Stopped t a r = r ≡ record { answer = a; chip = t .chip; frames = 0; polls = 0; count = 0 }
+Stopped t a r = r ≡ record { answer = a; frames = 0; polls = 0; count = 0 }
 
 -- 5, of a part whose longest recipe has `most` bytes
 abbrev oversize : Given → ℕ → Bool
@@ -129,15 +130,15 @@ module _ (t : Given) (h : Suited t) where
   placed = suits-placed (t .kind) (t .place) (t .payload) (t .buffer) h
 
   -- 1
-  pub lends-unknown : partFor (t .chip) (t .array) ≡ Unknown → (r : Done) → Stopped t Answers.Part r
-      → Lends (callOf t) (t .chip) (t .array) (t .log) r (t .array) (t .log) (t .buffer)
-  unfolding outOf outBy nextOf nextBy
+  pub lends-unknown : partFor (decodeChip (t .block)) (t .array) ≡ Unknown → (r : Done) → Stopped t Answers.Part r
+      → Lends (callOf t) (t .block) (t .array) (t .log) r (t .block) (t .array) (t .log) (t .buffer)
+  unfolding outOf outBy nextOf nextBy numberOf
   lends-unknown e r er =
       let z = off-kind (t .slot) (t .limit) (t .place) (t .payload) (t .buffer) (t .script) (t .junk) (t .log) (stateIn t) (t .kind) h in
-      lends-refused (callOf t) (t .chip) (t .array) (t .log) (t .buffer) Answers.Part r (ap (λ (p : Part). outBy p (callOf t) (stateIn t)) e ∙ z .0)
-      (ap (λ (p : Part). nextBy p (callOf t) (stateIn t)) e ∙ z .1) er
+      lends-refused (callOf t) (t .block) (t .array) (t .log) (t .buffer) Answers.Part r (ap (λ (p : Part). outBy p (callOf t) (stateIn t)) e ∙ z .0)
+      (ap (λ (p : Part). nextBy p (callOf t) (stateIn t)) e ∙ z .1) (lit≤ tt) (λ q. omega arith) er
 
-  module _ (g : Geometry) (p : partFor (t .chip) (t .array) ≡ Known g) where
+  module _ (g : Geometry) (p : partFor (decodeChip (t .block)) (t .array) ≡ Known g) where
     out-known : outOf (callOf t) (stateIn t) ≡ callOut g (requestOn t g) (secretOf t) (stateIn t)
     unfolding outOf outBy
     out-known =
@@ -151,14 +152,14 @@ module _ (t : Given) (h : Suited t) where
         ∙ next-kind (t .slot) (t .limit) (t .place) (t .payload) (t .buffer) (t .script) (t .junk) (t .log) (stateIn t) (t .kind) g h
 
     part : partOf (length (t .array)) ≡ Known g
-    part = (placed-known (length (t .array)) (t .chip .registers .operation) g p) .0
+    part = (placed-known (length (t .array)) (decodeChip (t .block) .registers .operation) g p) .0
 
     most-known : oversize t (limitIn (length (t .array))) ≡ oversize t (limitOf g)
     most-known = ap (oversize t) (limit-known (length (t .array)) g part)
 
     -- what the tests ask
     pub sized-known : Sized g (length (t .array))
-    sized-known = placed-sized (length (t .array)) (t .chip .registers .operation) g p
+    sized-known = placed-sized (length (t .array)) (decodeChip (t .block) .registers .operation) g p
 
     pub limit-bounded : (d : Driver) → d ≡ firstOf t → isEnded (d .course .phase) ≡ false → d .limit ≤ 1000
     limit-bounded d e = limit-few g (length (t .array)) part (t .kind) (t .slot) (t .limit) (t .place) (oversize t (limitIn (length (t .array)))) d e
@@ -170,21 +171,23 @@ module _ (t : Given) (h : Suited t) where
 
     -- 3 to 7
     pub lends-stopped : (d : Driver) (a : Answer) (r : Done) → d ≡ firstOf t → a ≡ testedBy t g d → (numberOf a ≡ 0 → ⊥) → Stopped t a r
-        → Lends (callOf t) (t .chip) (t .array) (t .log) r (t .array) (t .log) (t .buffer)
+        → Lends (callOf t) (t .block) (t .array) (t .log) r (t .block) (t .array) (t .log) (t .buffer)
     lends-stopped d a r ed ea n er =
         let e : a ≡ stopOf t g = ea ∙ refusal-known d ed in
         let z = refused-call g (requestOn t g) (secretOf t) (stateIn t) (ne-eqb (numberOf (stopOf t g)) 0 (λ q. n (ap numberOf e ∙ q))) in
-        lends-refused (callOf t) (t .chip) (t .array) (t .log) (t .buffer) a r (out-known ∙ z .out ∙ ap (λ (b : Answer). refused b (t .buffer)) (sym e))
-        (next-known ∙ z .next) er
+        lends-refused (callOf t) (t .block) (t .array) (t .log) (t .buffer) a r (out-known ∙ z .out ∙ ap (λ (b : Answer). refused b (t .buffer)) (sym e))
+        (next-known ∙ z .next)
+        (subst⁻¹ (λ (b : Answer). numberOf b ≤ 7) e
+        (refusal-few g (length (t .array)) (t .kind) (t .slot) (t .limit) (oversize t (limitOf g)) (length (t .log)) (t .script) (length (t .junk)))) n er
 
 -- none of the tests stops it
 pub record Passed (t : Given) (g : Geometry) (d : Driver) : Type 0 where
   pub suits : Suited t
-  pub part : partFor (t .chip) (t .array) ≡ Known g
+  pub part : partFor (decodeChip (t .block)) (t .array) ≡ Known g
   pub first : d ≡ firstOf t
   pub none : numberOf (stopOf t g) ≡ 0
 
-pub passed : (t : Given) (g : Geometry) (d : Driver) (a : Answer) → Suited t → partFor (t .chip) (t .array) ≡ Known g → d ≡ firstOf t → a ≡ testedBy t g d → numberOf a ≡ 0
+pub passed : (t : Given) (g : Geometry) (d : Driver) (a : Answer) → Suited t → partFor (decodeChip (t .block)) (t .array) ≡ Known g → d ≡ firstOf t → a ≡ testedBy t g d → numberOf a ≡ 0
     → Passed t g d
 passed t g d a h p e ea n = record { suits = h; part = p; first = e; none = ap numberOf (sym (ea ∙ refusal-known t h g p d e)) ∙ n }
 
@@ -203,10 +206,10 @@ module _ {t : Given} {g : Geometry} {d : Driver} (w : Passed t g d) where
       ∙ ap (λ (o : Bool). firstCourse (refusalBy (Known g) (t .slot) (t .limit) o) (t .limit)) (most-known t (w .suits) g (w .part))
       ∙ ap (λ (a : Answer). firstCourse a (t .limit)) (ok .own)
 
-  pub starts : Starts g (begun (t .chip) d) (t .array) (t .log)
+  pub starts : Starts g (decodeChip (t .block)) (begun d) (t .array) (t .log)
   unfolding startDriver
   starts =
-      subst⁻¹ (λ (e : Driver). Starts g (begun (t .chip) e) (t .array) (t .log)) (w .first)
+      subst⁻¹ (λ (e : Driver). Starts g (decodeChip (t .block)) (begun e) (t .array) (t .log)) (w .first)
       (record {
         part = w .part;
         array = refl;
@@ -220,15 +223,16 @@ module _ {t : Given} {g : Geometry} {d : Driver} (w : Passed t g d) where
         room = ok .room;
       })
 
-  module _ (st : List ℕ) (es : st ≡ blankSlot) {s : Session} {ys bytes lines : List ℕ} (z : Driven g (begun (t .chip) d) (t .array) (t .payload) st (t .script) (t .log) s ys bytes lines) where
+  module _ (st : List ℕ) (es : st ≡ blankSlot) {k : Chip} {s : Session} {ys bytes lines : List ℕ}
+      (z : Driven g (decodeChip (t .block)) (begun d) (t .array) (t .payload) st (t .script) (t .log) k s ys bytes lines) where
     begins : ran g (requestOn t g) (secretOf t) (stateIn t)
-        ≡ run (bound (t .kind) (t .limit)) g (requestOf (begun (t .chip) (firstOf t)) (t .script)) (openOf (begun (t .chip) (firstOf t)) (t .log))
-        (closedOf (begun (t .chip) (firstOf t)) (t .array) (t .payload) blankSlot)
+        ≡ run (bound (t .kind) (t .limit)) g (requestOf (begun (firstOf t)) (t .script)) (openOf (decodeChip (t .block)) (begun (firstOf t)) (t .log))
+        (closedOf (decodeChip (t .block)) (begun (firstOf t)) (t .array) (t .payload) blankSlot)
     unfolding ran startOpen startClosed startDriver
     begins =
         (λ i. run (bound (t .kind) (t .limit)) g (requestOn t g)
         (record {
-          registers = t .chip .registers;
+          registers = decodeChip (t .block) .registers;
           course = (ap (λ (a : Answer). firstCourse a (t .limit)) (ok .done) ∙ sym first-course) i;
           lines = [];
           frames = 0;
@@ -236,18 +240,18 @@ module _ {t : Given} {g : Geometry} {d : Driver} (w : Passed t g d) where
           cut = false;
         })
         (record {
-          memory = memoryOf (t .chip) (t .array);
+          memory = memoryOf (decodeChip (t .block)) (t .array);
           holding = record { payload = t .payload; place = t .place; staged = blank-slot (length (t .array)) g own i; verdict = Good };
         }))
         ∙ run-asks (bound (t .kind) (t .limit)) g (requestOn t g .asked) (t .script) (length (t .log)) (length (t .junk)) (oversize t (limitOf g))
-        (openOf (begun (t .chip) (firstOf t)) (t .log)) (closedOf (begun (t .chip) (firstOf t)) (t .array) (t .payload) blankSlot)
+        (openOf (decodeChip (t .block)) (begun (firstOf t)) (t .log)) (closedOf (decodeChip (t .block)) (begun (firstOf t)) (t .array) (t .payload) blankSlot)
 
-    whole : ran g (requestOn t g) (secretOf t) (stateIn t) ≡ (openOf s lines, closedOf s ys (t .payload) bytes)
+    whole : ran g (requestOn t g) (secretOf t) (stateIn t) ≡ (openOf k s lines, closedOf k s ys (t .payload) bytes)
     unfolding startDriver
     whole =
         begins
-        ∙ (subst (λ (e : Driver). Driven g (begun (t .chip) e) (t .array) (t .payload) blankSlot (t .script) (t .log) s ys bytes lines) (w .first)
-        (subst (λ (l : List ℕ). Driven g (begun (t .chip) d) (t .array) (t .payload) l (t .script) (t .log) s ys bytes lines) es z)) .whole
+        ∙ (subst (λ (e : Driver). Driven g (decodeChip (t .block)) (begun e) (t .array) (t .payload) blankSlot (t .script) (t .log) k s ys bytes lines) (w .first)
+        (subst (λ (l : List ℕ). Driven g (decodeChip (t .block)) (begun d) (t .array) (t .payload) l (t .script) (t .log) k s ys bytes lines) es z)) .whole
 
     -- a cut is in the script, so the junk fits
     pub cut-fits : s .cut ≡ true → length (t .junk) ≡ 2 * g .size + length ys
@@ -261,13 +265,16 @@ module _ {t : Given} {g : Geometry} {d : Driver} (w : Passed t g d) where
         ∙ ap (λ (m : ℕ). take (6 * s .frames) lines ++ drop m (t .log)) l ∙ ap (λ (k : List ℕ). take (6 * s .frames) lines ++ k) (sym (z .rest))
         ∙ take-append-drop (6 * s .frames) lines)
 
-    pub lends-done : (r : Done) (zs b : List ℕ) → Finished g (t .kind) s ys bytes (t .junk) (t .buffer) r zs b → Lends (callOf t) (t .chip) (t .array) (t .log) r zs lines b
+    pub lends-done : (r : Done) (kept zs b : List ℕ) → Finished g (t .kind) k s ys bytes (t .junk) (t .buffer) r kept zs b
+        → Lends (callOf t) (t .block) (t .array) (t .log) r kept zs lines b
     unfolding callOut callNext outFrom lastOf
-    lends-done r zs b f =
-        let out = out-known t (w .suits) g (w .part)
-        ∙ ap (λ (o : Open × Closed). outFrom (requestOn t g) (secretOf t) o (answerOf (o .0 .course .phase) (o .1 .holding .verdict))) whole in
+    lends-done r kept zs b f =
+        let ends : callOut g (requestOn t g) (secretOf t) (stateIn t) ≡ _ =
+        ap (λ (o : Open × Closed). outFrom (requestOn t g) (secretOf t) o (answerOf (o .0 .course .phase) (o .1 .holding .verdict))) whole in
+        let out = out-known t (w .suits) g (w .part) ∙ ends in
         let next = next-known t (w .suits) g (w .part) ∙ ap (λ (o : Open × Closed). cond (o .0 .cut) (cutState g (t .junk) (reached o)) (reached o)) whole in
+        let late = subst (λ (o : Out). early (o .answer) ≡ false) ends (accepted-late g (requestOn t g) (secretOf t) (stateIn t) (eq-eqb (numberOf (stopOf t g)) 0 (w .none))) in
         record {
-          done = promised (callOf t) (t .chip) (t .array) out next (t .log) r zs lines (f .answer) (f .chip) (f .array) logged (f .frames) (f .polls) (f .count);
-          lent = lent (callOf t) (t .chip) (t .array) out next b (f .lent);
+          done = promised (callOf t) (t .block) (t .array) out next (t .log) r kept zs lines late (f .answer) (f .block) (f .array) logged (f .frames) (f .polls) (f .count);
+          lent = lent (callOf t) (t .block) (t .array) out next b (f .lent);
         }

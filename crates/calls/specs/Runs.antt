@@ -1,5 +1,5 @@
 -- A call under way as the code holds it, and what its parts promise: each turn of the loop is one step of the run that defines
--- the call, and the loop is the whole run.
+-- the call, and the loop is the whole run. The chip c is the one that the record block holds.
 -- Assumes nothing.
 use Prim.Native.Nat.{ℕ, _+_, _*_, _/_, _≤_, _<_}
 use mathlib.Core.Path.{_≡_}
@@ -15,6 +15,7 @@ use Rattle.state.specs.declared.Answer.the-variants as Answers
 use Rattle.state.specs.declared.Chip.{Chip}
 use Rattle.state.specs.Memory.{memoryOf}
 use Rattle.state.specs.Outcomes.{partFor}
+use Rattle.blocks.specs.Block.{encodeChip}
 use Rattle.slots.specs.declared.Kind.{Kind}
 use Rattle.slots.specs.declared.Kind.the-variants.{Put, Patch, Get, Wipe}
 use Rattle.slots.specs.Records.{headSize}
@@ -30,12 +31,12 @@ use Rattle.calls.specs.Promises.{stateOf, chipIn}
 
 -- ---- the state of the definition's run: the lines are what the log has so far
 
-abbrev pub openOf : Session → List ℕ → Open
-openOf s log =
-    record { registers = s .chip .registers; course = s .driver .course; lines = take (6 * s .frames) log; frames = s .frames; polls = s .polls; cut = s .cut }
+abbrev pub openOf : Chip → Session → List ℕ → Open
+openOf c s log =
+    record { registers = c .registers; course = s .driver .course; lines = take (6 * s .frames) log; frames = s .frames; polls = s .polls; cut = s .cut }
 
-abbrev pub closedOf : Session → List ℕ → List ℕ → List ℕ → Closed
-closedOf s xs payload staged = record { memory = memoryOf (s .chip) xs; holding = holdingOf (s .driver) payload staged }
+abbrev pub closedOf : Chip → Session → List ℕ → List ℕ → List ℕ → Closed
+closedOf c s xs payload staged = record { memory = memoryOf c xs; holding = holdingOf (s .driver) payload staged }
 
 -- what a run goes by: the call, slot, B and the script
 abbrev pub requestOf : Session → List ℕ → Request
@@ -46,17 +47,17 @@ boundBy s = bound (s .driver .kind) (s .driver .limit)
 
 -- ---- one turn
 
-pub record Going (g : Geometry) (s : Session) (xs log : List ℕ) : Type 0 where
-  pub part : partFor (s .chip) xs ≡ Known g
+pub record Going (g : Geometry) (c : Chip) (s : Session) (xs log : List ℕ) : Type 0 where
+  pub part : partFor c xs ≡ Known g
   pub sound : Sound g (s .driver)
   pub going : isEnded (s .driver .course .phase) ≡ false
   pub room : 6 * s .frames + 6 ≤ length log
   pub frames : s .frames ≤ 10000
   pub polls : s .polls ≤ 10000
 
-pub record Turned (g : Geometry) (s : Session) (xs payload staged script log : List ℕ) (r : Session) (ys bytes lines : List ℕ) : Type 0 where
-  pub shown : stepOpen g (requestOf s script) (openOf s log) (closedOf s xs payload staged) ≡ openOf r lines
-  pub kept : stepClosed g (requestOf s script) (openOf s log) (closedOf s xs payload staged) ≡ closedOf r ys payload bytes
+pub record Turned (g : Geometry) (c : Chip) (s : Session) (xs payload staged script log : List ℕ) (k : Chip) (r : Session) (ys bytes lines : List ℕ) : Type 0 where
+  pub shown : stepOpen g (requestOf s script) (openOf c s log) (closedOf c s xs payload staged) ≡ openOf k r lines
+  pub kept : stepClosed g (requestOf s script) (openOf c s log) (closedOf c s xs payload staged) ≡ closedOf k r ys payload bytes
   pub asks : requestOf r script ≡ requestOf s script
   pub array : r .driver .array ≡ s .driver .array
   pub frames : r .frames ≡ s .frames + 1
@@ -64,13 +65,13 @@ pub record Turned (g : Geometry) (s : Session) (xs payload staged script log : L
   pub cut : r .cut ≡ eqb (scripted script (s .frames)) 2
   pub rest : drop (6 * r .frames) lines ≡ drop (6 * r .frames) log
   pub room : length lines ≡ length log
-  pub part : partFor (r .chip) ys ≡ Known g
+  pub part : partFor k ys ≡ Known g
   pub long : length ys ≡ length xs
 
 -- ---- the loop
 
-pub record Starts (g : Geometry) (s : Session) (xs log : List ℕ) : Type 0 where
-  pub part : partFor (s .chip) xs ≡ Known g
+pub record Starts (g : Geometry) (c : Chip) (s : Session) (xs log : List ℕ) : Type 0 where
+  pub part : partFor c xs ≡ Known g
   pub array : s .driver .array ≡ length xs
   pub slot : s .driver .slot < g .pages / 8
   pub least : 1 ≤ s .driver .limit
@@ -81,12 +82,12 @@ pub record Starts (g : Geometry) (s : Session) (xs log : List ℕ) : Type 0 wher
   pub cut : s .cut ≡ false
   pub room : 6 * boundBy s ≤ length log
 
-pub record Driven (g : Geometry) (s : Session) (xs payload staged script log : List ℕ) (r : Session) (ys bytes lines : List ℕ) : Type 0 where
-  pub whole : run (boundBy s) g (requestOf s script) (openOf s log) (closedOf s xs payload staged) ≡ (openOf r lines, closedOf r ys payload bytes)
+pub record Driven (g : Geometry) (c : Chip) (s : Session) (xs payload staged script log : List ℕ) (k : Chip) (r : Session) (ys bytes lines : List ℕ) : Type 0 where
+  pub whole : run (boundBy s) g (requestOf s script) (openOf c s log) (closedOf c s xs payload staged) ≡ (openOf k r lines, closedOf k r ys payload bytes)
   pub rest : drop (6 * r .frames) lines ≡ drop (6 * r .frames) log
   pub room : 6 * r .frames ≤ length lines
   pub same : length lines ≡ length log
-  pub part : partFor (r .chip) ys ≡ Known g
+  pub part : partFor k ys ≡ Known g
   pub long : length ys ≡ length xs
   pub cuts : r .cut ≡ true → hasCut script ≡ true
 
@@ -113,21 +114,21 @@ refusalFrom g array d log script junk =
 unfoldable pub blankSlot : List ℕ
 blankSlot = replicate 2112 0
 
-abbrev pub begun : Chip → Driver → Session
-begun c d = record { chip = c; driver = d; frames = 0; polls = 0; cut = false }
+abbrev pub begun : Driver → Session
+begun d = record { driver = d; frames = 0; polls = 0; cut = false }
 
 -- ---- after it: the cut, if there is one, as the last act
 
-unfoldable pub lastOf : Geometry → Session → List ℕ → List ℕ → State
-lastOf g s xs junk = cond (s .cut) (cutState g junk (stateOf (s .chip) xs)) (stateOf (s .chip) xs)
+unfoldable pub lastOf : Geometry → Chip → Session → List ℕ → List ℕ → State
+lastOf g c s xs junk = cond (s .cut) (cutState g junk (stateOf c xs)) (stateOf c xs)
 
 abbrev pub answerIn : Session → Answer
 answerIn s = answerOf (s .driver .course .phase) (s .driver .verdict)
 
-pub record Finished (g : Geometry) (kind : Kind) (s : Session) (xs staged junk b₀ : List ℕ) (r : Done) (ys b : List ℕ) : Type 0 where
+pub record Finished (g : Geometry) (kind : Kind) (c : Chip) (s : Session) (xs staged junk b₀ : List ℕ) (r : Done) (kept ys b : List ℕ) : Type 0 where
   pub answer : r .answer ≡ answerIn s
-  pub chip : r .chip ≡ chipIn (lastOf g s xs junk)
-  pub array : ys ≡ lastOf g s xs junk .memory .array
+  pub block : kept ≡ encodeChip (chipIn (lastOf g c s xs junk))
+  pub array : ys ≡ lastOf g c s xs junk .memory .array
   pub frames : r .frames ≡ s .frames
   pub polls : r .polls ≡ s .polls
   pub count : r .count ≡ countOf kind (answerIn s) staged

@@ -4,10 +4,13 @@ ghost use mathlib.Core.Bool.{true};
 ghost use Prim.Native.Nat.{_+_, _*_};
 ghost use lib.ListN.{length, take, drop};
 ghost use Rattle.slices.specs.Lists.{over};
-ghost use Rattle.state.specs.Outcomes.{partFor};
+ghost use Rattle.state.specs.Outcomes.{partFor, cutOutcome, cutArray};
+ghost use Rattle.blocks.specs.Block.{decodeChip, encodeChip};
+ghost use Rattle.blocks.specs.Promises.{storedIn};
 ghost use Rattle.slots.specs.Records.{headSize, lengthIn};
 ghost use Rattle.slots.specs.Calls.{isGet, countOf};
 ghost use Rattle.calls.specs.Promises.{chipIn};
+ghost use Rattle.calls.specs.Exchange.{Canonical};
 ghost use Rattle.calls.specs.Runs.{lastOf, Finished};
 use crate::Done;
 use crate::runs::Session;
@@ -15,7 +18,6 @@ use geometry::Geometry;
 use geometry::Part;
 use slots::Kind;
 use state::Answer;
-use state::Chip;
 
 fn is_get(kind: Kind) -> bool
     ensures { λ r. ⌜ r ≡ isGet kind ⌝ }
@@ -60,18 +62,24 @@ fn deliver(kind: Kind, a: Answer, staged: &[u8; 2112], buffer: &mut [u8]) -> usi
     n
 }
 
-// The cut, if the script has come to one.
-fn lose(g: Geometry, s: Session, array: &mut [u8], junk: &[u8]) -> Chip
-    requires { ⌜ (partFor (s .chip) (now array) ≡ Part.Known g) × (s .cut ≡ true → length (now junk) ≡ 2 * g .size + length (now array)) ⌝ }
-    ensures { λ r. ⌜ (r ≡ chipIn (lastOf g s (now (array .entry)) (now (junk .entry)))) × (now (array .exit) ≡ lastOf g s (now (array .entry)) (now (junk .entry)) .memory .array) ⌝ }
+// The supply is cut, with junk.
+pub fn cut(block: &mut [u8; 765], array: &mut [u8], junk: &[u8])
+    ensures { λ _. ⌜ (now (block .exit) ≡ storedIn (now (block .entry)) (cutOutcome (decodeChip (now (block .entry))) (now (array .entry)) (now (junk .entry)))) × (now (array .exit) ≡ cutArray (decodeChip (now (block .entry))) (now (array .entry)) (now (junk .entry))) ⌝ }
 {
-    let c = s.chip;
-    if s.cut {
-        let o = chip::cut(c, array, junk);
-        let e = o.chip;
-        return e;
+    let c = blocks::decode(block);
+    let o = chip::cut(c, array, junk);
+    blocks::store(block, o);
+}
+
+// The cut, if the script has come to one.
+fn lose(g: Geometry, s: Session, block: &mut [u8; 765], array: &mut [u8], junk: &[u8])
+    requires { ⌜ (partFor (decodeChip (now block)) (now array) ≡ Part.Known g) × (Canonical (now block)) × (s .cut ≡ true → length (now junk) ≡ 2 * g .size + length (now array)) ⌝ }
+    ensures { λ _. ⌜ (now (block .exit) ≡ encodeChip (chipIn (lastOf g (decodeChip (now (block .entry))) s (now (array .entry)) (now (junk .entry))))) × (now (array .exit) ≡ lastOf g (decodeChip (now (block .entry))) s (now (array .entry)) (now (junk .entry)) .memory .array) ⌝ }
+{
+    if !s.cut {
+        return;
     }
-    c
+    cut(block, array, junk);
 }
 
 // What the call hands back.
@@ -79,21 +87,21 @@ pub fn finish(
     g: Geometry,
     kind: Kind,
     s: Session,
+    block: &mut [u8; 765],
     array: &mut [u8],
     staged: &[u8; 2112],
     junk: &[u8],
     buffer: &mut [u8],
 ) -> Done
-    requires { ⌜ (partFor (s .chip) (now array) ≡ Part.Known g) × (s .cut ≡ true → length (now junk) ≡ 2 * g .size + length (now array)) ⌝ }
-    ensures { λ r. ⌜ Finished g kind s (now (array .entry)) (now (staged .entry)) (now (junk .entry)) (now (buffer .entry)) r (now (array .exit)) (now (buffer .exit)) ⌝ }
+    requires { ⌜ (partFor (decodeChip (now block)) (now array) ≡ Part.Known g) × (Canonical (now block)) × (s .cut ≡ true → length (now junk) ≡ 2 * g .size + length (now array)) ⌝ }
+    ensures { λ r. ⌜ Finished g kind (decodeChip (now (block .entry))) s (now (array .entry)) (now (staged .entry)) (now (junk .entry)) (now (buffer .entry)) r (now (block .exit)) (now (array .exit)) (now (buffer .exit)) ⌝ }
 {
     let d = s.driver;
     let a = driver::answer(d);
     let n = deliver(kind, a, staged, buffer);
-    let c = lose(g, s, array, junk);
+    lose(g, s, block, array, junk);
     Done {
         answer: a,
-        chip: c,
         frames: s.frames,
         polls: s.polls,
         count: n,

@@ -1,19 +1,21 @@
 // A call's run: one frame after another, until the driver ends or a cut ends it.
 ghost use mathlib.Core.Path.{_≡_};
 ghost use mathlib.Core.Bool.{cond, not};
-ghost use lib.ListN.{length};
+ghost use Prim.Native.Nat.{_≤_};
+ghost use lib.ListN.{length, take};
 ghost use lib.Dec.{eqb};
+ghost use Rattle.blocks.specs.Block.{decodeChip};
+ghost use Rattle.blocks.specs.Holds.{Holds};
 ghost use Rattle.slots.specs.Driver.{ended, isEnded};
-ghost use Rattle.driver.specs.Step.{withCourse};
+ghost use Rattle.driver.specs.Step.{withCourse, tookIn, stagedIn};
+ghost use Rattle.calls.specs.Exchange.{Canonical};
 ghost use Rattle.calls.specs.Runs.{Going, Turned, Starts, Driven};
 use driver::Driver;
 use geometry::Geometry;
 use state::Answer;
-use state::Chip;
 
-// A call under way: the chip, the driver, the frames sent and how many of them were polls, and whether a cut has ended it.
+// A call under way: the driver, the frames sent and how many of them were polls, and whether a cut has ended it.
 pub struct Session {
-    pub chip: Chip,
     pub driver: Driver,
     pub frames: usize,
     pub polls: usize,
@@ -50,38 +52,42 @@ fn heed(b: u8, d: Driver, e: Driver) -> Driver
     e
 }
 
-// One frame sent and logged, its script byte acted on, its reply taken in.
+// The reply taken in that the first n bytes are.
+fn take_in_first(
+    d: Driver,
+    payload: &[u8],
+    reply: &[u8],
+    n: usize,
+    staged: &mut [u8; 2112],
+) -> Driver
+    requires { ⌜ n ≤ length (now reply) ⌝ }
+    ensures { λ r. ⌜ (r ≡ tookIn d (now (payload .entry)) (now (staged .entry)) (take n (now (reply .entry)))) × (now (staged .exit) ≡ stagedIn d (now (payload .entry)) (now (staged .entry)) (take n (now (reply .entry)))) ⌝ }
+{
+    driver::take_in(d, payload, &reply[..n], staged)
+}
+
+// One frame sent and logged, its script byte acted on, its reply taken in. `frame` and `reply` are room for the two.
 fn turn(
     g: Geometry,
     s: Session,
+    block: &mut [u8; 765],
     array: &mut [u8],
     payload: &[u8],
     staged: &mut [u8; 2112],
+    frame: &mut [u8; 272],
+    reply: &mut [u8; 272],
     script: &[u8],
     log: &mut [u8],
 ) -> Session
-    requires { ⌜ Going g s (now array) (now log) ⌝ }
-    ensures { λ r. ⌜ Turned g s (now (array .entry)) (now (payload .entry)) (now (staged .entry)) (now (script .entry)) (now (log .entry)) r (now (array .exit)) (now (staged .exit)) (now (log .exit)) ⌝ }
+    requires { ⌜ (Going g (decodeChip (now block)) s (now array) (now log)) × (Holds (decodeChip (now block))) ⌝ }
+    ensures { λ r. ⌜ (Turned g (decodeChip (now (block .entry))) s (now (array .entry)) (now (payload .entry)) (now (staged .entry)) (now (script .entry)) (now (log .entry)) (decodeChip (now (block .exit))) r (now (array .exit)) (now (staged .exit)) (now (log .exit))) × (Canonical (now (block .exit))) × (Holds (decodeChip (now (block .exit)))) ⌝ }
 {
     let d = s.driver;
-    let c = s.chip;
-    let mut frame = blank_frame();
-    let mut reply = blank_frame();
-    let n = driver::write_frame(d, payload, staged, &mut frame);
+    let n = driver::write_frame(d, payload, staged, frame);
     let b = crate::exchange::byte_or(script, s.frames, 0);
-    let k = crate::exchange::exchange(
-        g,
-        c,
-        array,
-        &frame[..n],
-        &mut reply[..n],
-        log,
-        6 * s.frames,
-        b,
-    );
-    let e = driver::take_in(d, payload, &reply[..n], staged);
+    crate::exchange::exchange_first(g, block, array, frame, reply, n, log, 6 * s.frames, b);
+    let e = take_in_first(d, payload, reply, n, staged);
     Session {
-        chip: k,
         driver: heed(b, d, e),
         frames: s.frames + 1,
         polls: s.polls + driver::is_poll(d),
@@ -100,18 +106,32 @@ fn is_going(s: Session) -> bool
 pub fn drive(
     g: Geometry,
     start: Session,
+    block: &mut [u8; 765],
     array: &mut [u8],
     payload: &[u8],
     staged: &mut [u8; 2112],
     script: &[u8],
     log: &mut [u8],
 ) -> Session
-    requires { ⌜ Starts g start (now array) (now log) ⌝ }
-    ensures { λ r. ⌜ Driven g start (now (array .entry)) (now (payload .entry)) (now (staged .entry)) (now (script .entry)) (now (log .entry)) r (now (array .exit)) (now (staged .exit)) (now (log .exit)) ⌝ }
+    requires { ⌜ (Starts g (decodeChip (now block)) start (now array) (now log)) × (Holds (decodeChip (now block))) ⌝ }
+    ensures { λ r. ⌜ (Driven g (decodeChip (now (block .entry))) start (now (array .entry)) (now (payload .entry)) (now (staged .entry)) (now (script .entry)) (now (log .entry)) (decodeChip (now (block .exit))) r (now (array .exit)) (now (staged .exit)) (now (log .exit))) × (Canonical (now (block .exit))) ⌝ }
 {
+    let mut frame = blank_frame();
+    let mut reply = blank_frame();
     let mut s = start;
     while is_going(s) {
-        s = turn(g, s, array, payload, staged, script, log);
+        s = turn(
+            g,
+            s,
+            block,
+            array,
+            payload,
+            staged,
+            &mut frame,
+            &mut reply,
+            script,
+            log,
+        );
     }
     s
 }

@@ -15,13 +15,13 @@ use Rattle.commands.proofs.Rules.{row-found}
 use Rattle.commands.proofs.Steps.{complete-full, decode-opened}
 
 -- a frame that opens with row i's opcode and holds its lead
-pub decode-row : (i : ℕ) (t : List ℕ) → i < 31 → rowAt i .lead ≤ suc (length t)
-    → decodeOf (rowAt i .opcode ∷ t) ≡ record { lead = rowAt i .lead; effect = rowAt i .effect }
+pub decode-row : (i : ℕ) (t : List ℕ) → i < 31 → rowAt i .1 ≤ suc (length t)
+    → decodeOf (rowAt i .0 ∷ t) ≡ record { lead = rowAt i .1; effect = rowAt i .2 }
 unfolding opened
 decode-row i t h l =
-    sym (decode-opened (rowAt i .opcode ∷ t) (Row (rowAt i)) (record { lead = rowAt i .lead; effect = rowAt i .effect }) (λ e. omega arith)
+    sym (decode-opened (rowAt i .0 ∷ t) (Row (rowAt i)) (record { lead = rowAt i .1; effect = rowAt i .2 }) (λ e. omega arith)
     (sym (row-found i h))
-    (complete-full (suc (length t)) (record { lead = rowAt i .lead; effect = rowAt i .effect }) l))
+    (complete-full (suc (length t)) (record { lead = rowAt i .1; effect = rowAt i .2 }) l))
 
 -- room for the lead
 one : (n : ℕ) → 1 ≤ suc n

@@ -29,7 +29,7 @@ there false c d cs p f e h = e (le-of-suc-le-suc h)
 found : (cs : List Command) (op : ℕ) (d : Command) → placeIn cs op < length cs → Row (getD cs (placeIn cs op) d) ≡ lookupIn cs op
 unfolding placeIn lookupIn
 found [] op d h = absurd (not-suc-le-zero h)
-found (c ∷ cs) op d h = there (eqb (c .opcode) op) c d cs (placeIn cs op) (lookupIn cs op) (found cs op d) h
+found (c ∷ cs) op d h = there (eqb (c .0) op) c d cs (placeIn cs op) (lookupIn cs op) (found cs op d) h
 
 -- ---- the table
 pub found-row : (op i : ℕ) (c : Command) → i ≡ placeOf op → i < 31 → c ≡ rowAt i → Row c ≡ lookupOf op

@@ -92,7 +92,7 @@ module _ (Q : Decoded → Type 0) (none : Q unlisted) (f : List ℕ) where
       → Q (opened (lookupIn cs op) f)
   unfolding lookupIn opened
   in-commands [] op e k = in-sequences sequences k
-  in-commands (c ∷ cs) op e k = row-or Q (eqb (c .opcode) op) c (lookupIn cs op) f (e .0) (in-commands cs op (e .1) k)
+  in-commands (c ∷ cs) op e k = row-or Q (eqb (c .0) op) c (lookupIn cs op) f (e .0) (in-commands cs op (e .1) k)
 
   pub decode-each : Each (λ (c : Command). Q (ofCommand c)) commands → Each (λ (s : Sequence). Q (ofSequence s)) sequences → Q (decodeOf f)
   unfolding decodeOf complete lookupOf
@@ -154,20 +154,20 @@ unfolding takes
 security-lead f e = decode-data f (ap takes e)
 
 -- ---- each opcode once
-in-order : tabulate 31 (λ i. placeOf (rowAt i .opcode)) ≡ tabulate 31 (λ i. i)
+in-order : tabulate 31 (λ i. placeOf (rowAt i .0)) ≡ tabulate 31 (λ i. i)
 unfolding tabulate placeOf placeIn rowAt commands
 in-order = refl
 
-row-place : (i : ℕ) → i < 31 → placeOf (rowAt i .opcode) ≡ i
+row-place : (i : ℕ) → i < 31 → placeOf (rowAt i .0) ≡ i
 row-place i h =
-    sym (getD-tabulate 31 (λ k. placeOf (rowAt k .opcode)) i 0 h) ∙ ap (λ (l : List ℕ). getD l i 0) in-order ∙ getD-tabulate 31 (λ k. k) i 0 h
+    sym (getD-tabulate 31 (λ k. placeOf (rowAt k .0)) i 0 h) ∙ ap (λ (l : List ℕ). getD l i 0) in-order ∙ getD-tabulate 31 (λ k. k) i 0 h
 
-pub opcodes-distinct : (i j : ℕ) → i < 31 → j < 31 → rowAt i .opcode ≡ rowAt j .opcode → i ≡ j
+pub opcodes-distinct : (i j : ℕ) → i < 31 → j < 31 → rowAt i .0 ≡ rowAt j .0 → i ≡ j
 opcodes-distinct i j h k e = sym (row-place i h) ∙ ap placeOf e ∙ row-place j k
 
 -- so each row is found by its opcode
-pub row-found : (i : ℕ) → i < 31 → lookupOf (rowAt i .opcode) ≡ Row (rowAt i)
-row-found i h = sym (found-row (rowAt i .opcode) i (rowAt i) (sym (row-place i h)) h refl)
+pub row-found : (i : ℕ) → i < 31 → lookupOf (rowAt i .0) ≡ Row (rowAt i)
+row-found i h = sym (found-row (rowAt i .0) i (rowAt i) (sym (row-place i h)) h refl)
 
 -- no four-byte opening begins with an opcode, and each is found as its own row
 pub openings-apart : map (λ (s : Sequence). placeOf (getD (s .opening) 0 0)) sequences ≡ replicate 7 31

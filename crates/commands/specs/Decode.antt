@@ -20,7 +20,7 @@ unlisted = record { lead = 0; effect = Unlisted }
 -- how many rows stand before the one with this opcode; all of them where none has it
 unfoldable pub placeIn : List Command → ℕ → ℕ
 placeIn [] opcode = 0
-placeIn (c ∷ cs) opcode = cond (eqb (c .opcode) opcode) 0 (suc (placeIn cs opcode))
+placeIn (c ∷ cs) opcode = cond (eqb (c .0) opcode) 0 (suc (placeIn cs opcode))
 
 unfoldable pub placeOf : ℕ → ℕ
 placeOf opcode = placeIn commands opcode
@@ -28,7 +28,7 @@ placeOf opcode = placeIn commands opcode
 -- the row with this opcode, if any
 unfoldable pub lookupIn : List Command → ℕ → Found
 lookupIn [] opcode = Missing
-lookupIn (c ∷ cs) opcode = cond (eqb (c .opcode) opcode) (Row c) (lookupIn cs opcode)
+lookupIn (c ∷ cs) opcode = cond (eqb (c .0) opcode) (Row c) (lookupIn cs opcode)
 
 unfoldable pub lookupOf : ℕ → Found
 lookupOf opcode = lookupIn commands opcode
@@ -43,7 +43,7 @@ sequenceIn [] f = unlisted
 sequenceIn (s ∷ ss) f = cond (begins f (s .opening)) (record { lead = s .lead; effect = s .effect }) (sequenceIn ss f)
 
 unfoldable pub opened : Found → List ℕ → Decoded
-opened (Row c) f = record { lead = c .lead; effect = c .effect }
+opened (Row c) f = record { lead = c .1; effect = c .2 }
 opened Missing f = sequenceIn sequences f
 
 -- "A frame shorter than its lead .. is ignored"

@@ -81,7 +81,7 @@ pub record Ruled (d : Decoded) : Type 0 where
 
 -- a row's lead and effect, without its opening
 abbrev pub ofCommand : Command → Decoded
-ofCommand c = record { lead = c .lead; effect = c .effect }
+ofCommand c = record { lead = c .1; effect = c .2 }
 
 abbrev pub ofSequence : Sequence → Decoded
 ofSequence s = record { lead = s .lead; effect = s .effect }

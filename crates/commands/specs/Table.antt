@@ -10,7 +10,7 @@ use Rattle.commands.specs.declared.Effect.the-variants.{ReadPage, ReadAr
 
 -- one row whose opening is an opcode
 abbrev pub row : ℕ → ℕ → Effect → Command
-row opcode lead effect = record { opcode = opcode; lead = lead; effect = effect }
+row opcode lead effect = (opcode, lead, effect)
 
 -- the rows that open with one byte
 unfoldable pub commands : List Command

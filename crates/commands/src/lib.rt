@@ -17,26 +17,26 @@ pub enum Effect {
     // 03, 0B: read on through the array.
     ReadArray,
     // D1/D3, D4/D6.
-    ReadBuffer { buffer: Buffer },
+    ReadBuffer(Buffer),
     // 84/87.
-    WriteBuffer { buffer: Buffer },
+    WriteBuffer(Buffer),
     // 83/86: the page becomes the buffer.
-    Program { buffer: Buffer },
+    Program(Buffer),
     // 88/89: the page becomes page AND buffer.
-    ProgramOver { buffer: Buffer },
+    ProgramOver(Buffer),
     // 82/85: the buffer is written, then programmed.
-    ProgramThrough { buffer: Buffer },
+    ProgramThrough(Buffer),
     // 81, 50, 7C, C7 94 80 9A.
     ErasePage,
     EraseBlock,
     EraseSector,
     EraseChip,
     // 53/55: the buffer becomes the page.
-    Transfer { buffer: Buffer },
+    Transfer(Buffer),
     // 60/61.
-    Compare { buffer: Buffer },
+    Compare(Buffer),
     // 58/59: as 53/55, the page rewritten.
-    Rewrite { buffer: Buffer },
+    Rewrite(Buffer),
     // 3D 2A 7F A9 and 9A, CF, FC, 30.
     EnableProtection,
     DisableProtection,
@@ -58,12 +58,8 @@ pub enum Effect {
     Unlisted,
 }
 
-// A row that opens with one byte. `lead`: the bytes before data. Four bytes in all.
-pub struct Command {
-    pub opcode: u8,
-    pub lead: u8,
-    pub effect: Effect,
-}
+// A row that opens with one byte: opcode, lead (the bytes before data), effect. Four bytes in all.
+pub struct Command(pub u8, pub u8, pub Effect);
 
 // A frame's row, whichever way it opens.
 pub struct Decoded {
@@ -78,46 +74,52 @@ pub enum Found {
 
 // The rows that open with one byte.
 const COMMANDS: [Command; 31] = [
-    Command { opcode: 0xD2, lead: 8, effect: Effect::ReadPage },
-    Command { opcode: 0x03, lead: 4, effect: Effect::ReadArray },
-    Command { opcode: 0x0B, lead: 5, effect: Effect::ReadArray },
-    Command { opcode: 0xD1, lead: 4, effect: Effect::ReadBuffer { buffer: Buffer::One } },
-    Command { opcode: 0xD3, lead: 4, effect: Effect::ReadBuffer { buffer: Buffer::Two } },
-    Command { opcode: 0xD4, lead: 5, effect: Effect::ReadBuffer { buffer: Buffer::One } },
-    Command { opcode: 0xD6, lead: 5, effect: Effect::ReadBuffer { buffer: Buffer::Two } },
-    Command { opcode: 0x84, lead: 4, effect: Effect::WriteBuffer { buffer: Buffer::One } },
-    Command { opcode: 0x87, lead: 4, effect: Effect::WriteBuffer { buffer: Buffer::Two } },
-    Command { opcode: 0x83, lead: 4, effect: Effect::Program { buffer: Buffer::One } },
-    Command { opcode: 0x86, lead: 4, effect: Effect::Program { buffer: Buffer::Two } },
-    Command { opcode: 0x88, lead: 4, effect: Effect::ProgramOver { buffer: Buffer::One } },
-    Command { opcode: 0x89, lead: 4, effect: Effect::ProgramOver { buffer: Buffer::Two } },
-    Command { opcode: 0x82, lead: 4, effect: Effect::ProgramThrough { buffer: Buffer::One } },
-    Command { opcode: 0x85, lead: 4, effect: Effect::ProgramThrough { buffer: Buffer::Two } },
-    Command { opcode: 0x81, lead: 4, effect: Effect::ErasePage },
-    Command { opcode: 0x50, lead: 4, effect: Effect::EraseBlock },
-    Command { opcode: 0x7C, lead: 4, effect: Effect::EraseSector },
-    Command { opcode: 0x53, lead: 4, effect: Effect::Transfer { buffer: Buffer::One } },
-    Command { opcode: 0x55, lead: 4, effect: Effect::Transfer { buffer: Buffer::Two } },
-    Command { opcode: 0x60, lead: 4, effect: Effect::Compare { buffer: Buffer::One } },
-    Command { opcode: 0x61, lead: 4, effect: Effect::Compare { buffer: Buffer::Two } },
-    Command { opcode: 0x58, lead: 4, effect: Effect::Rewrite { buffer: Buffer::One } },
-    Command { opcode: 0x59, lead: 4, effect: Effect::Rewrite { buffer: Buffer::Two } },
-    Command { opcode: 0x32, lead: 4, effect: Effect::ReadProtection },
-    Command { opcode: 0x35, lead: 4, effect: Effect::ReadLockdown },
-    Command { opcode: 0x77, lead: 4, effect: Effect::ReadSecurity },
-    Command { opcode: 0xD7, lead: 1, effect: Effect::ReadStatus },
-    Command { opcode: 0x9F, lead: 1, effect: Effect::ReadId },
-    Command { opcode: 0xB9, lead: 1, effect: Effect::PowerDown },
-    Command { opcode: 0xAB, lead: 1, effect: Effect::Resume },
+    Command(0xD2, 8, Effect::ReadPage),
+    Command(0x03, 4, Effect::ReadArray),
+    Command(0x0B, 5, Effect::ReadArray),
+    Command(0xD1, 4, Effect::ReadBuffer(Buffer::One)),
+    Command(0xD3, 4, Effect::ReadBuffer(Buffer::Two)),
+    Command(0xD4, 5, Effect::ReadBuffer(Buffer::One)),
+    Command(0xD6, 5, Effect::ReadBuffer(Buffer::Two)),
+    Command(0x84, 4, Effect::WriteBuffer(Buffer::One)),
+    Command(0x87, 4, Effect::WriteBuffer(Buffer::Two)),
+    Command(0x83, 4, Effect::Program(Buffer::One)),
+    Command(0x86, 4, Effect::Program(Buffer::Two)),
+    Command(0x88, 4, Effect::ProgramOver(Buffer::One)),
+    Command(0x89, 4, Effect::ProgramOver(Buffer::Two)),
+    Command(0x82, 4, Effect::ProgramThrough(Buffer::One)),
+    Command(0x85, 4, Effect::ProgramThrough(Buffer::Two)),
+    Command(0x81, 4, Effect::ErasePage),
+    Command(0x50, 4, Effect::EraseBlock),
+    Command(0x7C, 4, Effect::EraseSector),
+    Command(0x53, 4, Effect::Transfer(Buffer::One)),
+    Command(0x55, 4, Effect::Transfer(Buffer::Two)),
+    Command(0x60, 4, Effect::Compare(Buffer::One)),
+    Command(0x61, 4, Effect::Compare(Buffer::Two)),
+    Command(0x58, 4, Effect::Rewrite(Buffer::One)),
+    Command(0x59, 4, Effect::Rewrite(Buffer::Two)),
+    Command(0x32, 4, Effect::ReadProtection),
+    Command(0x35, 4, Effect::ReadLockdown),
+    Command(0x77, 4, Effect::ReadSecurity),
+    Command(0xD7, 1, Effect::ReadStatus),
+    Command(0x9F, 1, Effect::ReadId),
+    Command(0xB9, 1, Effect::PowerDown),
+    Command(0xAB, 1, Effect::Resume),
 ];
 
 // What opens the other rows.
 const ERASE_CHIP: [u8; 4] = [0xC7, 0x94, 0x80, 0x9A];
+
 const ENABLE_PROTECTION: [u8; 4] = [0x3D, 0x2A, 0x7F, 0xA9];
+
 const DISABLE_PROTECTION: [u8; 4] = [0x3D, 0x2A, 0x7F, 0x9A];
+
 const ERASE_PROTECTION: [u8; 4] = [0x3D, 0x2A, 0x7F, 0xCF];
+
 const PROGRAM_PROTECTION: [u8; 4] = [0x3D, 0x2A, 0x7F, 0xFC];
+
 const LOCK_SECTOR: [u8; 4] = [0x3D, 0x2A, 0x7F, 0x30];
+
 const PROGRAM_SECURITY: [u8; 4] = [0x9B, 0x00, 0x00, 0x00];
 
 // The row with this opcode.
@@ -177,34 +179,65 @@ fn sequence(frame: &[u8]) -> Decoded
     ensures { λ r. ⌜ r ≡ sequenceIn sequences (now (frame .entry)) ⌝ }
 {
     if begins_with(frame, ERASE_CHIP) {
-        return Decoded { lead: 4, effect: Effect::EraseChip };
+        return Decoded {
+            lead: 4,
+            effect: Effect::EraseChip,
+        };
     }
     if begins_with(frame, ENABLE_PROTECTION) {
-        return Decoded { lead: 4, effect: Effect::EnableProtection };
+        return Decoded {
+            lead: 4,
+            effect: Effect::EnableProtection,
+        };
     }
     if begins_with(frame, DISABLE_PROTECTION) {
-        return Decoded { lead: 4, effect: Effect::DisableProtection };
+        return Decoded {
+            lead: 4,
+            effect: Effect::DisableProtection,
+        };
     }
     if begins_with(frame, ERASE_PROTECTION) {
-        return Decoded { lead: 4, effect: Effect::EraseProtection };
+        return Decoded {
+            lead: 4,
+            effect: Effect::EraseProtection,
+        };
     }
     if begins_with(frame, PROGRAM_PROTECTION) {
-        return Decoded { lead: 4, effect: Effect::ProgramProtection };
+        return Decoded {
+            lead: 4,
+            effect: Effect::ProgramProtection,
+        };
     }
     if begins_with(frame, LOCK_SECTOR) {
-        return Decoded { lead: 7, effect: Effect::LockSector };
+        return Decoded {
+            lead: 7,
+            effect: Effect::LockSector,
+        };
     }
     if begins_with(frame, PROGRAM_SECURITY) {
-        return Decoded { lead: 4, effect: Effect::ProgramSecurity };
+        return Decoded {
+            lead: 4,
+            effect: Effect::ProgramSecurity,
+        };
     }
-    Decoded { lead: 0, effect: Effect::Unlisted }
+    Decoded {
+        lead: 0,
+        effect: Effect::Unlisted,
+    }
 }
 
 // A row whose lead the frame does not fill is no row.
 fn completed(length: usize, d: Decoded) -> Decoded
     ensures { λ r. ⌜ r ≡ complete length d ⌝ }
 {
-    if d.lead <= length { d } else { Decoded { lead: 0, effect: Effect::Unlisted } }
+    if d.lead <= length {
+        d
+    } else {
+        Decoded {
+            lead: 0,
+            effect: Effect::Unlisted,
+        }
+    }
 }
 
 // A frame's row: its lead and effect.
@@ -212,14 +245,23 @@ pub fn decode(frame: &[u8]) -> Decoded
     ensures { λ r. ⌜ r ≡ decodeOf (now (frame .entry)) ⌝ }
 {
     if frame.len() == 0 {
-        return Decoded { lead: 0, effect: Effect::Unlisted };
+        return Decoded {
+            lead: 0,
+            effect: Effect::Unlisted,
+        };
     }
     let f = lookup(frame[0]);
     match f {
         Found::Row(c) => {
-            let lead = c.lead as usize;
-            let effect = c.effect;
-            completed(frame.len(), Decoded { lead: lead, effect: effect })
+            let lead = c.1 as usize;
+            let effect = c.2;
+            completed(
+                frame.len(),
+                Decoded {
+                    lead: lead,
+                    effect: effect,
+                },
+            )
         }
         Found::Missing => completed(frame.len(), sequence(frame)),
     }

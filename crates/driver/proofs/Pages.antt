@@ -19,7 +19,7 @@ use Rattle.slots.specs.declared.Kind.the-variants.{Put, Patch, Get, Wipe}
 use Rattle.slots.specs.declared.Phase.{Phase}
 use Rattle.slots.specs.declared.Verdict.{Verdict}
 use Rattle.slots.specs.declared.Verdict.the-variants.{Good, Blank, Beyond}
-use Rattle.slots.specs.Records.{image, patched}
+use Rattle.slots.specs.Records.{changed, image, patched}
 use Rattle.slots.specs.Driver.{Holding, loaded, registerIn, judged, readIn, takenIn}
 use Rattle.driver.specs.declared.Driver.{Driver}
 use Rattle.driver.specs.Step.{askedOf, holdingOf, Sound}
@@ -114,16 +114,16 @@ module _ {g : Geometry} {d : Driver} (s : Sound g d) (payload staged : List ℕ)
 
     -- under 12 and 13 the page stays
     pub patch-blank : d .verdict ≡ Blank → part ≡ page (d .verdict)
-    unfolding loaded
+    unfolding loaded changed
     patch-blank e = as-read ∙ ap (λ (v : Verdict). page v) (sym e)
 
     pub patch-beyond : d .verdict ≡ Beyond → part ≡ page (d .verdict)
-    unfolding loaded
+    unfolding loaded changed
     patch-beyond e = as-read ∙ ap (λ (v : Verdict). page v) (sym e)
 
     -- else the patch is laid over it
     pub patch-good : (ys : List ℕ) → d .verdict ≡ Good → ys ≡ tabulate (length part) (λ i. patched (d .place) payload (getD part i 0) (start + i)) → ys ≡ page (d .verdict)
-    unfolding loaded
+    unfolding loaded changed
     patch-good ys e q =
         q ∙ ap (λ (n : ℕ). tabulate n (λ i. patched (d .place) payload (getD part i 0) (start + i))) size
         ∙ tabulate-same (g .size) (λ i. patched (d .place) payload (getD part i 0) (start + i))

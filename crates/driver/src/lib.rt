@@ -31,10 +31,10 @@ use state::Answer;
 // on page 0; and the control state.
 pub struct Driver {
     pub array: usize,
-    pub kind: Kind,
     pub slot: usize,
     pub limit: usize,
     pub place: usize,
+    pub kind: Kind,
     pub verdict: Verdict,
     pub course: Course,
 }
@@ -57,8 +57,8 @@ fn byte_or(bytes: &[u8], i: usize, other: u8) -> u8
     bytes[i]
 }
 
-// `part` becomes the bytes of `source` from index `from` on, and `other` past its end.
-fn copy_from(part: &mut [u8], source: &[u8], from: usize, other: u8)
+// `part` becomes the bytes of `source` from index `from` on, as far as they reach, and `other` behind them.
+fn pad_from(part: &mut [u8], source: &[u8], from: usize, other: u8)
     ensures { λ _. ⌜ now (part .exit) ≡ tabulate (length (now (part .entry))) (λ i. getD (now (source .entry)) (from + i) other) ⌝ }
 {
     slices::fill(part, other);
@@ -68,6 +68,21 @@ fn copy_from(part: &mut [u8], source: &[u8], from: usize, other: u8)
     let n = numbers::lesser(source.len() - from, part.len());
     let e = from + n;
     slices::copy(&mut part[..n], &source[from..e]);
+}
+
+// `part` becomes the bytes of `source` from index `from` on, and `other` past its end. Mostly the bytes reach.
+fn copy_from(part: &mut [u8], source: &[u8], from: usize, other: u8)
+    ensures { λ _. ⌜ now (part .exit) ≡ tabulate (length (now (part .entry))) (λ i. getD (now (source .entry)) (from + i) other) ⌝ }
+{
+    let n = part.len();
+    if from <= source.len() {
+        if n <= source.len() - from {
+            let e = from + n;
+            slices::copy(part, &source[from..e]);
+            return;
+        }
+    }
+    pad_from(part, source, from, other);
 }
 
 // How much a exceeds b; 0 where it does not.

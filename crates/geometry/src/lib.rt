@@ -1,7 +1,7 @@
 // Parts, pages, addresses and sectors of the AT45DB081D: where things lie in the lent array.
 // Internal to this repository: a caller here meets each `requires`; no entry point is in this crate.
 ghost use mathlib.Core.Path.{_≡_};
-ghost use Prim.Native.Nat.{ℕ, _+_, _*_, _/_, _≤_, _<_, _^_};
+ghost use Prim.Native.Nat.{ℕ, _+_, _*_, _/_, _%_, _≤_, _<_, _^_};
 ghost use lib.ListN.{length};
 ghost use Rattle.geometry.specs.Parts.{partOf, Sized, addressAt, pageAt, byteAt, pageStart};
 ghost use Rattle.geometry.specs.Sectors.{sectorOf, firstPage, endPage, sectorRun, sectorCount};
@@ -56,6 +56,31 @@ pub fn address_at(frame: &[u8], at: usize) -> usize
         + numbers::wide(frame[at + 2])
 }
 
+// n div d. A divisor that stands in the code is a multiplication for the processor, so that of the known parts does.
+fn quotient(n: usize, d: usize) -> usize
+    requires { ⌜ 0 < d ⌝ }
+    ensures { λ r. ⌜ r ≡ n / d ⌝ }
+{
+    match d {
+        512 => n / 512,
+        _ => n / d,
+    }
+}
+
+// n mod d, likewise.
+fn remainder(n: usize, d: usize) -> usize
+    requires { ⌜ 0 < d ⌝ }
+    ensures { λ r. ⌜ (r ≡ n % d) × (r < d) ⌝ }
+{
+    match d {
+        264 => n % 264,
+        512 => n % 512,
+        4096 => n % 4096,
+        128 => n % 128,
+        _ => n % d,
+    }
+}
+
 // The page that an address names.
 pub fn page_at(g: Geometry, address: usize) -> usize
     requires { ⌜ (0 < g .field) × (0 < g .pages) ⌝ }
@@ -63,7 +88,7 @@ pub fn page_at(g: Geometry, address: usize) -> usize
 {
     let field = g.field;
     let pages = g.pages;
-    address / field % pages
+    remainder(quotient(address, field), pages)
 }
 
 // The byte of its page that an address names.
@@ -73,7 +98,7 @@ pub fn byte_at(g: Geometry, address: usize) -> usize
 {
     let field = g.field;
     let size = g.size;
-    address % field % size
+    remainder(remainder(address, field), size)
 }
 
 // Where a page begins in the array, or the array ends.

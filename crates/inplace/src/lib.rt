@@ -14,7 +14,6 @@ ghost use Rattle.state.specs.Outcomes.{sendOutcome, sendReply, endOutcome, endA
 ghost use Rattle.blocks.specs.Block.{decodeOperation, decodeRegisters, decodeChip, encodeChip};
 ghost use Rattle.blocks.specs.Promises.{answered, storedIn};
 ghost use Rattle.inplace.specs.Plain.{Plain};
-use control::Change;
 use geometry::Geometry;
 use geometry::Part;
 use registers::Operation;
@@ -102,13 +101,7 @@ fn end_in(g: Geometry, block: &mut [u8], o: Operation, array: &mut [u8])
     ensures { λ _. ⌜ (now (block .exit) ≡ encodeChip (chipOf (completed (decodeRegisters (now (block .entry)))) (completedMemory g (decodeOperation (now (block .entry))) (memoryOf (decodeChip (now (block .entry))) (now (array .entry)))))) × (now (array .exit) ≡ completedMemory g (decodeOperation (now (block .entry))) (memoryOf (decodeChip (now (block .entry))) (now (array .entry))) .array) ⌝ }
 {
     let compare = blocks::is_set(block[764]);
-    blocks::settle(
-        block,
-        o,
-        Change::Start {
-            operation: Operation::Idle,
-        },
-    );
+    blocks::rest(block);
     let bit = completion::complete_memory(g, compare, &mut block[236..764], array, o);
     block[764] = blocks::flag_byte(bit);
 }

@@ -7,10 +7,14 @@ ghost use lib.ListN.{length, getD, replicate};
 ghost use Rattle.slices.specs.Lists.{andOver, same, ringRead, ringWrite, splice};
 ghost use Rattle.slices.specs.Words.{wordAt, wordBytes};
 
-// Every byte becomes `value`.
+// Every byte becomes `value`. A single one needs no loop, of which the compiler makes a call.
 pub fn fill(part: &mut [u8], value: u8)
     ensures { λ _. ⌜ now (part .exit) ≡ replicate (length (now (part .entry))) value ⌝ }
 {
+    if part.len() == 1 {
+        part[0] = value;
+        return;
+    }
     let mut i = 0;
     while i < part.len() {
         part[i] = value;

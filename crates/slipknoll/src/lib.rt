@@ -17,7 +17,7 @@ ghost use Rattle.slots.specs.Lists.{Op};
 ghost use Rattle.driver.specs.Start.{limitIn, startDriver};
 ghost use Rattle.driver.specs.Step.{frameIn, stagedIn, tookIn, nextIn};
 ghost use Rattle.driver_blocks.specs.Block.{decodeDriver, encodeDriver};
-ghost use Rattle.handover.specs.Called.{Called, CalledLent};
+ghost use Rattle.calls.specs.Promises.{Called, CalledLent};
 use slots::Kind;
 
 // A fresh chip with these factory bytes; the array becomes FFh. Answers 0, 1.
@@ -87,9 +87,8 @@ pub extern "C" fn slipknoll_put(
 ) -> u8
     ensures { λ r. ⌜ Called (Op.put slot limit (now (script .entry)) (now (recipe .entry)) (now (junk .entry)) (now (log .entry))) (now (block .entry)) (now (array .entry)) (now (log .entry)) r (now (block .exit)) (now (array .exit)) (now (log .exit)) (now (counts .exit)) ⌝ }
 {
-    let c = blocks::decode(block);
-    let d = calls::put(c, array, slot, limit, recipe, script, junk, log);
-    handover::hand_over(block, counts, d)
+    let d = calls::put(block, array, slot, limit, recipe, script, junk, log);
+    calls::tell(counts, d)
 }
 
 // Bytes put at a place of the stored recipe.
@@ -108,9 +107,8 @@ pub extern "C" fn slipknoll_patch(
 ) -> u8
     ensures { λ r. ⌜ Called (Op.patch slot limit place (now (script .entry)) (now (bytes .entry)) (now (junk .entry)) (now (log .entry))) (now (block .entry)) (now (array .entry)) (now (log .entry)) r (now (block .exit)) (now (array .exit)) (now (log .exit)) (now (counts .exit)) ⌝ }
 {
-    let c = blocks::decode(block);
-    let d = calls::patch(c, array, slot, limit, place, bytes, script, junk, log);
-    handover::hand_over(block, counts, d)
+    let d = calls::patch(block, array, slot, limit, place, bytes, script, junk, log);
+    calls::tell(counts, d)
 }
 
 // The stored recipe read into the lent buffer, under answer 0 only.
@@ -128,9 +126,8 @@ pub extern "C" fn slipknoll_get(
 ) -> u8
     ensures { λ r. ⌜ CalledLent (Op.get slot limit (now (script .entry)) (now (junk .entry)) (now (log .entry)) (now (buffer .entry))) (now (block .entry)) (now (array .entry)) (now (log .entry)) r (now (block .exit)) (now (array .exit)) (now (log .exit)) (now (counts .exit)) (now (buffer .exit)) ⌝ }
 {
-    let c = blocks::decode(block);
-    let d = calls::get(c, array, slot, limit, buffer, script, junk, log);
-    handover::hand_over(block, counts, d)
+    let d = calls::get(block, array, slot, limit, buffer, script, junk, log);
+    calls::tell(counts, d)
 }
 
 // A slot erased.
@@ -147,9 +144,8 @@ pub extern "C" fn slipknoll_wipe(
 ) -> u8
     ensures { λ r. ⌜ Called (Op.wipe slot limit (now (script .entry)) (now (junk .entry)) (now (log .entry))) (now (block .entry)) (now (array .entry)) (now (log .entry)) r (now (block .exit)) (now (array .exit)) (now (log .exit)) (now (counts .exit)) ⌝ }
 {
-    let c = blocks::decode(block);
-    let d = calls::wipe(c, array, slot, limit, script, junk, log);
-    handover::hand_over(block, counts, d)
+    let d = calls::wipe(block, array, slot, limit, script, junk, log);
+    calls::tell(counts, d)
 }
 
 // One frame of the caller's, its reply in the lent buffer.
@@ -166,9 +162,8 @@ pub extern "C" fn slipknoll_raw(
 ) -> u8
     ensures { λ r. ⌜ CalledLent (Op.raw (now (frame .entry)) (now (script .entry)) (now (junk .entry)) (now (log .entry)) (now (reply .entry))) (now (block .entry)) (now (array .entry)) (now (log .entry)) r (now (block .exit)) (now (array .exit)) (now (log .exit)) (now (counts .exit)) (now (reply .exit)) ⌝ }
 {
-    let c = blocks::decode(block);
-    let d = calls::raw(c, array, frame, reply, script, junk, log);
-    handover::hand_over(block, counts, d)
+    let d = calls::raw(block, array, frame, reply, script, junk, log);
+    calls::tell(counts, d)
 }
 
 // ---- the driver by itself: its state in a block of 48 bytes, for a chip whose array has `array` bytes. A refused call starts at its end.

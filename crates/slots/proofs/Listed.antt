@@ -49,12 +49,12 @@ use Rattle.slots.specs.declared.Phase.{Phase}
 use Rattle.slots.specs.declared.Phase.the-variants.{Opening, AskProtection, AskLockdown, Reading, Loading, Programming, Between, Erasing, Closing, Ended}
 use Rattle.slots.specs.declared.Verdict.{Verdict}
 use Rattle.slots.specs.declared.Verdict.the-variants.{Good, Blank, Beyond}
-use Rattle.slots.specs.Records.{slotSize, patched, getVerdict, patchVerdict}
+use Rattle.slots.specs.Records.{slotSize, changed, getVerdict, patchVerdict}
 use Rattle.slots.specs.Driver.{Asked, Holding, slotPage, shapeOf, frameByte, loaded, frameOf, statusHeard, registerHeard, registerIn, heardIn, at, ended, asking, opened, mainOf, checked, paged, afterRead, courseAfter, judged, readIn, takenIn, isEnded, isPoll, weighed, answerOf}
 use Rattle.slots.specs.Refusals.{bound}
 use Rattle.slots.specs.Calls.{State, Request, Secret, Open, Closed, outline, registersAfter, memoryAfter, sends, leaves, replies, openAfter, closedAfter, stepOpen, stepClosed, run, firstCourse, refusalOf, startOpen, startClosed, ran, outFrom, callOut}
 use Rattle.slots.specs.Lists.{request}
-use Rattle.slots.specs.Listed.{framesOf, framesSent, outlines, statusFrame, registerFrame, namingFrame, readFrame, loadFrame, programFrame, eraseFrame, pagesFrom, putPage, patchPage, getPage, listed, found, slotByte, changed, pageLoaded, framesListed, pollsListed, Undisturbed, AsListed}
+use Rattle.slots.specs.Listed.{framesOf, framesSent, outlines, statusFrame, registerFrame, namingFrame, readFrame, loadFrame, programFrame, eraseFrame, pagesFrom, putPage, patchPage, getPage, listed, found, slotByte, pageLoaded, framesListed, pollsListed, Undisturbed, AsListed}
 use Rattle.slots.proofs.Size.{cases}
 use Rattle.slots.proofs.Blind.{status-heard}
 use Rattle.slots.proofs.Sent.{load-form, read-form, page-told, program-starts}
@@ -427,7 +427,7 @@ module _ (g : Geometry) (a : Asked) (log junk : ℕ) (oversize : Bool) (r : Regi
 
   -- byte i of a page as a patch loads it, by the array before the call
   abbrev patchBytes : Secret → List ℕ → Verdict → ℕ → ℕ → ℕ
-  patchBytes x array w page i = changed w x (slotByte g (a .slot) array (g .size * page + i)) (g .size * page + i)
+  patchBytes x array w page i = changed w (x .place) (x .payload) (slotByte g (a .slot) array (g .size * page + i)) (g .size * page + i)
 
   -- before a page's D2: it and the later pages of the slot are as they were before the call
   record Patching (x : Secret) (array : List ℕ) (w : Verdict) (page : ℕ) (m : Memory) (staged : List ℕ) (u : Verdict) : Type 0 where
@@ -452,11 +452,9 @@ module _ (g : Geometry) (a : Asked) (log junk : ℕ) (oversize : Bool) (r : Regi
       getD-pageOf g (slotPage (a .slot) page) array i l ∙ ap (λ (k : ℕ). getD array k 0) e
 
   changed-loaded : (x : Secret) (staged : List ℕ) (w u : Verdict) (page i old : ℕ) → getD staged (g .size * page + i) 0 ≡ old
-      → loaded g Patch w (holdsPatch x staged u) page i ≡ changed w x old (g .size * page + i)
-  unfolding loaded changed
-  changed-loaded x staged Good u page i old e = ap (λ (o : ℕ). patched (x .place) (x .payload) o (g .size * page + i)) e
-  changed-loaded x staged Blank u page i old e = e
-  changed-loaded x staged Beyond u page i old e = e
+      → loaded g Patch w (holdsPatch x staged u) page i ≡ changed w (x .place) (x .payload) old (g .size * page + i)
+  unfolding loaded
+  changed-loaded x staged w u page i old e = ap (λ (o : ℕ). changed w (x .place) (x .payload) o (g .size * page + i)) e
 
   module _ (kind : a .kind ≡ Patch) (x : Secret) (array : List ℕ) (w : Verdict) (room : Room (length array)) where
     -- what is held after a page's D2, and the memory after its program

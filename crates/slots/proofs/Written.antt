@@ -24,7 +24,7 @@ use Rattle.slots.specs.declared.Course.{Course}
 use Rattle.slots.specs.declared.Kind.the-variants.{Put, Patch}
 use Rattle.slots.specs.declared.Verdict.{Verdict}
 use Rattle.slots.specs.declared.Verdict.the-variants.{Good, Blank, Beyond}
-use Rattle.slots.specs.Records.{slotSize, image, patched, patchVerdict}
+use Rattle.slots.specs.Records.{slotSize, image, patched, changed, patchVerdict}
 use Rattle.slots.specs.Driver.{Asked, Holding, slotPage, loaded, judged, readIn}
 use Rattle.slots.specs.Quiet.{pageIn, Kept}
 use Rattle.slots.specs.Calls.{State, Request, Secret, refusalOf, startClosed, callOut, callNext}
@@ -61,12 +61,6 @@ unfolding putPlan startClosed
 put-writes g slot limit script recipe junk log oversize s e k b d = call-stores g _ (putPlan g slot limit recipe) _ s e k b tt refl d .0
 
 -- ---- patch
-
--- byte i after a patch with this verdict: "Under 12 or 13 .. pages unchanged"
-changed : Verdict → ℕ → List ℕ → ℕ → ℕ → ℕ
-changed Good place bytes old i = patched place bytes old i
-changed Blank place bytes old i = old
-changed Beyond place bytes old i = old
 
 -- byte i of page k lies in the slot
 pub slot-index : (size page i : ℕ) → page < 8 → i < size → size * page + i < 8 * size
@@ -120,13 +114,8 @@ module _ (g : Geometry) (slot limit place : ℕ) (bytes : List ℕ) (old : ℕ �
 
   loads : (page : ℕ) (h : Holding) → page < 8 → Read page h → (i : ℕ) → i < g .size
       → loaded g Patch (h .verdict) h page i ≡ changed verdictOn place bytes (old (g .size * page + i)) (g .size * page + i)
-  unfolding loaded changed
-  loads page h l u i k = ap (λ (x : Verdict). loaded g Patch x h page i) (u .verdict) ∙ each verdictOn
-    where
-      each : (x : Verdict) → loaded g Patch x h page i ≡ changed x place bytes (old (g .size * page + i)) (g .size * page + i)
-      each Good = λ j. patched (u .places j) (u .payload j) (u .here i k j) (g .size * page + i)
-      each Blank = u .here i k
-      each Beyond = u .here i k
+  unfolding loaded
+  loads page h l u i k = λ j. changed (u .verdict j) (u .places j) (u .payload j) (u .here i k j) (g .size * page + i)
 
   patchPlan : Plan g (record { kind = Patch; slot = slot; limit = limit })
   patchPlan =

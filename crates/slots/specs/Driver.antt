@@ -21,7 +21,7 @@ use Rattle.slots.specs.declared.Phase.the-variants.{Opening, AskProtecti
 use Rattle.slots.specs.declared.Shape.{Shape}
 use Rattle.slots.specs.declared.Verdict.{Verdict}
 use Rattle.slots.specs.declared.Verdict.the-variants.{Good, Blank, Beyond}
-use Rattle.slots.specs.Records.{image, patched, getVerdict, patchVerdict}
+use Rattle.slots.specs.Records.{image, changed, getVerdict, patchVerdict}
 
 -- ---- what is asked and what is held
 
@@ -69,9 +69,7 @@ frameByte s bytes i =
 -- byte i of the page that an 84 carries: "84 with all 264 bytes", "84 with the page as changed"; "Under 12 or 13 .. pages unchanged"
 unfoldable pub loaded : Geometry → Kind → Verdict → Holding → ℕ → ℕ → ℕ
 loaded g Put v h page i = image (h .payload) (g .size * page + i)
-loaded g Patch Good h page i = patched (h .place) (h .payload) (getD (h .staged) (g .size * page + i) 0) (g .size * page + i)
-loaded g Patch Blank h page i = getD (h .staged) (g .size * page + i) 0
-loaded g Patch Beyond h page i = getD (h .staged) (g .size * page + i) 0
+loaded g Patch v h page i = changed v (h .place) (h .payload) (getD (h .staged) (g .size * page + i) 0) (g .size * page + i)
 loaded g Get v h page i = 0
 loaded g Wipe v h page i = 0
 

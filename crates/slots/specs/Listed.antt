@@ -17,7 +17,7 @@ use Rattle.slots.specs.declared.Kind.{Kind}
 use Rattle.slots.specs.declared.Kind.the-variants.{Put, Patch, Get, Wipe}
 use Rattle.slots.specs.declared.Verdict.{Verdict}
 use Rattle.slots.specs.declared.Verdict.the-variants.{Good, Blank, Beyond}
-use Rattle.slots.specs.Records.{slotSize, image, patched, getVerdict, patchVerdict}
+use Rattle.slots.specs.Records.{slotSize, image, changed, getVerdict, patchVerdict}
 use Rattle.slots.specs.Driver.{slotPage, isEnded, verdictAnswer}
 use Rattle.slots.specs.Refusals.{bound}
 use Rattle.slots.specs.Calls.{State, Out, Request, Secret, Open, Closed, partIn, sends, outline, stepOpen, stepClosed, startOpen, startClosed}
@@ -107,17 +107,11 @@ found g Wipe slot x array = Good
 abbrev pub slotByte : Geometry → ℕ → List ℕ → ℕ → ℕ
 slotByte g slot array i = getD array (slotSize g * slot + i) 0
 
--- "84 with the page as changed"; "Under 12 or 13 .. pages unchanged"
-unfoldable pub changed : Verdict → Secret → ℕ → ℕ → ℕ
-changed Good x old i = patched (x .place) (x .payload) old i
-changed Blank x old i = old
-changed Beyond x old i = old
-
 -- byte i of the page that a call loads, given the array before it: "84 with all 264 bytes"
 unfoldable pub pageLoaded : Geometry → Kind → ℕ → Secret → List ℕ → ℕ → ℕ → ℕ
 pageLoaded g Put slot x array page i = image (x .payload) (g .size * page + i)
 pageLoaded g Patch slot x array page i =
-    changed (found g Patch slot x array) x (slotByte g slot array (g .size * page + i)) (g .size * page + i)
+    changed (found g Patch slot x array) (x .place) (x .payload) (slotByte g slot array (g .size * page + i)) (g .size * page + i)
 pageLoaded g Get slot x array page i = 0
 pageLoaded g Wipe slot x array page i = 0
 

@@ -40,6 +40,12 @@ unfoldable pub patched : ℕ → List ℕ → ℕ → ℕ → ℕ
 patched place bytes old i =
     cond (leb (headSize + place) i && ltb i (headSize + place + length bytes)) (getD bytes (i - (headSize + place)) 0) old
 
+-- the same by the verdict on page 0: "84 with the page as changed"; "Under 12 or 13 .. pages unchanged"
+unfoldable pub changed : Verdict → ℕ → List ℕ → ℕ → ℕ → ℕ
+changed Good place bytes old i = patched place bytes old i
+changed Blank place bytes old i = old
+changed Beyond place bytes old i = old
+
 -- what a slot's first bytes tell a get
 unfoldable pub getVerdict : Geometry → List ℕ → Verdict
 getVerdict g bytes = cond (isRecord g bytes) Good Blank

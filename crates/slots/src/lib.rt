@@ -27,9 +27,9 @@ pub enum Phase {
 // The driver's control state: the phase, the page of the slot (0 to 7), how many polls are left, and what was heard of the
 // slot's sector: its protection bits, and status bit 1.
 pub struct Course {
-    pub phase: Phase,
     pub page: usize,
     pub left: usize,
+    pub phase: Phase,
     pub listed: bool,
     pub guarded: bool,
 }

@@ -13,7 +13,6 @@ use Rattle.slices.proofs.Laws.{splice-zero, head-spliced, tail-part}
 use Rattle.geometry.specs.declared.Geometry.{Geometry}
 use Rattle.geometry.specs.Parts.{Sized}
 use Rattle.commands.specs.declared.Buffer.{Buffer}
-use Rattle.commands.specs.declared.Buffer.the-variants.{One, Two}
 use Rattle.registers.specs.declared.Operation.{Operation}
 use Rattle.registers.specs.declared.Operation.the-variants.{Idle, Program, ProgramOver, Transfer, Compare, Rewrite, ErasePage, EraseBlock, EraseSector, EraseChip, EraseProtection, ProgramProtection, LockSector, ProgramSecurity}
 use Rattle.registers.specs.declared.Registers.{Registers}
@@ -27,14 +26,9 @@ use Rattle.control.specs.Names.{Names}
 use Rattle.control.specs.Obeyed.{usageOf}
 use Rattle.control.proofs.Names.{control-names, control-lead}
 use Rattle.memory.specs.Replies.{replied}
-use Rattle.state.specs.Memory.{Memory, memoryIn, either}
+use Rattle.state.specs.Memory.{Memory, memoryIn}
 use Rattle.state.specs.Frames.{isIdle, isFree, dataOf, replyOf, acted, sentMemory, actedOn}
 use Rattle.state.proofs.Lent.{acted-lent}
-
--- both buffers as they were
-pub either-same : (b : Buffer) (l : List ℕ) → either b l l ≡ l
-either-same One l = refl
-either-same Two l = refl
 
 -- a buffer whose beginning was lent and came back as other bytes
 pub begun : (k : ℕ) (xs ys zs : List ℕ) → k ≤ length xs → k ≡ length zs → ys ≡ zs → ys ++ drop k xs ≡ over zs xs

@@ -1,66 +1,28 @@
--- `blocks::operation` meets its contract: each arm is the case of its buffer byte, and the last that of none of them. Assumes nothing.
-use Rattle.blocks.specs.Block.{field, sectorsIn, plainOf, bufferedOf, operationOf, decodeOperation}
-use Rattle.commands.specs.declared.Buffer.the-variants.{One, Two}
-use borrow.Author.Tests.{ne-eqb}
-use lib.ListN.{getD}
-use Prim.Native.Nat.{ℕ}
-use mathlib.Core.Path.{ap, _∙_}
+-- `blocks::operation` meets its contract: tag and buffer 0 are no operation, and any other is told by `operation_in`.
+-- Assumes nothing.
+use mathlib.Core.Path.{refl}
 use borrow.Author.Needs.{needs}
+use Rattle.blocks.specs.Block.{plainOf, operationOf, decodeOperation}
 use Rattle.blocks.proofs.operation.Statement.{statement}
 use Rattle.blocks.proofs.operation.Tie as tie
 
-shared-slice-read-tag : tie.Need-shared-slice-read-tag
-shared-slice-read-tag c = search needs
+shared-slice-read-if1 : tie.Need-shared-slice-read-if1
+shared-slice-read-if1 c = search needs
 
-number-requires : tie.Need-number-requires
-number-requires c κs = search needs
-
-shared-slice-read-match : tie.Need-shared-slice-read-match
-shared-slice-read-match c = search needs
-
-plain-requires : tie.Need-plain-requires
-plain-requires c κs = search needs
-
-buffered-requires : tie.Need-buffered-requires
-buffered-requires c κs = search needs
-
-buffered-requires-2 : tie.Need-buffered-requires-2
-buffered-requires-2 c κs = search needs
-
-beyond-requires : tie.Need-beyond-requires
-beyond-requires c κs = search needs
+shared-slice-read-if2 : tie.Need-shared-slice-read-if2
+shared-slice-read-if2 c = search needs
 
 returns : tie.Need-returns
-unfolding decodeOperation operationOf
-returns c = let b = c .before .before .before .before .before .before .args .block .now in
-    rw (c .before .match .keys1) (c .plain .ensures ∙ ap (λ (n : ℕ). plainOf (getD b 164 0) n (sectorsIn b) (field 172 64 b)) (c .before .before .before .number .ensures))
+unfolding decodeOperation operationOf plainOf
+returns c = rw (c .before .before .if1 .taken) (rw (c .if2 .taken) refl)
+
+operation-in-requires : tie.Need-operation-in-requires
+operation-in-requires c κs = search needs
 
 returns-2 : tie.Need-returns-2
-unfolding decodeOperation operationOf
-returns-2 c = rw (c .before .match .keys2) (c .buffered .ensures ∙ ap (bufferedOf (getD (c .before .before .before .before .before .before .args .block .now) 164 0) One) (c .before .before .before .number .ensures))
-
-returns-3 : tie.Need-returns-3
-unfolding decodeOperation operationOf
-returns-3 c = rw (c .before .match .keys3) (c .buffered2 .ensures ∙ ap (bufferedOf (getD (c .before .before .before .before .before .before .args .block .now) 164 0) Two) (c .before .before .before .number .ensures))
-
-returns-4 : tie.Need-returns-4
-unfolding decodeOperation operationOf
-returns-4 c = simp
-    (ne-eqb (getD (c .before .before .before .before .before .before .args .block .now) 165 0) 0 (c .before .match .rest .0 .0 .1), ne-eqb (getD (c .before .before .before .before .before .before .args .block .now) 165 0) 1 (c .before .match .rest .0 .1), ne-eqb (getD (c .before .before .before .before .before .before .args .block .now) 165 0) 2 (c .before .match .rest .1))
-    (c .beyond .ensures)
+returns-2 c = search needs
 
 pub operation-spec : {M : Type 1} → statement M
 operation-spec =
     tie.close
-    (tie.spec
-    shared-slice-read-tag
-    number-requires
-    shared-slice-read-match
-    plain-requires
-    buffered-requires
-    buffered-requires-2
-    beyond-requires
-    returns
-    returns-2
-    returns-3
-    returns-4)
+    (tie.spec shared-slice-read-if1 shared-slice-read-if2 returns operation-in-requires returns-2)

@@ -1,11 +1,12 @@
--- `blocks::put_operation` meets its contract: the data are stored right behind the head.
+-- `blocks::put_operation` meets its contract: no operation is `put_idle`'s, and the data of any other are stored right behind its head.
 -- Assumes nothing.
 use borrow.Author.Needs.{needs}
-use mathlib.Core.List.{List}
+use mathlib.Core.List.{List, _++_}
 use mathlib.Core.Path.{sym, ap, _∙_}
 use Prim.Native.Nat.{ℕ}
 use Rattle.slices.specs.Lists.{splice}
 use Rattle.slices.proofs.Laws.{splice-append}
+use Rattle.registers.specs.declared.Operation.{Operation}
 use Rattle.blocks.specs.Block.{headOf, headBytes, flagged, dataBytes}
 use Rattle.blocks.proofs.put_operation.Statement.{statement}
 use Rattle.blocks.proofs.put_operation.Tie as tie
@@ -13,6 +14,22 @@ use Rattle.blocks.proofs.head.Reads as head-reads
 use Rattle.blocks.proofs.head_bytes.Reads as head-bytes-reads
 use Rattle.blocks.proofs.put.Reads as put-reads
 use Rattle.blocks.proofs.put_data.Reads as put-data-reads
+
+enum-told : tie.Need-enum-told
+enum-told c = search needs
+
+put-idle-requires : tie.Need-put-idle-requires
+put-idle-requires c κs = search needs
+
+same-length : tie.Need-same-length
+same-length c = search needs
+
+returns : tie.Need-returns
+returns c =
+    let a = c .before .before .before .before .before .before .before .args in
+    c .before .before .put-idle .ensures
+    ∙ ap (λ (o : Operation). splice 160 (headBytes (flagged (a .programmed) (a .enabled) (a .wp) (a .deep)) (headOf o) ++ dataBytes o) (a .block .now))
+    (sym (c .before .before .before .before .enum-told .given .1))
 
 head-requires : tie.Need-head-requires
 head-requires c κs = search needs
@@ -29,13 +46,13 @@ put-requires c κs = search needs
 put-data-requires : tie.Need-put-data-requires
 put-data-requires c κs = search needs
 
-same-length : tie.Need-same-length
-same-length c = search needs
+same-length-2 : tie.Need-same-length-2
+same-length-2 c = search needs
 
-returns : tie.Need-returns
+returns-2 : tie.Need-returns-2
 unfolding headBytes
-returns c =
-    let a = c .before .before .before .before .before .before .before .before .before .before .before .before .args in
+returns-2 c =
+    let a = c .before .before .before .before .before .before .before .before .before .before .before .before .before .args in
     let b = a .block .now in
     let f = flagged (a .programmed) (a .enabled) (a .wp) (a .deep) in
     c .before .before .put-data .ensures
@@ -46,10 +63,14 @@ pub put-operation-spec : {M : Type 1} → statement M
 put-operation-spec =
     tie.close
     (tie.spec
+    enum-told
+    put-idle-requires
+    same-length
+    returns
     head-requires
     head-bytes-requires
     slice-aggregate-put
     put-requires
     put-data-requires
-    same-length
-    returns)
+    same-length-2
+    returns-2)

@@ -2,9 +2,13 @@
 -- Assumes nothing.
 use mathlib.Core.Path.{sym, _∙_}
 use borrow.Author.Needs.{needs}
+use Rattle.calls.proofs.Frames.{part-read}
 use Rattle.calls.proofs.Whole.{lends-unknown}
 use Rattle.calls.proofs.call.Statement.{statement}
 use Rattle.calls.proofs.call.Tie as tie
+
+operation-requires : tie.Need-operation-requires
+operation-requires c κs = search needs
 
 place-requires : tie.Need-place-requires
 place-requires c κs = search needs
@@ -14,8 +18,8 @@ enum-known-p c = search needs
 
 call-in-requires : tie.Need-call-in-requires
 call-in-requires c κs =
-    let start = c .before .before .before .before .before .before .before .before .before .before .before .before .before .before in
-    (sym (c .before .before .before .before .before .before .place .ensures) ∙ c .before .before .before .before .p .given .1, (start .pre))
+    let s = c .before .before .before .before .before .before .before .before .before .before .before .before .before .before .before .before .before in
+    (part-read _ (s .args .block .now) _ _ (c .before .before .before .before .before .before .before .before .operation .ensures .0) (sym (c .before .before .before .before .before .before .before .place .ensures) ∙ c .before .before .before .before .before .p .given .1), c .before .before .before .before .before .before .before .before .operation .ensures .1, s .pre)
 
 enum-told : tie.Need-enum-told
 enum-told c = search needs
@@ -37,11 +41,11 @@ returns c = c .before .before .before .before .before .before .call-in .ensures
 
 returns-2 : tie.Need-returns-2
 returns-2 c =
-    let s = c .before .before .before .before .before .before .before .before .before .before .before in
+    let s = c .before .before .before .before .before .before .before .before .before .before .before .before .before in
     let a = s .args in
     lends-unknown
     (record {
-      chip = a .c;
+      block = a .block .now;
       array = a .array .now;
       kind = a .kind;
       slot = a .slot;
@@ -53,12 +57,13 @@ returns-2 c =
       junk = a .junk .now;
       log = a .log .now;
     })
-    (s .pre) (sym (c .before .before .before .place .ensures) ∙ c .before .enum-told .given .1) _ (c .refuse .ensures)
+    (s .pre) (part-read _ (a .block .now) _ _ (c .before .before .before .before .operation .ensures .0) (sym (c .before .before .before .place .ensures) ∙ c .before .enum-told .given .1)) _ (c .refuse .ensures)
 
 pub call-spec : {M : Type 1} → statement M
 call-spec =
     tie.close
     (tie.spec
+    operation-requires
     place-requires
     enum-known-p
     call-in-requires

@@ -9,7 +9,7 @@ use Rattle.calls.proofs.call_in.Tie as tie
 abbrev given : tie.Start → Given
 given s =
     record {
-      chip = s .args .c;
+      block = s .args .block .now;
       array = s .args .array .now;
       kind = s .args .kind;
       slot = s .args .slot;
@@ -27,16 +27,16 @@ going : (e : tie.Else1) → Passed (given (e .before .before .before .before .be
     (e .before .before .before .before .before .before .before .before .before .before .args .g) (e .before .before .before .start .result)
 going e =
     let s = e .before .before .before .before .before .before .before .before .before .before in
-    passed (given s) (s .args .g) _ _ (s .pre .1) (s .pre .0) (e .before .before .before .start .ensures) (e .before .before .call-refusal .ensures)
+    passed (given s) (s .args .g) _ _ (s .pre .2) (s .pre .0) (e .before .before .before .start .ensures) (e .before .before .call-refusal .ensures)
     (sym (e .before .number .ensures) ∙ e .if1 .left)
 
 start-requires : tie.Need-start-requires
-start-requires c κs = let s = c .before .before .before .before .before .before in placed (given s) (s .pre .1)
+start-requires c κs = let s = c .before .before .before .before .before .before in placed (given s) (s .pre .2)
 
 call-refusal-requires : tie.Need-call-refusal-requires
 call-refusal-requires c κs =
     let s = c .before .before .before .before .before .before .before in
-    (sized-known (given s) (s .pre .1) (s .args .g) (s .pre .0), limit-bounded (given s) (s .pre .1) (s .args .g) (s .pre .0) _ (c .start .ensures))
+    (sized-known (given s) (s .pre .2) (s .args .g) (s .pre .0), limit-bounded (given s) (s .pre .2) (s .args .g) (s .pre .0) _ (c .start .ensures))
 
 number-requires : tie.Need-number-requires
 number-requires c κs = search needs
@@ -47,23 +47,19 @@ refuse-requires c κs = search needs
 returns : tie.Need-returns
 returns c =
     let s = c .before .before .before .before .before .before .before .before .before .before .before in
-    lends-stopped (given s) (s .pre .1) (s .args .g) (s .pre .0) _ _ _ (c .before .before .before .before .start .ensures)
-    (c .before .before .before .call-refusal .ensures)
+    lends-stopped (given s) (s .pre .2) (s .args .g) (s .pre .0) _ _ _ (c .before .before .before .before .start .ensures) (c .before .before .before .call-refusal .ensures)
     (λ q. c .before .if1 .taken (c .before .before .number .ensures ∙ q)) (c .refuse .ensures)
 
 blank-slot-requires : tie.Need-blank-slot-requires
 blank-slot-requires c κs = search needs
 
 drive-requires : tie.Need-drive-requires
-drive-requires c κs = starts (going (c .before .before .before .before))
+drive-requires c κs = (starts (going (c .before .before .before .before .before)), c .before .before .before .before .before .before .before .before .before .before .before .before .before .before .before .pre .1)
 
 finish-requires : tie.Need-finish-requires
 finish-requires c κs =
-    let d = c .before .before .before .before .before .before .before .drive in (
-      d .ensures .part,
-      cut-fits (going (c .before .before .before .before .before .before .before .before .before .before .before .before)) _
-          (c .before .before .before .before .before .before .before .before .before .before .before .blank-slot .ensures) (d .ensures),
-    )
+    let d = c .before .before .before .before .before .before .before .before .drive in
+    (d .ensures .0 .part, d .ensures .1, cut-fits (going (c .before .before .before .before .before .before .before .before .before .before .before .before .before .before)) _ (c .before .before .before .before .before .before .before .before .before .before .before .before .before .blank-slot .ensures) (d .ensures .0))
 
 same-length : tie.Need-same-length
 same-length c = search needs
@@ -76,11 +72,7 @@ same-length-3 c = search needs
 
 returns-2 : tie.Need-returns-2
 returns-2 c =
-    let e = c .before .before .before .before .before .before .before .before .before .before .before .before .before .before .before .before .before in
-    lends-done (going e) _
-    (c .before .before .before .before .before .before .before .before .before .before .before .before .before .before .before .before .blank-slot .ensures)
-    (c .before .before .before .before .before .before .before .before .before .before .before .before .drive .ensures) _ _ _
-    (c .before .before .before .before .finish .ensures)
+    lends-done (going (c .before .before .before .before .before .before .before .before .before .before .before .before .before .before .before .before .before .before .before)) _ (c .before .before .before .before .before .before .before .before .before .before .before .before .before .before .before .before .before .before .blank-slot .ensures) (c .before .before .before .before .before .before .before .before .before .before .before .before .before .drive .ensures .0) _ _ _ _ (c .before .before .before .before .finish .ensures)
 
 pub call-in-spec : {M : Type 1} → statement M
 call-in-spec =

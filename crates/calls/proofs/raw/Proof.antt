@@ -4,9 +4,13 @@ use mathlib.Core.Path.{sym, ap, _∙_}
 use borrow.Author.Needs.{needs}
 use Rattle.registers.proofs.Places.{placed-sized}
 use Rattle.state.specs.Answers.{numberOf}
+use Rattle.calls.proofs.Frames.{part-read}
 use Rattle.calls.proofs.RawCall.{lends-unknown, lends-stopped}
 use Rattle.calls.proofs.raw.Statement.{statement}
 use Rattle.calls.proofs.raw.Tie as tie
+
+operation-requires : tie.Need-operation-requires
+operation-requires c κs = search needs
 
 place-requires : tie.Need-place-requires
 place-requires c κs = search needs
@@ -25,15 +29,16 @@ refuse-requires c κs = search needs
 
 returns : tie.Need-returns
 returns c =
-    let a = c .before .before .before .before .before .before .before .before .before .before .before .before .before .before .before .args in
-    lends-stopped (a .frame .now) (a .script .now) (a .junk .now) (a .log .now) (a .reply .now) (a .c) (a .array .now) _ _ _
-    (sym (c .before .before .before .before .before .before .before .place .ensures) ∙ c .before .before .before .before .before .p .given .1)
+    let a = c .before .before .before .before .before .before .before .before .before .before .before .before .before .before .before .before .before .args in
+    lends-stopped (a .frame .now) (a .script .now) (a .junk .now) (a .log .now) (a .reply .now) (a .block .now) (a .array .now) _ _ _
+    (part-read _ (a .block .now) _ _ (c .before .before .before .before .before .before .before .before .operation .ensures .0) (sym (c .before .before .before .before .before .before .before .place .ensures) ∙ c .before .before .before .before .before .p .given .1))
     (c .before .before .before .raw-refusal .ensures) (λ q. c .before .if1 .taken (c .before .before .number .ensures ∙ q)) (c .refuse .ensures)
 
 raw-sent-requires : tie.Need-raw-sent-requires
 raw-sent-requires c κs = (
-  sym (c .before .before .before .before .before .before .before .before .before .place .ensures) ∙ c .before .before .before .before .before .before .before .p .given .1,
-  ap numberOf (sym (c .before .before .before .before .before .raw-refusal .ensures)) ∙ sym (c .before .before .before .before .number .ensures) ∙ c .before .before .before .if1 .left,
+  part-read _ (c .before .before .before .before .before .before .before .before .before .before .before .before .before .before .before .before .before .before .before .before .args .block .now) _ _ (c .before .before .before .before .before .before .before .before .before .before .before .operation .ensures .0) (sym (c .before .before .before .before .before .before .before .before .before .before .place .ensures) ∙ c .before .before .before .before .before .before .before .before .p .given .1),
+  c .before .before .before .before .before .before .before .before .before .before .before .operation .ensures .1,
+  ap numberOf (sym (c .before .before .before .before .before .before .raw-refusal .ensures)) ∙ sym (c .before .before .before .before .before .number .ensures) ∙ c .before .before .before .before .if1 .left,
 )
 
 enum-told : tie.Need-enum-told
@@ -56,14 +61,15 @@ returns-2 c = c .before .before .before .before .before .before .raw-sent .ensur
 
 returns-3 : tie.Need-returns-3
 returns-3 c =
-    let a = c .before .before .before .before .before .before .before .before .before .before .before .args in
-    lends-unknown (a .frame .now) (a .script .now) (a .junk .now) (a .log .now) (a .reply .now) (a .c) (a .array .now) _
-    (sym (c .before .before .before .place .ensures) ∙ c .before .enum-told .given .1) (c .refuse2 .ensures)
+    let a = c .before .before .before .before .before .before .before .before .before .before .before .before .before .args in
+    lends-unknown (a .frame .now) (a .script .now) (a .junk .now) (a .log .now) (a .reply .now) (a .block .now) (a .array .now) _
+    (part-read _ (a .block .now) _ _ (c .before .before .before .before .operation .ensures .0) (sym (c .before .before .before .place .ensures) ∙ c .before .enum-told .given .1)) (c .refuse2 .ensures)
 
 pub raw-spec : {M : Type 1} → statement M
 raw-spec =
     tie.close
     (tie.spec
+    operation-requires
     place-requires
     enum-known-p
     raw-refusal-requires

@@ -11,10 +11,10 @@ byte-or-requires c κs = search needs
 
 exchange-requires : tie.Need-exchange-requires
 exchange-requires c κs =
-    let start = c .before .before .before .before .before .before .before .before .before .before in
-    let k = accepted (start .args .g) (length (start .args .array .now)) (start .args .frame .now) (length (start .args .reply .now))
-    (length (start .args .log .now)) (start .args .script .now) (length (start .args .junk .now)) (start .pre .1) in
-    (start .pre .0, k .0, k .1)
+    let s = c .before .before .before .before .before .before .before .before .before .before .before in
+    let a = s .args in
+    let k = accepted (a .g) (length (a .array .now)) (a .frame .now) (length (a .reply .now)) (length (a .log .now)) (a .script .now) (length (a .junk .now)) (s .pre .2) in
+    (s .pre .0, s .pre .1, k .0, k .1)
 
 cut-requires : tie.Need-cut-requires
 cut-requires c κs = search needs
@@ -30,13 +30,11 @@ same-length-3 c = search needs
 
 returns : tie.Need-returns
 returns c =
-    let start = c .before .before .before .before .before .before .before .before .before .before .before .before .before .before .before .before .before .before .before .before .before .before .before in
-    let cut = c .before .before .before .cut in
-    let a = start .args in
-    lends-cut (a .g) (a .frame .now) (a .script .now) (a .junk .now) (a .log .now) (a .reply .now) (a .c) (a .array .now) (start .pre .0) (start .pre .1) _ _ _ _ _
-    (c .before .before .before .before .before .before .before .before .before .before .before .before .exchange .ensures)
-    (c .before .before .before .before .before .before .before .before .before .before .before .before .before .before .before .before .byte-or .ensures)
-    (c .before .before .before .before .before .if1 .taken) _ _ (cut .ensures .0) (cut .ensures .1)
+    let s = c .before .before .before .before .before .before .before .before .before .before .before .before .before .before .before .before .before .before .before .before .before .before .before .before in
+    let a = s .args in
+    let cut = c .before .before .cut in
+    lends-cut (a .g) (a .frame .now) (a .script .now) (a .junk .now) (a .log .now) (a .reply .now) (a .block .now) (a .array .now) (s .pre .0) (s .pre .2) _ _ _ _ _
+    (c .before .before .before .before .before .before .before .before .before .before .before .before .exchange .ensures .0) (c .before .before .before .before .before .before .before .before .before .before .before .before .before .before .before .before .before .byte-or .ensures) (c .before .before .before .before .before .if1 .taken) _ _ (cut .ensures .0) (cut .ensures .1)
 
 same-length-4 : tie.Need-same-length-4
 same-length-4 c = search needs
@@ -49,11 +47,11 @@ same-length-6 c = search needs
 
 returns-2 : tie.Need-returns-2
 returns-2 c =
-    let start = c .before .before .before .before .before .before .before .before .before .before .before .before .before .before .before .before .before .before in
-    let a = start .args in
-    lends-sent (a .g) (a .frame .now) (a .script .now) (a .junk .now) (a .log .now) (a .reply .now) (a .c) (a .array .now) (start .pre .0) (start .pre .1) _ _ _ _ _
-    (c .before .before .before .before .before .before .before .exchange .ensures)
-    (c .before .before .before .before .before .before .before .before .before .before .before .byte-or .ensures) (c .if1 .left)
+    let s = c .before .before .before .before .before .before .before .before .before .before .before .before .before .before .before .before .before .before .before in
+    let a = s .args in
+    let exchange = c .before .before .before .before .before .before .before .exchange in
+    lends-sent (a .g) (a .frame .now) (a .script .now) (a .junk .now) (a .log .now) (a .reply .now) (a .block .now) (a .array .now) (s .pre .0) (s .pre .2) _ _ _ _ _
+    (exchange .ensures .0) (c .before .before .before .before .before .before .before .before .before .before .before .before .byte-or .ensures) (c .if1 .left) (exchange .ensures .1)
 
 pub raw-sent-spec : {M : Type 1} → statement M
 raw-sent-spec =

@@ -15,8 +15,8 @@ use Rattle.commands.proofs.lookup.Statement.{statement}
 use Rattle.commands.proofs.lookup.Tie as tie
 
 -- a row that the opcode is not
-passed : (c : Command) (f : Found) (o : ℕ) → (o ≡ c .opcode → ⊥) → Missing ≡ f → Missing ≡ cond (eqb (c .opcode) o) (Row c) f
-passed c f o h e = e ∙ ap (λ (b : Bool). cond b (Row c) f) (sym (ne-eqb (c .opcode) o (λ k. h (sym k))))
+passed : (c : Command) (f : Found) (o : ℕ) → (o ≡ c .0 → ⊥) → Missing ≡ f → Missing ≡ cond (eqb (c .0) o) (Row c) f
+passed c f o h e = e ∙ ap (λ (b : Bool). cond b (Row c) f) (sym (ne-eqb (c .0) o (λ k. h (sym k))))
 
 array-copy-out-t87 : tie.Need-array-copy-out-t87
 array-copy-out-t87 c = search needs

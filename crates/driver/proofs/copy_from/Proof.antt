@@ -1,39 +1,18 @@
--- `driver::copy_from` meets its contract: over `other` throughout, the beginning comes back as the bytes that there are.
+-- `driver::copy_from` meets its contract: where the bytes reach, they are the part, and else `pad_from` makes it.
 -- Assumes nothing.
 use mathlib.Core.Path.{sym, _∙_}
 use native.Mathlib.Omega.{arith}
-use lib.Seq.{length-take-le}
-use lib.ListN.{length, length-take, length-drop}
+use lib.ListN.{length}
 use borrow.Author.Needs.{needs}
-use Rattle.driver.proofs.Bytes.{copied-none, copied-some}
+use Rattle.slices.proofs.Laws.{tabulate-part, run-part}
 use Rattle.driver.proofs.copy_from.Statement.{statement}
 use Rattle.driver.proofs.copy_from.Tie as tie
 
-fill-requires : tie.Need-fill-requires
-fill-requires c κs = search needs
-
-same-length : tie.Need-same-length
-same-length c = search needs
-
-returns : tie.Need-returns
-returns c =
-    let a = c .before .before .before .before .before .before .before .args in
-    c .before .before .before .fill .ensures ∙ copied-none (length (a .part .now)) (a .source .now) (a .from) (a .other) (c .if1 .taken)
-
-sub-lesser : tie.Need-sub-lesser
-sub-lesser c = search needs
-
-lesser-requires : tie.Need-lesser-requires
-lesser-requires c κs = search needs
+sub-if2 : tie.Need-sub-if2
+sub-if2 c = search needs
 
 add-e : tie.Need-add-e
 add-e c = search needs
-
-slice-relend-prefix-copy : tie.Need-slice-relend-prefix-copy
-slice-relend-prefix-copy c = search needs
-
-slice-aggregate-copy : tie.Need-slice-aggregate-copy
-slice-aggregate-copy c = sym (length-take-le (c .before .lesser .result) (c .before .before .before .before .before .fill .last .0) (omega arith))
 
 sub-copy : tie.Need-sub-copy
 sub-copy c = search needs
@@ -45,35 +24,38 @@ part-copy-end : tie.Need-part-copy-end
 part-copy-end c = search needs
 
 copy-requires : tie.Need-copy-requires
-copy-requires c κs = simp (length-take, length-drop) (omega arith)
+copy-requires c κs = search needs
+
+same-length : tie.Need-same-length
+same-length c = search needs
+
+returns : tie.Need-returns
+returns c =
+    let a = c .before .before .before .before .before .before .before .before .before .args in
+    let n = length (a .part .now) in
+    c .before .before .copy .ensures ∙ run-part (a .from) n (a .source .now) ∙ sym (tabulate-part n (a .from) (a .source .now) (a .other) (omega (arith, c .before .before .before .before .before .if2 .taken, c .before .before .before .before .before .before .if1 .taken)))
+
+pad-from-requires : tie.Need-pad-from-requires
+pad-from-requires c κs = search needs
 
 same-length-2 : tie.Need-same-length-2
 same-length-2 c = search needs
 
 returns-2 : tie.Need-returns-2
-returns-2 c =
-    let lesser = c .before .before .before .before .before .lesser in
-    let fill = c .before .before .before .before .before .before .before .before .before .fill in
-    let copy = c .before .before .copy in
-    let a = c .before .before .before .before .before .before .before .before .before .before .before .before .before .args in
-    copied-some (length (a .part .now)) (a .source .now) (a .from) (a .other) (lesser .result) (fill .last .0) (copy .last .0)
-    (c .before .before .before .before .before .before .if1 .left) (fill .ensures) (lesser .ensures) (copy .ensures)
+returns-2 c = search needs
 
 pub copy-from-spec : {M : Type 1} → statement M
 copy-from-spec =
     tie.close
     (tie.spec
-    fill-requires
-    same-length
-    returns
-    sub-lesser
-    lesser-requires
+    sub-if2
     add-e
-    slice-relend-prefix-copy
-    slice-aggregate-copy
     sub-copy
     part-copy-start
     part-copy-end
     copy-requires
+    same-length
+    returns
+    pad-from-requires
     same-length-2
     returns-2)

@@ -1,21 +1,21 @@
 -- `geometry::byte_at` meets its contract: the code is the definition, and a remainder is below its divisor.
 -- Assumes nothing.
-use native.Mathlib.Nat.{mod-lt}
-use mathlib.Core.Path.{refl}
-use Rattle.geometry.specs.Parts.{byteAt}
+use mathlib.Core.Path.{ap, _∙_}
+use Prim.Native.Nat.{ℕ, _%_}
 use borrow.Author.Needs.{needs}
+use Rattle.geometry.specs.Parts.{byteAt}
 use Rattle.geometry.proofs.byte_at.Statement.{statement}
 use Rattle.geometry.proofs.byte_at.Tie as tie
 
-rem-result : tie.Need-rem-result
-rem-result c = search needs
+remainder-requires : tie.Need-remainder-requires
+remainder-requires c κs = search needs
 
-rem-result-2 : tie.Need-rem-result-2
-rem-result-2 c = search needs
+remainder-requires-2 : tie.Need-remainder-requires-2
+remainder-requires-2 c κs = search needs
 
 returns : tie.Need-returns
 unfolding byteAt
-returns c = (refl, mod-lt _ (c .pre .1))
+returns c = (c .remainder2 .ensures .0 ∙ ap (λ (n : ℕ). n % c .before .before .args .g .size) (c .before .remainder .ensures .0), c .remainder2 .ensures .1)
 
 pub byte-at-spec : {M : Type 1} → statement M
-byte-at-spec = tie.close (tie.spec rem-result rem-result-2 returns)
+byte-at-spec = tie.close (tie.spec remainder-requires remainder-requires-2 returns)

@@ -1,21 +1,21 @@
 -- `geometry::page_at` meets its contract: the code is the definition, and a remainder is below its divisor.
 -- Assumes nothing.
-use native.Mathlib.Nat.{mod-lt}
-use mathlib.Core.Path.{refl}
-use Rattle.geometry.specs.Parts.{pageAt}
+use mathlib.Core.Path.{ap, _∙_}
+use Prim.Native.Nat.{ℕ, _%_}
 use borrow.Author.Needs.{needs}
+use Rattle.geometry.specs.Parts.{pageAt}
 use Rattle.geometry.proofs.page_at.Statement.{statement}
 use Rattle.geometry.proofs.page_at.Tie as tie
 
-div-result : tie.Need-div-result
-div-result c = search needs
+quotient-requires : tie.Need-quotient-requires
+quotient-requires c κs = search needs
 
-rem-result : tie.Need-rem-result
-rem-result c = search needs
+remainder-requires : tie.Need-remainder-requires
+remainder-requires c κs = search needs
 
 returns : tie.Need-returns
 unfolding pageAt
-returns c = (refl, mod-lt _ (c .pre .1))
+returns c = (c .remainder .ensures .0 ∙ ap (λ (n : ℕ). n % c .before .before .args .g .pages) (c .before .quotient .ensures), c .remainder .ensures .1)
 
 pub page-at-spec : {M : Type 1} → statement M
-page-at-spec = tie.close (tie.spec div-result rem-result returns)
+page-at-spec = tie.close (tie.spec quotient-requires remainder-requires returns)

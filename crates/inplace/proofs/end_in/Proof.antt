@@ -23,7 +23,7 @@ use Rattle.inplace.proofs.end_in.Statement.{statement}
 use Rattle.inplace.proofs.end_in.Tie as tie
 use Rattle.blocks.proofs.flag_byte.Reads as flag-byte-reads
 use Rattle.blocks.proofs.is_set.Reads as is-set-reads
-use Rattle.blocks.proofs.settle.Reads as settle-reads
+use Rattle.blocks.proofs.rest.Reads as rest-reads
 use Rattle.completion.proofs.complete_memory.Reads as complete-memory-reads
 
 slice-read-is-set : tie.Need-slice-read-is-set
@@ -32,8 +32,8 @@ slice-read-is-set c = search needs
 is-set-requires : tie.Need-is-set-requires
 is-set-requires c κs = search needs
 
-settle-requires : tie.Need-settle-requires
-settle-requires c κs = (c .before .before .before .before .before .pre .1, c .before .before .before .before .before .pre .2)
+rest-requires : tie.Need-rest-requires
+rest-requires c κs = search needs
 
 sub-complete-memory : tie.Need-sub-complete-memory
 sub-complete-memory c = search needs
@@ -42,12 +42,12 @@ part-complete-memory-start : tie.Need-part-complete-memory-start
 part-complete-memory-start c = search needs
 
 part-complete-memory-end : tie.Need-part-complete-memory-end
-part-complete-memory-end c = omega (arith, c .before .before .settle .kept .0, c .before .before .before .before .before .before .before .before .pre .1)
+part-complete-memory-end c = omega (arith, c .before .before .rest .kept .0, c .before .before .before .before .before .before .before .before .pre .1)
 
 complete-memory-requires : tie.Need-complete-memory-requires
 complete-memory-requires c κs =
     let s = c .before .before .before .before .before .before .before .before .before .before in
-    (s .pre .0, s .pre .3, run-length 236 528 (c .before .before .before .before .settle .last .0) (omega (arith, c .before .before .before .before .settle .kept .0, s .pre .1)))
+    (s .pre .0, s .pre .3, run-length 236 528 (c .before .before .before .before .rest .last .0) (omega (arith, c .before .before .before .before .rest .kept .0, s .pre .1)))
 
 flag-byte-requires : tie.Need-flag-byte-requires
 flag-byte-requires c κs = search needs
@@ -58,11 +58,11 @@ slice-write-block c = search needs
 same-length : tie.Need-same-length
 same-length c =
     let s = c .before .before .before .before .before .before .before .before .before .before .before .before .before .before .before .before in
-    let y = c .before .before .before .before .before .before .before .before .before .before .settle .last .0 in
+    let y = c .before .before .before .before .before .before .before .before .before .before .rest .last .0 in
     let zs = c .before .before .before .before .before .complete-memory .last .1 .1 .0 in
-    let n = run-length 236 528 y (omega (arith, c .before .before .before .before .before .before .before .before .before .before .settle .kept .0, s .pre .1)) in
+    let n = run-length 236 528 y (omega (arith, c .before .before .before .before .before .before .before .before .before .before .rest .kept .0, s .pre .1)) in
     length-set (take 236 y ++ (zs ++ drop 528 (drop 236 y))) 764 (c .flag-byte .result)
-    ∙ back-length y zs (c .before .before .before .before .before .before .before .before .before .before .settle .kept .0 ∙ s .pre .1) (c .before .before .before .before .before .complete-memory .kept .1 .1 .0 ∙ n) ∙ sym (s .pre .1)
+    ∙ back-length y zs (c .before .before .before .before .before .before .before .before .before .before .rest .kept .0 ∙ s .pre .1) (c .before .before .before .before .before .complete-memory .kept .1 .1 .0 ∙ n) ∙ sym (s .pre .1)
 
 same-length-2 : tie.Need-same-length-2
 same-length-2 c = search needs
@@ -77,10 +77,10 @@ returns c =
     let xs = a .array .now in
     let l = s .pre .1 in
     let k = Start Idle in
-    let y = c .before .before .before .before .before .before .before .before .before .before .settle .last .0 in
-    let h = c .before .before .before .before .before .before .before .before .before .before .settle .ensures in
+    let y = c .before .before .before .before .before .before .before .before .before .before .rest .last .0 in
+    let h = c .before .before .before .before .before .before .before .before .before .before .rest .ensures in
     let zs = c .before .before .before .before .before .complete-memory .last .1 .1 .0 in
-    let n = run-length 236 528 y (omega (arith, c .before .before .before .before .before .before .before .before .before .before .settle .kept .0, l)) in
+    let n = run-length 236 528 y (omega (arith, c .before .before .before .before .before .before .before .before .before .before .rest .kept .0, l)) in
     let m =
     c .before .before .before .before .before .complete-memory .ensures
     ∙ ap (λ (x : Memory). completedMemory (a .g) (a .o) x) (ap (λ (bit : Bool). memoryIn xs (take 528 (drop 236 y)) bit) (c .before .before .before .before .before .before .before .before .before .before .before .before .is-set .ensures) ∙ lent-both b k l y h xs)
@@ -97,7 +97,7 @@ end-in-spec =
     (tie.spec
     slice-read-is-set
     is-set-requires
-    settle-requires
+    rest-requires
     sub-complete-memory
     part-complete-memory-start
     part-complete-memory-end

@@ -1,17 +1,14 @@
--- `slipknoll::slipknoll_put` meets its contract: the call keeps its promise on the chip that the block holds. Assumes nothing.
+-- `slipknoll::slipknoll_put` meets its contract: the call keeps its promise on the block, and its caller is told what it handed back. Assumes nothing.
 use borrow.Author.Needs.{needs}
-use Rattle.handover.proofs.Handed.{handed}
+use Rattle.calls.proofs.Told.{told}
 use Rattle.slipknoll.proofs.slipknoll_put.Statement.{statement}
 use Rattle.slipknoll.proofs.slipknoll_put.Tie as tie
-
-decode-requires : tie.Need-decode-requires
-decode-requires c κs = search needs
 
 put-requires : tie.Need-put-requires
 put-requires c κs = search needs
 
-hand-over-requires : tie.Need-hand-over-requires
-hand-over-requires c κs = search needs
+tell-requires : tie.Need-tell-requires
+tell-requires c κs = search needs
 
 same-length : tie.Need-same-length
 same-length c = search needs
@@ -20,10 +17,8 @@ same-length-2 : tie.Need-same-length-2
 same-length-2 c = search needs
 
 returns : tie.Need-returns
-returns c =
-    handed _ _ _ _ _ _ _ _ _ _ _ (c .before .before .before .before .before .before .before .before .before .before .decode .ensures) (c .hand-over .ensures) (c .before .before .before .before .before .before .before .put .ensures)
+returns c = told _ _ _ _ _ _ _ _ _ _ (c .tell .ensures) (c .before .before .before .before .before .before .put .ensures)
 
 pub slipknoll-put-spec : {M : Type 1} → statement M
 slipknoll-put-spec =
-    tie.close
-    (tie.spec decode-requires put-requires hand-over-requires same-length same-length-2 returns)
+    tie.close (tie.spec put-requires tell-requires same-length same-length-2 returns)

@@ -14,7 +14,7 @@ deliver-requires : tie.Need-deliver-requires
 deliver-requires c κs = search needs
 
 lose-requires : tie.Need-lose-requires
-lose-requires c κs = search needs
+lose-requires c κs = c .before .before .before .before .before .before .before .before .before .before .before .pre
 
 same-length : tie.Need-same-length
 same-length c = search needs
@@ -24,14 +24,14 @@ same-length-2 c = search needs
 
 returns : tie.Need-returns
 returns c =
-    let a = c .before .before .before .before .before .before .before .before .before .before .before .before .before .args in
-    let answer = c .before .before .before .before .before .before .before .before .answer in
-    let deliver = c .before .before .before .before .before .before .deliver in
+    let a = c .before .before .before .before .before .before .before .before .before .before .before .before .before .before .args in
+    let answer = c .before .before .before .before .before .before .before .before .before .answer in
+    let deliver = c .before .before .before .before .before .before .before .deliver in
     let lose = c .before .before .lose in
     let given = answered (a .kind) (answer .result) (answerIn (a .s)) (a .staged .now) (a .buffer .now) (deliver .last .1 .1 .1 .0) (deliver .result) (answer .ensures) (deliver .ensures) in
     record {
       answer = answer .ensures;
-      chip = lose .ensures .0;
+      block = lose .ensures .0;
       array = lose .ensures .1;
       frames = refl;
       polls = refl;

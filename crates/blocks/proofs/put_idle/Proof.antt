@@ -1,0 +1,56 @@
+-- `blocks::put_idle` meets its contract: no data are stored right behind the head of no operation.
+-- Assumes nothing.
+use borrow.Author.Needs.{needs}
+use mathlib.Core.List.{List}
+use mathlib.Core.Path.{sym, ap, _∙_}
+use Prim.Native.Nat.{ℕ}
+use Rattle.slices.specs.Lists.{splice}
+use Rattle.slices.proofs.Laws.{splice-append}
+use Rattle.registers.specs.declared.Operation.the-variants.{Idle}
+use Rattle.blocks.specs.Block.{headOf, headBytes, flagged, dataBytes}
+use Rattle.blocks.proofs.put_idle.Statement.{statement}
+use Rattle.blocks.proofs.put_idle.Tie as tie
+use Rattle.blocks.proofs.headed.Reads as headed-reads
+use Rattle.blocks.proofs.head_bytes.Reads as head-bytes-reads
+use Rattle.blocks.proofs.put.Reads as put-reads
+use Rattle.blocks.proofs.clear_data.Reads as clear-data-reads
+
+headed-requires : tie.Need-headed-requires
+headed-requires c κs = search needs
+
+head-bytes-requires : tie.Need-head-bytes-requires
+head-bytes-requires c κs = search needs
+
+slice-aggregate-put : tie.Need-slice-aggregate-put
+slice-aggregate-put c = search needs
+
+put-requires : tie.Need-put-requires
+put-requires c κs = search needs
+
+clear-data-requires : tie.Need-clear-data-requires
+clear-data-requires c κs = search needs
+
+same-length : tie.Need-same-length
+same-length c = search needs
+
+returns : tie.Need-returns
+unfolding headBytes headOf dataBytes
+returns c =
+    let a = c .before .before .before .before .before .before .before .before .before .before .before .before .args in
+    let b = a .block .now in
+    let f = flagged (a .programmed) (a .enabled) (a .wp) (a .deep) in
+    c .before .before .clear-data .ensures
+    ∙ ap (λ (t : List ℕ). splice 172 (dataBytes Idle) t) (c .before .before .before .before .before .before .put .ensures ∙ ap (λ (l : List ℕ). splice 160 l b) (c .before .before .before .before .before .before .before .before .before .head-bytes .ensures ∙ ap (headBytes f) (c .before .before .before .before .before .before .before .before .before .before .headed .ensures)))
+    ∙ sym (splice-append 160 (headBytes f (headOf Idle)) (dataBytes Idle) b)
+
+pub put-idle-spec : {M : Type 1} → statement M
+put-idle-spec =
+    tie.close
+    (tie.spec
+    headed-requires
+    head-bytes-requires
+    slice-aggregate-put
+    put-requires
+    clear-data-requires
+    same-length
+    returns)

@@ -1,0 +1,18 @@
+-- `geometry::quotient` meets its contract: the divisor in the code is d.
+-- Assumes nothing.
+use mathlib.Core.Path.{refl}
+use borrow.Author.Needs.{needs}
+use Rattle.geometry.proofs.quotient.Statement.{statement}
+use Rattle.geometry.proofs.quotient.Tie as tie
+
+div-result : tie.Need-div-result
+div-result c = search needs
+
+returns : tie.Need-returns
+returns c = rw (c .match .keys1) refl
+
+returns-2 : tie.Need-returns-2
+returns-2 c = refl
+
+pub quotient-spec : {M : Type 1} → statement M
+quotient-spec = tie.close (tie.spec div-result returns returns-2)

@@ -1,0 +1,58 @@
+-- Lines worked out by the definition.
+-- Assumes nothing.
+use mathlib.Core.Path.{_≡_, refl}
+use Rattle.orders.specs.Letters.{bytes}
+use Rattle.orders.specs.Lines.{saidBy, readOf}
+use Rattle.orders.specs.Words.{commandOf, otherCommandOf, beginsWith, keyOf}
+use Rattle.orders.specs.Operands.{numberAs, takeFirst, takePlace, takeBytes, operandsOf}
+use Rattle.orders.specs.Options.{takeValue, takeOption, takeWord, takeWords, optionsOf, orderOf}
+use Rattle.slices.specs.Lists.{same}
+use Rattle.text.specs.Lists.{every, leading, scan}
+use Rattle.text.specs.Words.{isBlank, notBlank}
+use Rattle.text.specs.Decimal.{isDigit, valueFrom, belowLimit, numberOf}
+use Rattle.text.specs.Hexadecimal.{nibbleOf, isHexDigit, hexOf}
+use Rattle.orders.specs.declared.Command.the-variants as Command
+use Rattle.orders.specs.declared.Key.the-variants as Key
+use Rattle.orders.specs.declared.Lent.the-variants as Lent
+use Rattle.orders.specs.declared.Name.the-variants as Name
+use Rattle.orders.specs.declared.Fault.the-variants as Fault
+use Rattle.orders.specs.declared.Reading.the-variants as Reading
+
+-- blanks of all kinds, leading zeros, either case of digits, a seed modulo 256, an empty script; the words left to right
+pub worked :
+    (readOf (bytes " patch 007\t12 00fF junk=300 log=6 script=") ≡
+    Reading.Order (record {
+      command = Command.Patch;
+      number = 7;
+      place = 12;
+      bytes = record { start = 14; end = 18 };
+      limit = 1;
+      script = record { start = 41; end = 41 };
+      seed = 44;
+      junk = Lent.Needed;
+      log = Lent.Given 6;
+      buffer = Lent.Needed;
+      reply = Lent.Needed;
+    })) ×
+    (readOf (bytes "cut 513") ≡
+    Reading.Order (record {
+      command = Command.Cut;
+      number = 1;
+      place = 0;
+      bytes = record { start = 0; end = 0 };
+      limit = 1;
+      script = record { start = 0; end = 0 };
+      seed = 0;
+      junk = Lent.Needed;
+      log = Lent.Needed;
+      buffer = Lent.Needed;
+      reply = Lent.Needed;
+    })) ×
+    (readOf (bytes "put x") ≡ Reading.Fault (Fault.NotNumber Name.Slot)) ×
+    (readOf (bytes "raw 123") ≡ Reading.Fault (Fault.Odd Name.Hex)) ×
+    (readOf (bytes "wipe 1 b=2 b=") ≡ Reading.Fault Fault.Twice) ×
+    (readOf (bytes "get 1 reply=65537") ≡ Reading.Fault (Fault.Over Key.Reply)) ×
+    (readOf (bytes "pin 1 b=2") ≡ Reading.Fault Fault.TooManyWords) ×
+    (readOf (bytes " \t\r") ≡ Reading.Fault Fault.NoCommand)
+unfolding readOf saidBy commandOf otherCommandOf beginsWith keyOf numberAs takeFirst takePlace takeBytes operandsOf takeValue takeOption takeWord takeWords optionsOf orderOf same every leading scan isBlank notBlank isDigit valueFrom belowLimit numberOf nibbleOf isHexDigit hexOf
+worked = (refl, refl, refl, refl, refl, refl, refl, refl)

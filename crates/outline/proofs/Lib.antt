@@ -1,0 +1,4 @@
+pub mod Remainders
+pub mod Texts
+pub mod Printing
+pub mod Acting

@@ -1,0 +1,29 @@
+-- `outline::lines::check_of_chip` meets its contract: the state after the block, taken on through the array, is that after both in a row.
+-- Assumes nothing.
+use Rattle.outline.proofs.Texts.{crc-append}
+use Rattle.text.specs.Checksum.{crcOf}
+use lib.Bits.{bitXor}
+use Prim.Native.Nat.{ℕ}
+use mathlib.Core.Path.{sym, ap, _∙_}
+use Rattle.outline.specs.Output.{checksum}
+use borrow.Author.Needs.{needs}
+use Rattle.outline.proofs.lines.check_of_chip.Statement.{statement}
+use Rattle.outline.proofs.lines.check_of_chip.Tie as tie
+
+crc-requires : tie.Need-crc-requires
+crc-requires c κs = search needs
+
+crc-requires-2 : tie.Need-crc-requires-2
+crc-requires-2 c κs = search needs
+
+crc-end-requires : tie.Need-crc-end-requires
+crc-end-requires c κs = search needs
+
+returns : tie.Need-returns
+unfolding checksum
+returns c =
+    (c .crc-end) .ensures ∙ ap (λ (k : ℕ). bitXor k 0xFFFF_FFFF)
+    ((c .before .crc2) .ensures ∙ ap (λ (k : ℕ). crcOf k ((c .before .before .before .before .before .args) .array .now)) ((c .before .before .crc) .ensures) ∙ sym (crc-append 0xFFFF_FFFF ((c .before .before .before .before .before .args) .block .now) ((c .before .before .before .before .before .args) .array .now)))
+
+pub check-of-chip-spec : {M : Type 1} → statement M
+check-of-chip-spec = tie.close (tie.spec crc-requires crc-requires-2 crc-end-requires returns)

@@ -1,0 +1,6 @@
+pub mod Lists
+pub mod Decimal
+pub mod Hexadecimal
+pub mod Words
+pub mod Checksum
+pub mod Lines

@@ -1,0 +1,63 @@
+//! The reference on the stored inputs.
+
+use outline_tests::crc::crc32;
+use outline_tests::met::Met;
+use outline_tests::stored::{ALL, LONG, RUN, SHORT, WIPE};
+use outline_tests::{difference, run};
+
+#[test]
+fn reference_prints_what_is_stored() {
+    for stored in ALL {
+        if let Some(difference) = difference(&stored.input(), &stored.output()) {
+            panic!("{}: {difference}", stored.name);
+        }
+    }
+}
+
+/// Document 01's six lines.
+#[test]
+fn wipe_2() {
+    let lines = "\
+2 D7 00
+20 32 00 00 00
+20 35 00 00 00
+4 50 00 20 00
+2 D7 00
+frames 5 polls 2 answer 0
+";
+    assert_eq!(WIPE.input(), b"wipe 2\n");
+    assert_eq!(run(b"wipe 2\n"), lines.as_bytes());
+    assert_eq!(WIPE.output(), lines.as_bytes());
+}
+
+#[test]
+fn crc_of_123456789() {
+    assert_eq!(crc32(b"123456789"), 0xCBF4_3926);
+    assert_eq!(crc32(b""), 0);
+}
+
+/// The stored run meets every message and every answer that lines can meet,
+/// and has a line of 8,192 characters and a longer one.
+#[test]
+fn stored_run_meets_everything() {
+    let mut met = Met::default();
+    met.add(&RUN.output());
+    assert_eq!(met, Met::all());
+    let input = RUN.input();
+    let lens: Vec<usize> = input
+        .split(|&byte| byte == b'\n')
+        .map(<[u8]>::len)
+        .collect();
+    assert!(lens.contains(&8192) && lens.contains(&8193));
+}
+
+/// The examples have recipes of 5 and of 2,000 bytes.
+#[test]
+fn examples_are_a_short_and_a_long_recipe() {
+    let recipe_len = |input: Vec<u8>| {
+        let mut words = input.split(|byte| byte.is_ascii_whitespace());
+        words.nth(2).map_or(0, |digits| digits.len() / 2)
+    };
+    assert_eq!(recipe_len(SHORT.input()), 5);
+    assert_eq!(recipe_len(LONG.input()), 2000);
+}
