@@ -52,6 +52,7 @@ pub record Sound (n : ℕ) (o : Order) : Type 0 where
   pub buffer : Roomed 65536 (o .buffer)
   pub reply : Roomed 65536 (o .reply)
 
+-- a line's order, if it says one
 abbrev pub SoundReading : ℕ → Reading → Type 0
 SoundReading n (Reading.Order o) = Sound n o
 SoundReading n (Reading.Fault f) = Unit
@@ -63,17 +64,21 @@ abbrev pub SoundKeyed : ℕ → Keyed → Type 0
 SoundKeyed n (Keyed.Known k i) = i ≤ n
 SoundKeyed n Keyed.Unknown = Unit
 
+-- a number read is in its range
 abbrev pub SoundNumber : First → Numbered → Type 0
 SoundNumber k (Numbered.Value v) = Ranged k v
 SoundNumber k (Numbered.Fault f) = Unit
 
+-- operands: HEX is a part of the line, the number is in its range
 abbrev pub SoundTaken : ℕ → First → Taken → Type 0
 SoundTaken n k t = Within n (t .bytes) × Ranged k (t .number)
 
+-- the same where there is no fault
 abbrev pub SoundStep : ℕ → First → Step → Type 0
 SoundStep n k (Step.More t) = SoundTaken n k t
 SoundStep n k (Step.Fault f) = Unit
 
+-- options: the script's part in the line, the lengths within their rooms
 pub record SoundSettings (n : ℕ) (s : Settings) : Type 0 where
   pub script : Within n (s .script)
   pub junk : s .junk .value ≤ 1114112
@@ -81,6 +86,7 @@ pub record SoundSettings (n : ℕ) (s : Settings) : Type 0 where
   pub buffer : s .buffer .value ≤ 65536
   pub reply : s .reply .value ≤ 65536
 
+-- the same where there is no fault
 abbrev pub SoundChoice : ℕ → Choice → Type 0
 SoundChoice n (Choice.More s) = SoundSettings n s
 SoundChoice n (Choice.Fault f) = Unit

@@ -1,4 +1,4 @@
--- What a whole line says, or the first thing that is wrong with it.
+-- What a whole line says (docs/OUTLINE.md), or the first thing that is wrong with it.
 -- Assumes nothing.
 use Prim.Native.Nat.{ℕ}
 use mathlib.Core.Bool.{cond}
@@ -21,10 +21,12 @@ use Rattle.orders.specs.declared.operands.Step.the-variants as Step
 use Rattle.orders.specs.declared.options.Choice.{Choice}
 use Rattle.orders.specs.declared.options.Choice.the-variants as Choice
 
+-- the order of a line whose options are these
 abbrev pub withOptions : Command → Taken → Choice → Reading
 withOptions c t (Choice.More s) = Reading.Order (orderOf c t s)
 withOptions c t (Choice.Fault f) = Reading.Fault f
 
+-- the same of a line whose operands are these; its options stand behind them
 abbrev pub withOperands : List ℕ → Command → Step → Reading
 withOperands xs c (Step.More t) = withOptions c t (optionsOf xs c (t .at))
 withOperands xs c (Step.Fault f) = Reading.Fault f

@@ -1,4 +1,4 @@
--- The words behind a command that have a place: its number, PLACE and HEX, taken left to right. The first fault stays.
+-- The words behind a command that have a place (docs/OUTLINE.md): its number, PLACE and HEX, taken left to right. The first fault stays.
 -- Assumes nothing.
 use Prim.Native.Nat.{ℕ, _%_}
 use mathlib.Core.Bool.{Bool, true, false, cond}
@@ -30,6 +30,7 @@ use Rattle.orders.specs.declared.operands.Taken.{Taken}
 use Rattle.orders.specs.declared.operands.Step.{Step}
 use Rattle.orders.specs.declared.operands.Step.the-variants as Step
 
+-- a word's number, or the fault that it has none
 abbrev pub numbered : Name → Number → Numbered
 numbered name (Number.Value v) = Numbered.Value v
 numbered name Number.NotNumber = Numbered.Fault (Fault.NotNumber name)
@@ -39,6 +40,7 @@ numbered name Number.TooLarge = Numbered.Fault (Fault.TooLarge name)
 abbrev pub decimalOf : List ℕ → Name → Numbered
 decimalOf word name = cond (eqb (length word) 0) (Numbered.Fault (Fault.Missing name)) (numbered name (numberOf word))
 
+-- modulo 256
 abbrev pub reduced : Numbered → Numbered
 reduced (Numbered.Value v) = Numbered.Value (v % 256)
 reduced (Numbered.Fault f) = Numbered.Fault f
@@ -69,6 +71,7 @@ numberAs word First.Level = levelOf word
 numberAs word First.Pages = pagesOf word
 numberAs word First.Nothing = Numbered.Value 0
 
+-- a word's digits make bytes, or the fault that they do not
 abbrev pub tested : Name → Hex → Tested
 tested name (Hex.Bytes n) = Tested.Fine
 tested name Hex.NotHex = Tested.Fault (Fault.NotHex name)
@@ -80,16 +83,20 @@ testHex word name = tested name (hexOf word)
 
 -- ---- the words in their places
 
+-- an empty part of the line
 abbrev pub nowhere : Span
 nowhere = record { start = 0; end = 0 }
 
+-- the operands with the number, read up to index at
 abbrev pub withNumberTo : ℕ → Numbered → Step
 withNumberTo at (Numbered.Value v) = Step.More (record { number = v; place = 0; bytes = nowhere; at = at })
 withNumberTo at (Numbered.Fault f) = Step.Fault f
 
+-- the number that the word w is
 abbrev pub numberIn : List ℕ → First → Span → Step
 numberIn xs k w = withNumberTo (w .end) (numberAs (partOf xs w) k)
 
+-- the command has no number
 abbrev pub isNothing : First → Bool
 isNothing First.Slot = false
 isNothing First.Seed = false
@@ -102,10 +109,12 @@ unfoldable pub takeFirst : List ℕ → ℕ → First → Step
 takeFirst xs at k =
     cond (isNothing k) (Step.More (record { number = 0; place = 0; bytes = nowhere; at = at })) (numberIn xs k (wordFrom xs at))
 
+-- the operands with PLACE, read up to index at
 abbrev pub withPlaceTo : Taken → ℕ → Numbered → Step
 withPlaceTo t at (Numbered.Value v) = Step.More (record { number = t .number; place = v; bytes = t .bytes; at = at })
 withPlaceTo t at (Numbered.Fault f) = Step.Fault f
 
+-- the PLACE that the word w is
 abbrev pub placeIn : List ℕ → Taken → Span → Step
 placeIn xs t w = withPlaceTo t (w .end) (decimalOf (partOf xs w) Name.Place)
 
@@ -113,10 +122,12 @@ placeIn xs t w = withPlaceTo t (w .end) (decimalOf (partOf xs w) Name.Place)
 unfoldable pub takePlace : List ℕ → Command → Taken → Step
 takePlace xs c t = cond (takesPlace c) (placeIn xs t (wordFrom xs (t .at))) (Step.More t)
 
+-- the operands with HEX, read up to its end
 abbrev pub withBytesTo : Taken → Span → Tested → Step
 withBytesTo t w Tested.Fine = Step.More (record { number = t .number; place = t .place; bytes = w; at = w .end })
 withBytesTo t w (Tested.Fault f) = Step.Fault f
 
+-- the HEX that the word w is
 abbrev pub bytesIn : List ℕ → Taken → Span → Step
 bytesIn xs t w = cond (eqb (w .start) (w .end)) (Step.Fault (Fault.Missing Name.Hex)) (withBytesTo t w (testHex (partOf xs w) Name.Hex))
 
@@ -124,10 +135,12 @@ bytesIn xs t w = cond (eqb (w .start) (w .end)) (Step.Fault (Fault.Missing Name.
 unfoldable pub takeBytes : List ℕ → Command → Taken → Step
 takeBytes xs c t = cond (takesBytes c) (bytesIn xs t (wordFrom xs (t .at))) (Step.More t)
 
+-- PLACE, after operands without a fault
 abbrev pub thenPlace : List ℕ → Command → Step → Step
 thenPlace xs c (Step.More t) = takePlace xs c t
 thenPlace xs c (Step.Fault f) = Step.Fault f
 
+-- HEX, after operands without a fault
 abbrev pub thenBytes : List ℕ → Command → Step → Step
 thenBytes xs c (Step.More t) = takeBytes xs c t
 thenBytes xs c (Step.Fault f) = Step.Fault f

@@ -1,4 +1,4 @@
--- The options of a call, taken left to right, and the order that a whole line makes. The first fault stays.
+-- The options of a call (docs/OUTLINE.md), taken left to right, and the order that a whole line makes. The first fault stays.
 -- Assumes nothing.
 use Prim.Native.Nat.{ℕ, zero, suc, _+_, _%_}
 use mathlib.Core.Bool.{Bool, true, false, cond}
@@ -30,6 +30,7 @@ use Rattle.orders.specs.declared.options.Settings.{Settings}
 use Rattle.orders.specs.declared.options.Choice.{Choice}
 use Rattle.orders.specs.declared.options.Choice.the-variants as Choice
 
+-- an option that is not given
 abbrev pub missing : Setting
 missing = record { given = false; value = 0 }
 
@@ -38,6 +39,7 @@ abbrev pub unsetOf : Settings
 unsetOf =
     record { limit = missing; seed = missing; junk = missing; log = missing; buffer = missing; reply = missing; scripted = false; script = nowhere }
 
+-- script= alone has HEX for its value
 abbrev pub isScript : Key → Bool
 isScript Key.Limit = false
 isScript Key.Script = true
@@ -47,6 +49,7 @@ isScript Key.Log = false
 isScript Key.Buffer = false
 isScript Key.Reply = false
 
+-- the option was given before
 abbrev pub isGiven : Settings → Key → Bool
 isGiven s Key.Limit = s .limit .given
 isGiven s Key.Script = s .scripted
@@ -82,6 +85,7 @@ withNumber s Key.Buffer n =
 withNumber s Key.Reply n =
     record { limit = s .limit; seed = s .seed; junk = s .junk; log = s .log; buffer = s .buffer; reply = record { given = true; value = n }; scripted = s .scripted; script = s .script }
 
+-- the script set to a part of the line
 abbrev pub withScript : Settings → Span → Settings
 withScript s w =
     record { limit = s .limit; seed = s .seed; junk = s .junk; log = s .log; buffer = s .buffer; reply = s .reply; scripted = true; script = w }
@@ -92,6 +96,7 @@ numberTaken s k (Number.Value n) = cond (isOver k n) (Choice.Fault (Fault.Over k
 numberTaken s k Number.NotNumber = Choice.Fault (Fault.NotNumber (Name.Option k))
 numberTaken s k Number.TooLarge = Choice.Fault (Fault.TooLarge (Name.Option k))
 
+-- the same, or the fault of its digits
 abbrev pub scriptTaken : Settings → Span → Tested → Choice
 scriptTaken s w Tested.Fine = Choice.More (withScript s w)
 scriptTaken s w (Tested.Fault f) = Choice.Fault f
@@ -102,6 +107,7 @@ takeValue xs s k w =
     cond (isGiven s k) (Choice.Fault Fault.Twice)
     (cond (isScript k) (scriptTaken s w (testHex (partOf xs w) (Name.Option Key.Script))) (numberTaken s k (numberOf (partOf xs w))))
 
+-- the option that the word w is, with the part of w that is its value
 abbrev pub keyTaken : List ℕ → Settings → Span → Keyed → Choice
 keyTaken xs s w (Keyed.Known k i) = takeValue xs s k (record { start = w .start + i; end = w .end })
 keyTaken xs s w Keyed.Unknown = Choice.Fault Fault.UnknownOption
@@ -124,9 +130,11 @@ takeWords (suc n) xs c s w = cond (ltb (w .start) (w .end)) (takeWords n xs c (t
 unfoldable pub optionsOf : List ℕ → Command → ℕ → Choice
 optionsOf xs c at = takeWords (length xs) xs c (Choice.More unsetOf) (wordFrom xs at)
 
+-- an option's value, or its default
 abbrev pub valueOr : Setting → ℕ → ℕ
 valueOr s default = cond (s .given) (s .value) default
 
+-- a length lent, as given or as the call needs
 abbrev pub lentOf : Setting → Lent
 lentOf s = cond (s .given) (Lent.Given (s .value)) Lent.Needed
 

@@ -1,4 +1,4 @@
--- The words of a line: where they lie, the commands, the names of the options, and what each command takes.
+-- The words of a line (docs/OUTLINE.md): where they lie, the commands, the names of the options, and what each command takes.
 -- Assumes nothing.
 use Prim.Native.Nat.{ℕ, _-_}
 use mathlib.Core.Bool.{Bool, true, false, cond, _&&_}

@@ -8,6 +8,7 @@ ghost use Rattle.orders.specs.Operands.{operandsOf};
 ghost use Rattle.orders.specs.Messages.{Put, textOf};
 use operands::Step;
 use options::Choice;
+pub use options::is_call;
 use words::Chosen;
 
 mod messages;

@@ -61,8 +61,8 @@ fn unset() -> Settings
     }
 }
 
-// The five calls alone take options.
-fn is_call(c: Command) -> bool
+// put, patch, get, wipe, raw: the five calls. They alone take options.
+pub fn is_call(c: Command) -> bool
     ensures { λ r. ⌜ r ≡ isCall c ⌝ }
 {
     match c {

@@ -1,13 +1,14 @@
 -- What a step does.
 -- Assumes nothing.
 use Prim.Native.Nat.{ℕ}
-use mathlib.Core.Bool.{Bool, true, false, cond}
+use mathlib.Core.Bool.{Bool, true, false}
 use mathlib.Core.List.{List, [], _∷_}
 use lib.ListN.{length, getD, replicate}
 use Rattle.slices.specs.Lists.{tabulate}
 use Rattle.orders.specs.declared.Command.{Command}
 use Rattle.orders.specs.declared.Command.the-variants.{Put, Patch, Get, Wipe, Raw, Send, End, Pin, Cut, Part, Sum}
 use Rattle.orders.specs.declared.Order.{Order}
+use Rattle.orders.specs.Words.{isCall}
 use Rattle.outline.specs.declared.session.Session.{Session}
 use Rattle.outline.specs.Junk.{junkByte}
 use Rattle.outline.specs.Sessions.{afterStep}
@@ -28,20 +29,6 @@ seedOf o Pin = o .seed
 seedOf o Cut = o .number
 seedOf o Part = o .seed
 seedOf o Sum = o .seed
-
--- the five calls
-abbrev pub isCall : Command → Bool
-isCall Put = true
-isCall Patch = true
-isCall Get = true
-isCall Wipe = true
-isCall Raw = true
-isCall Send = false
-isCall End = false
-isCall Pin = false
-isCall Cut = false
-isCall Part = false
-isCall Sum = false
 
 -- a call shows its frames and totals, an event its answer
 abbrev pub shownBy : Bool → List ℕ → List ℕ → ℕ → List ℕ

@@ -4,10 +4,11 @@ ghost use Prim.Native.Nat.{_≤_};
 ghost use lib.ListN.{length, replicate};
 ghost use Rattle.io.specs.Counts.{Counts};
 ghost use Rattle.slices.specs.Lists.{tabulate};
+ghost use Rattle.orders.specs.Words.{isCall};
 ghost use Rattle.outline.specs.Acts.{Acts};
 ghost use Rattle.outline.specs.Junk.{junkByte};
 ghost use Rattle.outline.specs.Output.{Printed};
-ghost use Rattle.outline.specs.Steps.{seedOf, isCall, shownBy, told, ready, Ran};
+ghost use Rattle.outline.specs.Steps.{seedOf, shownBy, told, ready, Ran};
 use crate::junk;
 use crate::lengths;
 use crate::lengths::Lengths;
@@ -217,7 +218,7 @@ fn show(
     requires { ⌜ 128 ≤ length (now text) ⌝ }
     ensures { λ r. ⌜ Printed (shownBy (isCall c) (now (log .entry)) (now (counts .entry)) answer) s (now (text .entry)) r (now (text .exit)) ⌝ }
 {
-    if is_call(c) {
+    if orders::is_call(c) {
         return lines::print_call(s, text, log, counts, answer);
     }
     lines::print_answer(s, text, answer)
@@ -240,24 +241,6 @@ fn seed(o: Order) -> usize
         Command::Cut => o.number,
         Command::Part => o.seed,
         Command::Sum => o.seed,
-    }
-}
-
-fn is_call(c: Command) -> bool
-    ensures { λ r. ⌜ r ≡ isCall c ⌝ }
-{
-    match c {
-        Command::Put => true,
-        Command::Patch => true,
-        Command::Get => true,
-        Command::Wipe => true,
-        Command::Raw => true,
-        Command::Send => false,
-        Command::End => false,
-        Command::Pin => false,
-        Command::Cut => false,
-        Command::Part => false,
-        Command::Sum => false,
     }
 }
 

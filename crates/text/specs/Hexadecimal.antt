@@ -24,6 +24,7 @@ nibbleOf x =
     (cond (ltb x 97) 16
     (cond (leb x 102) (x - 87) 16)))))
 
+-- a digit of either case
 unfoldable pub isHexDigit : ℕ → Bool
 isHexDigit x = ltb (nibbleOf x) 16
 

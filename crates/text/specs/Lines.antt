@@ -21,6 +21,7 @@ unfoldable pub spaced : List ℕ → List ℕ
 spaced [] = []
 spaced (x ∷ xs) = 32 ∷ digitOf (x / 16) ∷ digitOf x ∷ spaced xs
 
+-- the frame's length, higher byte first
 unfoldable pub frameLength : List ℕ → ℕ
 frameLength xs = getD xs 0 0 * 256 + getD xs 1 0
 
