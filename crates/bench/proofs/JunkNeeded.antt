@@ -15,9 +15,9 @@ use Rattle.commands.specs.Room.{room, takes}
 use Rattle.commands.specs.Table.{commands, rowAt, sequences, sequenceAt}
 use Rattle.registers.specs.Data.{padded, pack16, bytes16, pack64, bytes64}
 use Rattle.registers.specs.Operations.{within, placedIn, placed, runOf, sectorsOf, inSet, writes, bufferUsed}
-use Rattle.registers.specs.Protection.{bitsOf, marked, writeProtected, unprotectedFrom, unprotectedSet, maskOf, lockedBytes}
+use Rattle.registers.specs.Protection.{bitsOf, hasBits, sealed, unsealedFrom, unsealedSet, maskOf, lockedBytes}
 use Rattle.control.specs.Completion.{completedBy, completed}
-use Rattle.control.specs.Control.{startedOn, programmedThrough, protectionDisabled, protectionErased, protectionData, protectionProgrammed, sectorLocked, securityData, securityProgrammed, rowDecided, decodedControl, control}
+use Rattle.control.specs.Control.{startedOn, programmedThrough, protectOff, protectionErased, protectionData, protectionProgrammed, sectorLocked, securityData, securityProgrammed, rowDecided, decodedControl, control}
 use Rattle.control.specs.Names.{Names}
 use Rattle.control.specs.Obeyed.{classOf, usageOf, sameBuffer, allowed, isWake, obeyed}
 use Rattle.control.specs.PowerLoss.{reaching, lostBy, lost}
@@ -40,9 +40,9 @@ abbrev calls : List ℕ → List Op
 calls junk = raw (0x3D ∷ 0x2A ∷ 0x7F ∷ 0xFC ∷ []) (2 ∷ []) junk log (0 ∷ 0 ∷ 0 ∷ 0 ∷ []) ∷ pin false ∷ put 1 1 [] (65 ∷ []) [] log ∷ []
 
 junk-ff : answers (calls (replicate 34320 255)) freshShort ≡ 11 ∷ 0 ∷ 10 ∷ []
-unfolding tabulate over splice andOver same ringRead ringWrite wordAt wordBytes partOf addressAt pageAt byteAt pageStart pageOf inRun sectorOf firstPage endPage sectorRun sectorCount placeIn placeOf lookupIn lookupOf begins sequenceIn opened complete decodeOf room takes commands rowAt sequences sequenceAt padded pack16 bytes16 pack64 bytes64 within placedIn placed runOf sectorsOf inSet writes bufferUsed bitsOf marked writeProtected unprotectedFrom unprotectedSet maskOf lockedBytes completedBy completed startedOn programmedThrough protectionDisabled protectionErased protectionData protectionProgrammed sectorLocked securityData securityProgrammed rowDecided decodedControl control Names classOf usageOf sameBuffer allowed isWake obeyed reaching lostBy lost programmed programmedOver transferred differing erased junked eachSector inSectors junkBuffer replied numberOf arrayCompleted bufferCompleted compareCompleted completedMemory isIdle statusOf dataOf replyOf bufferWritten written acted sentMemory freshRegisters freshChip freshAnswer freshOutcome freshFilled freshArray framed sentTo sendOutcome repliedBy sendReply endedIn endOutcome endedArray endArray pinOutcome cutIn cutOutcome cutArrayIn cutArray arrayLost lostMemory outline registersAfter memoryAfter cutState openAfter closedAfter stepOpen stepClosed run firstCourse startOpen startClosed ran isGet countOf outFrom callOut callNext sentState rawSent rawOut rawNext shapeOf frameByte loaded frameOf registerIn heardIn courseAfter judged readIn takenIn isEnded isPoll verdictAnswer weighed answerOf straightOut cutFits outOn lentTo outOff outBy outOf nextOn nextOff nextBy nextOf runList leftBy slotSize limitOf lengthIn isRecord image patched getVerdict patchVerdict bound hasOverTwo hasCut badScript callRefusal rawRefusal freshShort log
+unfolding tabulate over splice andOver same ringRead ringWrite wordAt wordBytes partOf addressAt pageAt byteAt pageStart pageOf inRun sectorOf firstPage endPage sectorRun sectorCount placeIn placeOf lookupIn lookupOf begins sequenceIn opened complete decodeOf room takes commands rowAt sequences sequenceAt padded pack16 bytes16 pack64 bytes64 within placedIn placed runOf sectorsOf inSet writes bufferUsed bitsOf hasBits sealed unsealedFrom unsealedSet maskOf lockedBytes completedBy completed startedOn programmedThrough protectOff protectionErased protectionData protectionProgrammed sectorLocked securityData securityProgrammed rowDecided decodedControl control Names classOf usageOf sameBuffer allowed isWake obeyed reaching lostBy lost programmed programmedOver transferred differing erased junked eachSector inSectors junkBuffer replied numberOf arrayCompleted bufferCompleted compareCompleted completedMemory isIdle statusOf dataOf replyOf bufferWritten written acted sentMemory freshRegisters freshChip freshAnswer freshOutcome freshFilled freshArray framed sentTo sendOutcome repliedBy sendReply endedIn endOutcome endedArray endArray pinOutcome cutIn cutOutcome cutArrayIn cutArray arrayLost lostMemory outline registersAfter memoryAfter cutState openAfter closedAfter stepOpen stepClosed run firstCourse startOpen startClosed ran isGet countOf outFrom callOut callNext sentState rawSent rawOut rawNext shapeOf frameByte loaded frameOf registerIn heardIn courseAfter judged readIn takenIn isEnded isPoll verdictAnswer weighed answerOf straightOut cutFits outOn lentTo outOff outBy outOf nextOn nextOff nextBy nextOf runList leftBy slotSize limitOf lengthIn isRecord image patched getVerdict patchVerdict bound hasOverTwo hasCut badScript callRefusal rawRefusal freshShort log
 junk-ff = refl
 
 junk-00 : answers (calls (replicate 34320 0)) freshShort ≡ 11 ∷ 0 ∷ 0 ∷ []
-unfolding tabulate over splice andOver same ringRead ringWrite wordAt wordBytes partOf addressAt pageAt byteAt pageStart pageOf inRun sectorOf firstPage endPage sectorRun sectorCount placeIn placeOf lookupIn lookupOf begins sequenceIn opened complete decodeOf room takes commands rowAt sequences sequenceAt padded pack16 bytes16 pack64 bytes64 within placedIn placed runOf sectorsOf inSet writes bufferUsed bitsOf marked writeProtected unprotectedFrom unprotectedSet maskOf lockedBytes completedBy completed startedOn programmedThrough protectionDisabled protectionErased protectionData protectionProgrammed sectorLocked securityData securityProgrammed rowDecided decodedControl control Names classOf usageOf sameBuffer allowed isWake obeyed reaching lostBy lost programmed programmedOver transferred differing erased junked eachSector inSectors junkBuffer replied numberOf arrayCompleted bufferCompleted compareCompleted completedMemory isIdle statusOf dataOf replyOf bufferWritten written acted sentMemory freshRegisters freshChip freshAnswer freshOutcome freshFilled freshArray framed sentTo sendOutcome repliedBy sendReply endedIn endOutcome endedArray endArray pinOutcome cutIn cutOutcome cutArrayIn cutArray arrayLost lostMemory outline registersAfter memoryAfter cutState openAfter closedAfter stepOpen stepClosed run firstCourse startOpen startClosed ran isGet countOf outFrom callOut callNext sentState rawSent rawOut rawNext shapeOf frameByte loaded frameOf registerIn heardIn courseAfter judged readIn takenIn isEnded isPoll verdictAnswer weighed answerOf straightOut cutFits outOn lentTo outOff outBy outOf nextOn nextOff nextBy nextOf runList leftBy slotSize limitOf lengthIn isRecord image patched getVerdict patchVerdict bound hasOverTwo hasCut badScript callRefusal rawRefusal freshShort log
+unfolding tabulate over splice andOver same ringRead ringWrite wordAt wordBytes partOf addressAt pageAt byteAt pageStart pageOf inRun sectorOf firstPage endPage sectorRun sectorCount placeIn placeOf lookupIn lookupOf begins sequenceIn opened complete decodeOf room takes commands rowAt sequences sequenceAt padded pack16 bytes16 pack64 bytes64 within placedIn placed runOf sectorsOf inSet writes bufferUsed bitsOf hasBits sealed unsealedFrom unsealedSet maskOf lockedBytes completedBy completed startedOn programmedThrough protectOff protectionErased protectionData protectionProgrammed sectorLocked securityData securityProgrammed rowDecided decodedControl control Names classOf usageOf sameBuffer allowed isWake obeyed reaching lostBy lost programmed programmedOver transferred differing erased junked eachSector inSectors junkBuffer replied numberOf arrayCompleted bufferCompleted compareCompleted completedMemory isIdle statusOf dataOf replyOf bufferWritten written acted sentMemory freshRegisters freshChip freshAnswer freshOutcome freshFilled freshArray framed sentTo sendOutcome repliedBy sendReply endedIn endOutcome endedArray endArray pinOutcome cutIn cutOutcome cutArrayIn cutArray arrayLost lostMemory outline registersAfter memoryAfter cutState openAfter closedAfter stepOpen stepClosed run firstCourse startOpen startClosed ran isGet countOf outFrom callOut callNext sentState rawSent rawOut rawNext shapeOf frameByte loaded frameOf registerIn heardIn courseAfter judged readIn takenIn isEnded isPoll verdictAnswer weighed answerOf straightOut cutFits outOn lentTo outOff outBy outOf nextOn nextOff nextBy nextOf runList leftBy slotSize limitOf lengthIn isRecord image patched getVerdict patchVerdict bound hasOverTwo hasCut badScript callRefusal rawRefusal freshShort log
 junk-00 = refl

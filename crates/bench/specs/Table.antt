@@ -48,7 +48,7 @@ pub record Bench : Type 0 where
   pub page-5 : sent (0x83 ∷ 0x00 ∷ 0x0A ∷ 0x00 ∷ []) freshShort .registers .operation ≡ Program One 5
   -- "Status fresh A4h, mark set A6h, busy 24h"
   pub status-fresh : replyTo status freshShort ≡ 0xFF ∷ 0xA4 ∷ []
-  pub status-marked : replyTo status (sent (0x3D ∷ 0x2A ∷ 0x7F ∷ 0xA9 ∷ []) freshShort) ≡ 0xFF ∷ 0xA6 ∷ []
+  pub status-guarded : replyTo status (sent (0x3D ∷ 0x2A ∷ 0x7F ∷ 0xA9 ∷ []) freshShort) ≡ 0xFF ∷ 0xA6 ∷ []
   pub status-busy : replyTo status (sent (0x83 ∷ 0x00 ∷ 0x0A ∷ 0x00 ∷ []) freshShort) ≡ 0xFF ∷ 0x24 ∷ []
   -- "88 over F0h with 3Ch gives 30h"
   pub over : replyTo (0xD2 ∷ replicate 8 0x00) (leftBy overF0 freshShort) ≡ replicate 8 0xFF ++ 0x30 ∷ []

@@ -18,7 +18,7 @@ use Rattle.blocks.proofs.Stores.{part-before}
 
 -- the chip of a block, with other marks and another operation
 abbrev pub settledChip : List ℕ → Bool → Bool → Bool → Bool → Operation → Chip
-settledChip b programmed enabled wp deep o =
+settledChip b used protect wp deep o =
     record {
       registers =
           record {
@@ -26,8 +26,8 @@ settledChip b programmed enabled wp deep o =
             lockdown = field 16 16 b;
             user = field 32 64 b;
             factory = field 96 64 b;
-            programmed = programmed;
-            enabled = enabled;
+            used = used;
+            protect = protect;
             wp = wp;
             deep = deep;
             operation = o;

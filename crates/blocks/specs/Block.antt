@@ -125,8 +125,8 @@ decodeRegisters block =
       lockdown = field 16 16 block;
       user = field 32 64 block;
       factory = field 96 64 block;
-      programmed = flag (getD block 160 0);
-      enabled = flag (getD block 161 0);
+      used = flag (getD block 160 0);
+      protect = flag (getD block 161 0);
       wp = flag (getD block 162 0);
       deep = flag (getD block 163 0);
       operation = decodeOperation block;
@@ -139,20 +139,20 @@ decodeChip block =
 -- the twelve bytes from 160 on
 unfoldable pub headBytes : Registers → Heading → List ℕ
 headBytes r h =
-    flagByte (r .programmed) ∷ flagByte (r .enabled) ∷ flagByte (r .wp) ∷ flagByte (r .deep) ∷
+    flagByte (r .used) ∷ flagByte (r .protect) ∷ flagByte (r .wp) ∷ flagByte (r .deep) ∷
     h .tag ∷ h .buffer ∷ h .number / 256 % 256 ∷ h .number % 256 ∷
     h .sectors / 16777216 % 256 ∷ h .sectors / 65536 % 256 ∷ h .sectors / 256 % 256 ∷ h .sectors % 256 ∷ []
 
 -- registers with these marks, to give that their four flags
 abbrev pub flagged : Bool → Bool → Bool → Bool → Registers
-flagged programmed enabled wp deep =
+flagged used protect wp deep =
     record {
       protection = [];
       lockdown = [];
       user = [];
       factory = [];
-      programmed = programmed;
-      enabled = enabled;
+      used = used;
+      protect = protect;
       wp = wp;
       deep = deep;
       operation = Idle;

@@ -201,12 +201,12 @@ pub fn marks_at(block: &[u8], o: Operation) -> Marks
     let seals = Seals {
         protection: part16(block, 0),
         lockdown: part16(block, 16),
-        enabled: is_set(block[161]),
+        protect: is_set(block[161]),
         wp: is_set(block[162]),
     };
     Marks {
         seals: seals,
-        programmed: is_set(block[160]),
+        used: is_set(block[160]),
         deep: is_set(block[163]),
         usage: control::usage_of(o),
     }
@@ -221,8 +221,8 @@ fn decode_registers(block: &[u8]) -> Registers
         lockdown: part16(block, 16),
         user: part64(block, 32),
         factory: part64(block, 96),
-        programmed: is_set(block[160]),
-        enabled: is_set(block[161]),
+        used: is_set(block[160]),
+        protect: is_set(block[161]),
         wp: is_set(block[162]),
         deep: is_set(block[163]),
         operation: operation(block),
@@ -300,12 +300,12 @@ fn protection_bytes(data: Data16) -> [u8; 64]
     b
 }
 
-fn head_bytes(programmed: bool, enabled: bool, wp: bool, deep: bool, h: Heading) -> [u8; 12]
-    ensures { λ b. ⌜ b ≡ headBytes (flagged programmed enabled wp deep) h ⌝ }
+fn head_bytes(used: bool, protect: bool, wp: bool, deep: bool, h: Heading) -> [u8; 12]
+    ensures { λ b. ⌜ b ≡ headBytes (flagged used protect wp deep) h ⌝ }
 {
     [
-        flag_byte(programmed),
-        flag_byte(enabled),
+        flag_byte(used),
+        flag_byte(protect),
         flag_byte(wp),
         flag_byte(deep),
         h.tag,
@@ -365,32 +365,25 @@ fn put_data(block: &mut [u8], o: Operation)
 }
 
 // Marks stored, and no operation: the 76 bytes from index 160 on.
-fn put_idle(block: &mut [u8], programmed: bool, enabled: bool, wp: bool, deep: bool)
+fn put_idle(block: &mut [u8], used: bool, protect: bool, wp: bool, deep: bool)
     requires { ⌜ length (now block) ≡ 765 ⌝ }
-    ensures { λ _. ⌜ now (block .exit) ≡ splice 160 (headBytes (flagged programmed enabled wp deep) (headOf Operation.Idle) ++ dataBytes Operation.Idle) (now (block .entry)) ⌝ }
+    ensures { λ _. ⌜ now (block .exit) ≡ splice 160 (headBytes (flagged used protect wp deep) (headOf Operation.Idle) ++ dataBytes Operation.Idle) (now (block .entry)) ⌝ }
 {
-    let bytes = head_bytes(programmed, enabled, wp, deep, headed(0x00, 0, 0, 0));
+    let bytes = head_bytes(used, protect, wp, deep, headed(0x00, 0, 0, 0));
     put(block, 160, &bytes);
     clear_data(block);
 }
 
 // Marks and operation stored: the 76 bytes from index 160 on.
-fn put_operation(
-    block: &mut [u8],
-    programmed: bool,
-    enabled: bool,
-    wp: bool,
-    deep: bool,
-    o: Operation,
-)
+fn put_operation(block: &mut [u8], used: bool, protect: bool, wp: bool, deep: bool, o: Operation)
     requires { ⌜ length (now block) ≡ 765 ⌝ }
-    ensures { λ _. ⌜ now (block .exit) ≡ splice 160 (headBytes (flagged programmed enabled wp deep) (headOf o) ++ dataBytes o) (now (block .entry)) ⌝ }
+    ensures { λ _. ⌜ now (block .exit) ≡ splice 160 (headBytes (flagged used protect wp deep) (headOf o) ++ dataBytes o) (now (block .entry)) ⌝ }
 {
     if let Operation::Idle = o {
-        put_idle(block, programmed, enabled, wp, deep);
+        put_idle(block, used, protect, wp, deep);
         return;
     }
-    let bytes = head_bytes(programmed, enabled, wp, deep, head(o));
+    let bytes = head_bytes(used, protect, wp, deep, head(o));
     put(block, 160, &bytes);
     put_data(block, o);
 }
@@ -409,7 +402,7 @@ fn encode_registers(block: &mut [u8], r: Registers)
     let factory = r.factory;
     put(block, 96, &factory);
     let o = r.operation;
-    put_operation(block, r.programmed, r.enabled, r.wp, r.deep, o);
+    put_operation(block, r.used, r.protect, r.wp, r.deep, o);
 }
 
 // The change stored, with the operation that is then under way.
@@ -417,23 +410,16 @@ fn settle_in(block: &mut [u8], o: Operation, c: Change)
     requires { ⌜ (length (now block) ≡ 765) × (o ≡ decodeOperation (now block)) ⌝ }
     ensures { λ _. ⌜ now (block .exit) ≡ encodeChip (withRegisters (decodeChip (now (block .entry))) (changed c (decodeRegisters (now (block .entry))))) ⌝ }
 {
-    let programmed = is_set(block[160]);
-    let enabled = is_set(block[161]);
+    let used = is_set(block[160]);
+    let protect = is_set(block[161]);
     let wp = is_set(block[162]);
     let deep = is_set(block[163]);
     block[764] = flag_byte(is_set(block[764]));
     match c {
-        Change::Nothing => put_operation(block, programmed, enabled, wp, deep, o),
-        Change::Start { operation } => put_operation(
-            block,
-            programmed,
-            enabled,
-            wp,
-            deep,
-            operation,
-        ),
-        Change::Enable { on } => put_operation(block, programmed, on, wp, deep, o),
-        Change::Sleep { on } => put_operation(block, programmed, enabled, wp, on, o),
+        Change::Nothing => put_operation(block, used, protect, wp, deep, o),
+        Change::Start { operation } => put_operation(block, used, protect, wp, deep, operation),
+        Change::Protect { on } => put_operation(block, used, on, wp, deep, o),
+        Change::Sleep { on } => put_operation(block, used, protect, wp, on, o),
     }
 }
 
@@ -442,12 +428,12 @@ pub fn rest(block: &mut [u8])
     requires { ⌜ length (now block) ≡ 765 ⌝ }
     ensures { λ _. ⌜ now (block .exit) ≡ encodeChip (withRegisters (decodeChip (now (block .entry))) (changed (Change.Start Operation.Idle) (decodeRegisters (now (block .entry))))) ⌝ }
 {
-    let programmed = is_set(block[160]);
-    let enabled = is_set(block[161]);
+    let used = is_set(block[160]);
+    let protect = is_set(block[161]);
     let wp = is_set(block[162]);
     let deep = is_set(block[163]);
     block[764] = flag_byte(is_set(block[764]));
-    put_idle(block, programmed, enabled, wp, deep);
+    put_idle(block, used, protect, wp, deep);
 }
 
 // The change stored into a block whose operation under way is `o`; what else the block holds stays, as it is stored. Mostly nothing

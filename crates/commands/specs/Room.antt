@@ -7,7 +7,7 @@ use mathlib.Core.List.{List, [], _∷_}
 use Rattle.commands.specs.declared.Command.{Command}
 use Rattle.commands.specs.declared.Decoded.{Decoded}
 use Rattle.commands.specs.declared.Effect.{Effect}
-use Rattle.commands.specs.declared.Effect.the-variants.{ReadPage, ReadArray, ReadBuffer, WriteBuffer, Program, ProgramOver, ProgramThrough, ErasePage, EraseBlock, EraseSector, EraseChip, Transfer, Compare, Rewrite, EnableProtection, DisableProtection, EraseProtection, ProgramProtection, LockSector, ProgramSecurity, ReadProtection, ReadLockdown, ReadSecurity, ReadStatus, ReadId, PowerDown, Resume, Unlisted}
+use Rattle.commands.specs.declared.Effect.the-variants.{ReadPage, ReadArray, ReadBuffer, WriteBuffer, Program, ProgramOver, ProgramThrough, ErasePage, EraseBlock, EraseSector, EraseChip, Transfer, Compare, Rewrite, ProtectOn, ProtectOff, EraseProtection, ProgramProtection, LockSector, ProgramSecurity, ReadProtection, ReadLockdown, ReadSecurity, ReadStatus, ReadId, PowerDown, Resume, Unlisted}
 use Rattle.commands.specs.Table.{Sequence}
 
 -- the bytes of a frame up to its address's last; 0 where the effect reads no address
@@ -26,8 +26,8 @@ room EraseChip = 0
 room (Transfer b) = 4
 room (Compare b) = 4
 room (Rewrite b) = 4
-room EnableProtection = 0
-room DisableProtection = 0
+room ProtectOn = 0
+room ProtectOff = 0
 room EraseProtection = 0
 room ProgramProtection = 0
 room LockSector = 7
@@ -57,8 +57,8 @@ takes EraseChip = false
 takes (Transfer b) = false
 takes (Compare b) = false
 takes (Rewrite b) = false
-takes EnableProtection = false
-takes DisableProtection = false
+takes ProtectOn = false
+takes ProtectOff = false
 takes EraseProtection = false
 takes ProgramProtection = true
 takes LockSector = false

@@ -6,7 +6,7 @@ use lib.ListN.{getD}
 use Rattle.commands.specs.declared.Buffer.the-variants.{One, Two}
 use Rattle.commands.specs.declared.Command.{Command}
 use Rattle.commands.specs.declared.Effect.{Effect}
-use Rattle.commands.specs.declared.Effect.the-variants.{ReadPage, ReadArray, ReadBuffer, WriteBuffer, Program, ProgramOver, ProgramThrough, ErasePage, EraseBlock, EraseSector, EraseChip, Transfer, Compare, Rewrite, EnableProtection, DisableProtection, EraseProtection, ProgramProtection, LockSector, ProgramSecurity, ReadProtection, ReadLockdown, ReadSecurity, ReadStatus, ReadId, PowerDown, Resume, Unlisted}
+use Rattle.commands.specs.declared.Effect.the-variants.{ReadPage, ReadArray, ReadBuffer, WriteBuffer, Program, ProgramOver, ProgramThrough, ErasePage, EraseBlock, EraseSector, EraseChip, Transfer, Compare, Rewrite, ProtectOn, ProtectOff, EraseProtection, ProgramProtection, LockSector, ProgramSecurity, ReadProtection, ReadLockdown, ReadSecurity, ReadStatus, ReadId, PowerDown, Resume, Unlisted}
 
 -- one row whose opening is an opcode
 abbrev pub row : ℕ → ℕ → Effect → Command
@@ -62,8 +62,8 @@ pub record Sequence : Type 0 where
 unfoldable pub sequences : List Sequence
 sequences =
     record { opening = 0xC7 ∷ 0x94 ∷ 0x80 ∷ 0x9A ∷ []; lead = 4; effect = EraseChip } ∷
-    record { opening = 0x3D ∷ 0x2A ∷ 0x7F ∷ 0xA9 ∷ []; lead = 4; effect = EnableProtection } ∷
-    record { opening = 0x3D ∷ 0x2A ∷ 0x7F ∷ 0x9A ∷ []; lead = 4; effect = DisableProtection } ∷
+    record { opening = 0x3D ∷ 0x2A ∷ 0x7F ∷ 0xA9 ∷ []; lead = 4; effect = ProtectOn } ∷
+    record { opening = 0x3D ∷ 0x2A ∷ 0x7F ∷ 0x9A ∷ []; lead = 4; effect = ProtectOff } ∷
     record { opening = 0x3D ∷ 0x2A ∷ 0x7F ∷ 0xCF ∷ []; lead = 4; effect = EraseProtection } ∷
     record { opening = 0x3D ∷ 0x2A ∷ 0x7F ∷ 0xFC ∷ []; lead = 4; effect = ProgramProtection } ∷
     record { opening = 0x3D ∷ 0x2A ∷ 0x7F ∷ 0x30 ∷ []; lead = 7; effect = LockSector } ∷

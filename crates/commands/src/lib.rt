@@ -38,8 +38,8 @@ pub enum Effect {
     // 58/59: as 53/55, the page rewritten.
     Rewrite(Buffer),
     // 3D 2A 7F A9 and 9A, CF, FC, 30.
-    EnableProtection,
-    DisableProtection,
+    ProtectOn,
+    ProtectOff,
     EraseProtection,
     ProgramProtection,
     LockSector,
@@ -187,13 +187,13 @@ fn sequence(frame: &[u8]) -> Decoded
     if begins_with(frame, ENABLE_PROTECTION) {
         return Decoded {
             lead: 4,
-            effect: Effect::EnableProtection,
+            effect: Effect::ProtectOn,
         };
     }
     if begins_with(frame, DISABLE_PROTECTION) {
         return Decoded {
             lead: 4,
-            effect: Effect::DisableProtection,
+            effect: Effect::ProtectOff,
         };
     }
     if begins_with(frame, ERASE_PROTECTION) {

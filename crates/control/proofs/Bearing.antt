@@ -13,8 +13,8 @@ seals-of r m e = ap (λ (x : Marks). x .seals) e
 pub wp-of : (r : Registers) (m : Marks) {v : Bool} → marksOf r ≡ m → m .seals .wp ≡ v → r .wp ≡ v
 wp-of r m e h = ap (λ (x : Marks). x .seals .wp) e ∙ h
 
-pub used-of : (r : Registers) (m : Marks) {v : Bool} → marksOf r ≡ m → m .programmed ≡ v → r .programmed ≡ v
-used-of r m e h = ap (λ (x : Marks). x .programmed) e ∙ h
+pub used-of : (r : Registers) (m : Marks) {v : Bool} → marksOf r ≡ m → m .used ≡ v → r .used ≡ v
+used-of r m e h = ap (λ (x : Marks). x .used) e ∙ h
 
 pub deep-of : (r : Registers) (m : Marks) {v : Bool} → marksOf r ≡ m → m .deep ≡ v → r .deep ≡ v
 deep-of r m e h = ap (λ (x : Marks). x .deep) e ∙ h

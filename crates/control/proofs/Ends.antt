@@ -43,9 +43,9 @@ pub lost-deep : (r : Registers) (w : List ℕ) → lost r w .deep ≡ false
 unfolding lost
 lost-deep r w = refl
 
-pub lost-enabled : (r : Registers) (w : List ℕ) → lost r w .enabled ≡ false
+pub lost-protect : (r : Registers) (w : List ℕ) → lost r w .protect ≡ false
 unfolding lost
-lost-enabled r w = refl
+lost-protect r w = refl
 
 -- the busy end of a page's program or a block's erase leaves the registers but for the operation
 pub completed-program : (r : Registers) (b : Buffer) (page : ℕ) → r .operation ≡ Program b page → completed r ≡ withOperation r Idle
@@ -168,8 +168,8 @@ completed-factory r = completed-registers r (λ n. n .factory ≡ r .factory) re
 pub completed-wp : (r : Registers) → completed r .wp ≡ r .wp
 completed-wp r = completed-registers r (λ n. n .wp ≡ r .wp) refl (λ e. refl) (λ d e. refl) (λ s e. refl) (λ d e. refl)
 
-pub completed-enabled : (r : Registers) → completed r .enabled ≡ r .enabled
-completed-enabled r = completed-registers r (λ n. n .enabled ≡ r .enabled) refl (λ e. refl) (λ d e. refl) (λ s e. refl) (λ d e. refl)
+pub completed-protect : (r : Registers) → completed r .protect ≡ r .protect
+completed-protect r = completed-registers r (λ n. n .protect ≡ r .protect) refl (λ e. refl) (λ d e. refl) (λ s e. refl) (λ d e. refl)
 
 pub completed-deep : (r : Registers) → completed r .deep ≡ r .deep
 completed-deep r = completed-registers r (λ n. n .deep ≡ r .deep) refl (λ e. refl) (λ d e. refl) (λ s e. refl) (λ d e. refl)

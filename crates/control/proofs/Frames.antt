@@ -17,7 +17,7 @@ use Rattle.commands.proofs.Frames.{decode-status, decode-protection, decode-loc
 use Rattle.registers.specs.declared.Operation.{Operation}
 use Rattle.registers.specs.declared.Operation.the-variants as O
 use Rattle.registers.specs.declared.Registers.{Registers}
-use Rattle.registers.specs.Protection.{writeProtected}
+use Rattle.registers.specs.Protection.{sealed}
 use Rattle.control.specs.declared.Action.the-variants as A
 use Rattle.control.specs.declared.Class.the-variants.{Status}
 use Rattle.control.specs.declared.Decision.{Decision}
@@ -47,12 +47,12 @@ ready-row : (g : Geometry) (r : Registers) (f : List ℕ) (lead : ℕ) (e : Effe
 ready-row g r f lead e h y = ready-obeys g r f y ∙ ap (λ (d : Decoded). rowOf g r f (d .lead) (d .effect)) h
 
 -- a program or erase starts where the page's sector is not sealed
-pub started-open : (r : Registers) (page : ℕ) (o : Operation) → writeProtected r (sectorOf page) ≡ false → startedOn r page o ≡ started r o
+pub started-open : (r : Registers) (page : ℕ) (o : Operation) → sealed r (sectorOf page) ≡ false → startedOn r page o ≡ started r o
 unfolding startedOn
 started-open r page o h = λ i. cond (h i) (ignored r) (started r o)
 
 -- .. and is ignored where it is
-pub started-sealed : (r : Registers) (page : ℕ) (o : Operation) → writeProtected r (sectorOf page) ≡ true → startedOn r page o ≡ ignored r
+pub started-sealed : (r : Registers) (page : ℕ) (o : Operation) → sealed r (sectorOf page) ≡ true → startedOn r page o ≡ ignored r
 unfolding startedOn
 started-sealed r page o h = λ i. cond (h i) (ignored r) (started r o)
 

@@ -16,11 +16,11 @@ use Rattle.commands.proofs.Rules.{decode-lead}
 use Rattle.registers.specs.declared.Operation.{Operation}
 use Rattle.registers.specs.declared.Operation.the-variants as O
 use Rattle.registers.specs.declared.Registers.{Registers}
-use Rattle.registers.specs.Fields.{withOperation, withEnabled}
-use Rattle.registers.specs.Protection.{writeProtected}
+use Rattle.registers.specs.Fields.{withOperation, withProtect}
+use Rattle.registers.specs.Protection.{sealed}
 use Rattle.control.specs.declared.Action.the-variants as A
 use Rattle.control.specs.declared.Decision.{Decision}
-use Rattle.control.specs.Control.{decided, ignored, started, startedOn, programmedThrough, protectionDisabled, protectionErased, protectionData, protectionProgrammed, sectorLocked, securityData, securityProgrammed, rowDecided, rowOf, control}
+use Rattle.control.specs.Control.{decided, ignored, started, startedOn, programmedThrough, protectOff, protectionErased, protectionData, protectionProgrammed, sectorLocked, securityData, securityProgrammed, rowDecided, rowOf, control}
 use Rattle.control.specs.Names.{Names}
 use Rattle.control.proofs.Rows.{control-cases}
 
@@ -39,10 +39,10 @@ module _ (g : Geometry) (r : Registers) (f : List ℕ) where
 
   at-page : (page : ℕ) (o : Operation) → Good (startedOn r page o)
   unfolding Good Names startedOn
-  at-page page o = either Good (writeProtected r (sectorOf page)) (ignored r) (started r o) quiet quiet
+  at-page page o = either Good (sealed r (sectorOf page)) (ignored r) (started r o) quiet quiet
 
   row-good : (lead : ℕ) (e : Effect) → lead ≤ length f → Good (rowOf g r f lead e)
-  unfolding Good Names rowDecided programmedThrough protectionDisabled protectionErased protectionProgrammed sectorLocked securityProgrammed
+  unfolding Good Names rowDecided programmedThrough protectOff protectionErased protectionProgrammed sectorLocked securityProgrammed
   row-good lead E.ReadPage l = (λ p s. (page-named g (addressAt f 1) p, byte-named g (addressAt f 1) s), l)
   row-good lead E.ReadArray l = (address-within g (addressAt f 1), l)
   row-good lead (E.ReadBuffer b) l = (λ p s. byte-named g (addressAt f 1) s, l)
@@ -51,7 +51,7 @@ module _ (g : Geometry) (r : Registers) (f : List ℕ) where
   row-good lead (E.ProgramOver b) l = at-page (pageAt g (addressAt f 1)) (O.ProgramOver b (pageAt g (addressAt f 1)))
   row-good lead (E.ProgramThrough b) l =
       let page = pageAt g (addressAt f 1) in
-      either Good (writeProtected r (sectorOf page)) (ignored r)
+      either Good (sealed r (sectorOf page)) (ignored r)
       (decided (withOperation r (O.Program b page)) (A.WriteBuffer b (byteAt g (addressAt f 1))) lead)
       quiet (λ p s. byte-named g (addressAt f 1) s, l)
   row-good lead E.ErasePage l = at-page (pageAt g (addressAt f 1)) (O.ErasePage (pageAt g (addressAt f 1)))
@@ -61,9 +61,9 @@ module _ (g : Geometry) (r : Registers) (f : List ℕ) where
   row-good lead (E.Transfer b) l = quiet
   row-good lead (E.Compare b) l = quiet
   row-good lead (E.Rewrite b) l = at-page (pageAt g (addressAt f 1)) (O.Rewrite b (pageAt g (addressAt f 1)))
-  row-good lead E.EnableProtection l = quiet
-  row-good lead E.DisableProtection l =
-      either Good (r .wp) (decided (withEnabled r false) A.Silent 0) (ignored r) quiet quiet
+  row-good lead E.ProtectOn l = quiet
+  row-good lead E.ProtectOff l =
+      either Good (r .wp) (decided (withProtect r false) A.Silent 0) (ignored r) quiet quiet
   row-good lead E.EraseProtection l = either Good (r .wp) (started r O.EraseProtection) (ignored r) quiet quiet
   row-good lead E.ProgramProtection l =
       let d = protectionData f in
@@ -71,7 +71,7 @@ module _ (g : Geometry) (r : Registers) (f : List ℕ) where
   row-good lead E.LockSector l = quiet
   row-good lead E.ProgramSecurity l =
       let d = securityData f in
-      either Good (r .programmed) (ignored r) (decided (withOperation r (O.ProgramSecurity d)) (A.LoadSecurity d) 0) quiet quiet
+      either Good (r .used) (ignored r) (decided (withOperation r (O.ProgramSecurity d)) (A.LoadSecurity d) 0) quiet quiet
   row-good lead E.ReadProtection l = (λ p s. tt, l)
   row-good lead E.ReadLockdown l = (λ p s. tt, l)
   row-good lead E.ReadSecurity l = (λ p s. tt, l)

@@ -21,10 +21,10 @@ use Rattle.commands.specs.Decode.{decodeOf}
 use Rattle.registers.specs.declared.Operation.{Operation}
 use Rattle.registers.specs.declared.Operation.the-variants as O
 use Rattle.registers.specs.declared.Registers.{Registers}
-use Rattle.registers.specs.Fields.{withOperation, withEnabled, withDeep}
+use Rattle.registers.specs.Fields.{withOperation, withProtect, withDeep}
 use Rattle.registers.specs.Operations.{within}
-use Rattle.registers.specs.Protection.{writeProtected, unprotectedSet}
-use Rattle.registers.proofs.Sets.{unprotected-small}
+use Rattle.registers.specs.Protection.{sealed, unsealedSet}
+use Rattle.registers.proofs.Sets.{unsealed-small}
 use Rattle.control.specs.declared.Action.the-variants as A
 use Rattle.control.specs.declared.Class.{Class}
 use Rattle.control.specs.declared.Class.the-variants.{Wake, Other}
@@ -32,7 +32,7 @@ use Rattle.control.specs.declared.Decision.{Decision}
 use Rattle.control.specs.declared.Usage.{Usage}
 use Rattle.control.specs.declared.Usage.the-variants.{Free, NoBuffer, Uses, Exclusive}
 use Rattle.control.specs.Obeyed.{classOf, usageOf, allowed, isWake, obeyed}
-use Rattle.control.specs.Control.{decided, ignored, started, startedOn, programmedThrough, protectionDisabled, protectionErased, protectionData, protectionProgrammed, sectorLocked, securityData, securityProgrammed, rowDecided, rowOf, decodedControl, control}
+use Rattle.control.specs.Control.{decided, ignored, started, startedOn, programmedThrough, protectOff, protectionErased, protectionData, protectionProgrammed, sectorLocked, securityData, securityProgrammed, rowDecided, rowOf, decodedControl, control}
 use Rattle.control.specs.Starts.{Ready, Open, Starts, Fixed, Lengths, programs, programs-over, transfers, compares, rewrites, erases-page, erases-block, erases-sector, erases-chip, erases-protection, programs-protection, locks-sector, programs-security}
 
 -- ---- a test whose outcome decides which of two holds
@@ -124,15 +124,15 @@ wake-idle r e k h =
 module _ (g : Geometry) (r : Registers) (f : List ℕ) (Q : Registers → Type 0)
     (same : Q r)
     (starts : (o : Operation) → Ready r → Starts g r o → Q (withOperation r o))
-    (marks : (on : Bool) → Ready r → Q (withEnabled r on))
+    (marks : (on : Bool) → Ready r → Q (withProtect r on))
     (sleeps : (on : Bool) → r .operation ≡ O.Idle → Q (withDeep r on)) where
   on-page : (n : ℕ) (o : Operation) → Ready r → (Open g r n → Starts g r o) → Q (startedOn r (pageAt g n) o .registers)
   unfolding startedOn
   on-page n o y s =
-      either Q (writeProtected r (sectorOf (pageAt g n))) (ignored r) (started r o) (λ e. same) (λ e. starts o y (s e))
+      either Q (sealed r (sectorOf (pageAt g n))) (ignored r) (started r o) (λ e. same) (λ e. starts o y (s e))
 
   row-registers : (lead : ℕ) (e : Effect) → obeyed r e ≡ true → Q (rowOf g r f lead e .registers)
-  unfolding rowDecided classOf programmedThrough protectionDisabled protectionErased protectionProgrammed sectorLocked securityProgrammed
+  unfolding rowDecided classOf programmedThrough protectOff protectionErased protectionProgrammed sectorLocked securityProgrammed
   row-registers lead E.ReadPage h = same
   row-registers lead E.ReadArray h = same
   row-registers lead (E.ReadBuffer b) h = same
@@ -143,7 +143,7 @@ module _ (g : Geometry) (r : Registers) (f : List ℕ) (Q : Registers → Type 0
       on-page (addressAt f 1) (O.ProgramOver b (pageAt g (addressAt f 1))) (other-ready r (E.ProgramOver b) refl h) (programs-over b (addressAt f 1))
   row-registers lead (E.ProgramThrough b) h =
       let page = pageAt g (addressAt f 1) in
-      either Q (writeProtected r (sectorOf page)) (ignored r)
+      either Q (sealed r (sectorOf page)) (ignored r)
       (decided (withOperation r (O.Program b page)) (A.WriteBuffer b (byteAt g (addressAt f 1))) lead)
       (λ e. same) (λ e. starts (O.Program b page) (other-ready r (E.ProgramThrough b) refl h) (programs b (addressAt f 1) e))
   row-registers lead E.ErasePage h =
@@ -152,17 +152,17 @@ module _ (g : Geometry) (r : Registers) (f : List ℕ) (Q : Registers → Type 0
       on-page (addressAt f 1) (O.EraseBlock (pageAt g (addressAt f 1) / 8)) (other-ready r E.EraseBlock refl h) (erases-block (addressAt f 1))
   row-registers lead E.EraseSector h =
       on-page (addressAt f 1) (O.EraseSector (sectorOf (pageAt g (addressAt f 1)))) (other-ready r E.EraseSector refl h) (erases-sector (addressAt f 1))
-  row-registers lead E.EraseChip h = starts (O.EraseChip (unprotectedSet g r)) (other-ready r E.EraseChip refl h) erases-chip
+  row-registers lead E.EraseChip h = starts (O.EraseChip (unsealedSet g r)) (other-ready r E.EraseChip refl h) erases-chip
   row-registers lead (E.Transfer b) h =
       starts (O.Transfer b (pageAt g (addressAt f 1))) (other-ready r (E.Transfer b) refl h) (transfers b (addressAt f 1))
   row-registers lead (E.Compare b) h =
       starts (O.Compare b (pageAt g (addressAt f 1))) (other-ready r (E.Compare b) refl h) (compares b (addressAt f 1))
   row-registers lead (E.Rewrite b) h =
       on-page (addressAt f 1) (O.Rewrite b (pageAt g (addressAt f 1))) (other-ready r (E.Rewrite b) refl h) (rewrites b (addressAt f 1))
-  row-registers lead E.EnableProtection h = marks true (other-ready r E.EnableProtection refl h)
-  row-registers lead E.DisableProtection h =
-      either Q (r .wp) (decided (withEnabled r false) A.Silent 0) (ignored r)
-      (λ e. marks false (other-ready r E.DisableProtection refl h)) (λ e. same)
+  row-registers lead E.ProtectOn h = marks true (other-ready r E.ProtectOn refl h)
+  row-registers lead E.ProtectOff h =
+      either Q (r .wp) (decided (withProtect r false) A.Silent 0) (ignored r)
+      (λ e. marks false (other-ready r E.ProtectOff refl h)) (λ e. same)
   row-registers lead E.EraseProtection h =
       either Q (r .wp) (started r O.EraseProtection) (ignored r)
       (λ e. starts O.EraseProtection (other-ready r E.EraseProtection refl h) (erases-protection e)) (λ e. same)
@@ -174,7 +174,7 @@ module _ (g : Geometry) (r : Registers) (f : List ℕ) (Q : Registers → Type 0
       starts (O.LockSector (sectorOf (pageAt g (addressAt f 4)))) (other-ready r E.LockSector refl h) (locks-sector (addressAt f 4))
   row-registers lead E.ProgramSecurity h =
       let d = securityData f in
-      either Q (r .programmed) (ignored r) (decided (withOperation r (O.ProgramSecurity d)) (A.LoadSecurity d) 0)
+      either Q (r .used) (ignored r) (decided (withOperation r (O.ProgramSecurity d)) (A.LoadSecurity d) 0)
       (λ e. same) (λ e. starts (O.ProgramSecurity d) (other-ready r E.ProgramSecurity refl h) (programs-security d e))
   row-registers lead E.ReadProtection h = same
   row-registers lead E.ReadLockdown h = same
@@ -200,10 +200,10 @@ control-operation g r f Q u s = control-registers g r f (λ n. Q (n .operation))
 pub control-fixed : (g : Geometry) (r : Registers) (f : List ℕ) → Fixed r (control g r f .registers)
 control-fixed g r f =
     control-registers g r f (Fixed r)
-    (record { protection = refl; lockdown = refl; user = refl; factory = refl; programmed = refl; wp = refl })
-    (λ o y s. record { protection = refl; lockdown = refl; user = refl; factory = refl; programmed = refl; wp = refl })
-    (λ on y. record { protection = refl; lockdown = refl; user = refl; factory = refl; programmed = refl; wp = refl })
-    (λ on y. record { protection = refl; lockdown = refl; user = refl; factory = refl; programmed = refl; wp = refl })
+    (record { protection = refl; lockdown = refl; user = refl; factory = refl; used = refl; wp = refl })
+    (λ o y s. record { protection = refl; lockdown = refl; user = refl; factory = refl; used = refl; wp = refl })
+    (λ on y. record { protection = refl; lockdown = refl; user = refl; factory = refl; used = refl; wp = refl })
+    (λ on y. record { protection = refl; lockdown = refl; user = refl; factory = refl; used = refl; wp = refl })
 
 pub control-lengths : (g : Geometry) (r : Registers) (f : List ℕ) → Lengths r → Lengths (control g r f .registers)
 control-lengths g r f l =
@@ -239,7 +239,7 @@ starts-within g n r o z (rewrites b a u) = lt-ltb (pageAt g a) (g .pages) (page-
 starts-within g n r o z (erases-page a u) = lt-ltb (pageAt g a) (g .pages) (page-few g n a z)
 starts-within g n r o z (erases-block a u) = lt-ltb (pageAt g a / 8) (g .pages / 8) (block-few g n (pageAt g a) z (page-few g n a z))
 starts-within g n r o z (erases-sector a u) = lt-ltb (sectorOf (pageAt g a)) (sectorCount g) (sector-few g (pageAt g a) (page-few g n a z))
-starts-within g n r o z erases-chip = lt-ltb (unprotectedSet g r) (2 ^ sectorCount g) (unprotected-small g r)
+starts-within g n r o z erases-chip = lt-ltb (unsealedSet g r) (2 ^ sectorCount g) (unsealed-small g r)
 starts-within g n r o z (erases-protection u) = refl
 starts-within g n r o z (programs-protection d u) = refl
 starts-within g n r o z (locks-sector a) = lt-ltb (sectorOf (pageAt g a)) (sectorCount g) (sector-few g (pageAt g a) (page-few g n a z))

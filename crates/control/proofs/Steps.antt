@@ -26,13 +26,13 @@ use Rattle.registers.specs.declared.Data16.{Data16}
 use Rattle.registers.specs.declared.Data64.{Data64}
 use Rattle.registers.specs.declared.Operation.the-variants as O
 use Rattle.registers.specs.declared.Registers.{Registers}
-use Rattle.registers.specs.Fields.{withLockdown, withOperation, withEnabled}
+use Rattle.registers.specs.Fields.{withLockdown, withOperation, withProtect}
 use Rattle.registers.specs.Operations.{within}
-use Rattle.registers.specs.Protection.{writeProtected, lockedBytes}
+use Rattle.registers.specs.Protection.{sealed, lockedBytes}
 use Rattle.control.specs.Obeyed.{classOf, usageOf, allowed, isWake, obeyed}
 use Rattle.control.specs.declared.Action.the-variants as A
 use Rattle.control.specs.declared.Decision.{Decision}
-use Rattle.control.specs.Control.{decided, ignored, started, programmedThrough, protectionDisabled, protectionErased, protectionData, protectionProgrammed, securityData, securityProgrammed, rowOf, decodedControl, control}
+use Rattle.control.specs.Control.{decided, ignored, started, programmedThrough, protectOff, protectionErased, protectionData, protectionProgrammed, securityData, securityProgrammed, rowOf, decodedControl, control}
 use Rattle.control.specs.PowerLoss.{afterBuffers, reaching, lostBy}
 
 -- ---- obeyed or not
@@ -60,8 +60,8 @@ woken-allows r e h =
 -- ---- sealed sectors
 
 -- the test that the code makes of a page's sector
-pub tested : (r : Registers) (page : ℕ) {s : ℕ} {b v : Bool} → s ≡ sectorOf page → b ≡ writeProtected r s → b ≡ v → writeProtected r (sectorOf page) ≡ v
-tested r page e h k = ap (writeProtected r) (sym e) ∙ sym h ∙ k
+pub tested : (r : Registers) (page : ℕ) {s : ℕ} {b v : Bool} → s ≡ sectorOf page → b ≡ sealed r s → b ≡ v → sealed r (sectorOf page) ≡ v
+tested r page e h k = ap (sealed r) (sym e) ∙ sym h ∙ k
 
 -- a lock under way names one of the 17 sectors
 pub lock-small : (g : Geometry) (n s : ℕ) → Sized g n → within g (O.LockSector s) ≡ true → s < 17
@@ -70,13 +70,13 @@ lock-small g n s z h = let k = ltb-true s (sectorCount g) h in let m = sector-mo
 
 -- ---- what WP, the used mark and sealed-ness decide
 
-pub disabled-high : (r : Registers) → r .wp ≡ true → decided (withEnabled r false) A.Silent 0 ≡ protectionDisabled r
-unfolding protectionDisabled
-disabled-high r h = ap (λ (b : Bool). cond b (decided (withEnabled r false) A.Silent 0) (ignored r)) (sym h)
+pub off-high : (r : Registers) → r .wp ≡ true → decided (withProtect r false) A.Silent 0 ≡ protectOff r
+unfolding protectOff
+off-high r h = ap (λ (b : Bool). cond b (decided (withProtect r false) A.Silent 0) (ignored r)) (sym h)
 
-pub disabled-low : (r : Registers) → r .wp ≡ false → ignored r ≡ protectionDisabled r
-unfolding protectionDisabled
-disabled-low r h = ap (λ (b : Bool). cond b (decided (withEnabled r false) A.Silent 0) (ignored r)) (sym h)
+pub off-low : (r : Registers) → r .wp ≡ false → ignored r ≡ protectOff r
+unfolding protectOff
+off-low r h = ap (λ (b : Bool). cond b (decided (withProtect r false) A.Silent 0) (ignored r)) (sym h)
 
 pub erased-high : (r : Registers) → r .wp ≡ true → started r O.EraseProtection ≡ protectionErased r
 unfolding protectionErased
@@ -101,24 +101,24 @@ listed-low r f h = ap (λ (b : Bool). cond b (listing r (protectionData f)) (ign
 writing : Registers → Data64 → Decision
 writing r d = decided (withOperation r (O.ProgramSecurity d)) (A.LoadSecurity d) 0
 
-pub security-free : (r : Registers) (f : List ℕ) → r .programmed ≡ false
+pub security-free : (r : Registers) (f : List ℕ) → r .used ≡ false
     → decided (withOperation r (O.ProgramSecurity (securityData f))) (A.LoadSecurity (securityData f)) 0 ≡ securityProgrammed r f
 unfolding securityProgrammed writing
 security-free r f h = ap (λ (b : Bool). cond b (ignored r) (writing r (securityData f))) (sym h)
 
-pub security-used : (r : Registers) (f : List ℕ) → r .programmed ≡ true → ignored r ≡ securityProgrammed r f
+pub security-used : (r : Registers) (f : List ℕ) → r .used ≡ true → ignored r ≡ securityProgrammed r f
 unfolding securityProgrammed writing
 security-used r f h = ap (λ (b : Bool). cond b (ignored r) (writing r (securityData f))) (sym h)
 
 through : Registers → Buffer → ℕ → ℕ → ℕ → Decision
 through r b page start lead = decided (withOperation r (O.Program b page)) (A.WriteBuffer b start) lead
 
-pub through-open : (r : Registers) (b : Buffer) (page start lead : ℕ) → writeProtected r (sectorOf page) ≡ false
+pub through-open : (r : Registers) (b : Buffer) (page start lead : ℕ) → sealed r (sectorOf page) ≡ false
     → decided (withOperation r (O.Program b page)) (A.WriteBuffer b start) lead ≡ programmedThrough r b page start lead
 unfolding programmedThrough through
 through-open r b page start lead h = ap (λ (x : Bool). cond x (ignored r) (through r b page start lead)) (sym h)
 
-pub through-sealed : (r : Registers) (b : Buffer) (page start lead : ℕ) → writeProtected r (sectorOf page) ≡ true
+pub through-sealed : (r : Registers) (b : Buffer) (page start lead : ℕ) → sealed r (sectorOf page) ≡ true
     → ignored r ≡ programmedThrough r b page start lead
 unfolding programmedThrough through
 through-sealed r b page start lead h = ap (λ (x : Bool). cond x (ignored r) (through r b page start lead)) (sym h)

@@ -22,9 +22,9 @@ use Rattle.registers.specs.declared.Operation.{Operation}
 use Rattle.registers.specs.declared.Operation.the-variants as O
 use Rattle.registers.specs.declared.Registers.{Registers}
 use Rattle.registers.specs.Data.{padded, pack16, pack64}
-use Rattle.registers.specs.Fields.{withOperation, withEnabled, withDeep}
+use Rattle.registers.specs.Fields.{withOperation, withProtect, withDeep}
 use Rattle.control.specs.Obeyed.{obeyed}
-use Rattle.registers.specs.Protection.{writeProtected, unprotectedSet}
+use Rattle.registers.specs.Protection.{sealed, unsealedSet}
 
 -- the frame leaves these registers and asks this of the memory; its data begin after the lead
 abbrev pub decided : Registers → Action → ℕ → Decision
@@ -40,16 +40,16 @@ started r o = decided (withOperation r o) A.Silent 0
 
 -- "Ignored: a program or erase naming a sealed sector"
 unfoldable pub startedOn : Registers → ℕ → Operation → Decision
-startedOn r page o = cond (writeProtected r (sectorOf page)) (ignored r) (started r o)
+startedOn r page o = cond (sealed r (sectorOf page)) (ignored r) (started r o)
 
 -- 82/85: "as 84/87, then as 83/86"; sealed, they "write no buffer"
 unfoldable pub programmedThrough : Registers → Buffer → ℕ → ℕ → ℕ → Decision
 programmedThrough r b page start lead =
-    cond (writeProtected r (sectorOf page)) (ignored r) (decided (withOperation r (O.Program b page)) (A.WriteBuffer b start) lead)
+    cond (sealed r (sectorOf page)) (ignored r) (decided (withOperation r (O.Program b page)) (A.WriteBuffer b start) lead)
 
 -- 3D 2A 7F 9A: "protect mark .. off", ignored "while WP is low"
-unfoldable pub protectionDisabled : Registers → Decision
-protectionDisabled r = cond (r .wp) (decided (withEnabled r false) A.Silent 0) (ignored r)
+unfoldable pub protectOff : Registers → Decision
+protectOff r = cond (r .wp) (decided (withProtect r false) A.Silent 0) (ignored r)
 
 -- 3D 2A 7F CF, ignored "while WP is low"
 unfoldable pub protectionErased : Registers → Decision
@@ -75,7 +75,7 @@ securityData f = pack64 (padded 64 (drop 4 f))
 -- 9B 00 00 00: "once": ignored "once used"
 unfoldable pub securityProgrammed : Registers → List ℕ → Decision
 securityProgrammed r f =
-    cond (r .programmed) (ignored r) (decided (withOperation r (O.ProgramSecurity (securityData f))) (A.LoadSecurity (securityData f)) 0)
+    cond (r .used) (ignored r) (decided (withOperation r (O.ProgramSecurity (securityData f))) (A.LoadSecurity (securityData f)) 0)
 
 -- a row of the command table, for a frame that is obeyed: page and start are the page and byte of the frame's first address
 unfoldable pub rowDecided : Geometry → Registers → List ℕ → ℕ → ℕ → ℕ → Effect → Decision
@@ -89,12 +89,12 @@ rowDecided g r f page start lead (E.ProgramThrough b) = programmedThrough r b pa
 rowDecided g r f page start lead E.ErasePage = startedOn r page (O.ErasePage page)
 rowDecided g r f page start lead E.EraseBlock = startedOn r page (O.EraseBlock (page / 8))
 rowDecided g r f page start lead E.EraseSector = startedOn r page (O.EraseSector (sectorOf page))
-rowDecided g r f page start lead E.EraseChip = started r (O.EraseChip (unprotectedSet g r))
+rowDecided g r f page start lead E.EraseChip = started r (O.EraseChip (unsealedSet g r))
 rowDecided g r f page start lead (E.Transfer b) = started r (O.Transfer b page)
 rowDecided g r f page start lead (E.Compare b) = started r (O.Compare b page)
 rowDecided g r f page start lead (E.Rewrite b) = startedOn r page (O.Rewrite b page)
-rowDecided g r f page start lead E.EnableProtection = decided (withEnabled r true) A.Silent 0
-rowDecided g r f page start lead E.DisableProtection = protectionDisabled r
+rowDecided g r f page start lead E.ProtectOn = decided (withProtect r true) A.Silent 0
+rowDecided g r f page start lead E.ProtectOff = protectOff r
 rowDecided g r f page start lead E.EraseProtection = protectionErased r
 rowDecided g r f page start lead E.ProgramProtection = protectionProgrammed r f
 rowDecided g r f page start lead E.LockSector = sectorLocked g r f

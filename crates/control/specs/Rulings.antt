@@ -4,11 +4,11 @@
 use Prim.Native.Nat.{ℕ}
 use mathlib.Core.Path.{_≡_}
 use Rattle.registers.specs.declared.Registers.{Registers}
-use Rattle.registers.specs.Fields.{withOperation, withEnabled, withDeep}
+use Rattle.registers.specs.Fields.{withOperation, withProtect, withDeep}
 use Rattle.registers.specs.Protection.{sealsOf}
 use Rattle.control.specs.declared.Action.{Action}
 use Rattle.control.specs.declared.Change.{Change}
-use Rattle.control.specs.declared.Change.the-variants.{Nothing, Start, Enable, Sleep}
+use Rattle.control.specs.declared.Change.the-variants.{Nothing, Start, Protect, Sleep}
 use Rattle.control.specs.declared.Decision.{Decision}
 use Rattle.control.specs.declared.Marks.{Marks}
 use Rattle.control.specs.declared.Ruling.{Ruling}
@@ -16,7 +16,7 @@ use Rattle.control.specs.Obeyed.{usageOf}
 
 -- what of the registers decides on a frame
 abbrev pub marksOf : Registers → Marks
-marksOf r = record { seals = sealsOf r; programmed = r .programmed; deep = r .deep; usage = usageOf (r .operation) }
+marksOf r = record { seals = sealsOf r; used = r .used; deep = r .deep; usage = usageOf (r .operation) }
 
 -- it holds of all registers that have these marks
 abbrev pub WithMarks : Marks → (Registers → Type 0) → Type 0
@@ -26,7 +26,7 @@ WithMarks m P = (r : Registers) → marksOf r ≡ m → P r
 unfoldable pub changed : Change → Registers → Registers
 changed Nothing r = r
 changed (Start o) r = withOperation r o
-changed (Enable on) r = withEnabled r on
+changed (Protect on) r = withProtect r on
 changed (Sleep on) r = withDeep r on
 
 abbrev pub ruled : Change → Action → ℕ → Ruling

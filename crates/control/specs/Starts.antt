@@ -13,7 +13,7 @@ use Rattle.registers.specs.declared.Data64.{Data64}
 use Rattle.registers.specs.declared.Operation.{Operation}
 use Rattle.registers.specs.declared.Operation.the-variants as O
 use Rattle.registers.specs.declared.Registers.{Registers}
-use Rattle.registers.specs.Protection.{writeProtected, unprotectedSet}
+use Rattle.registers.specs.Protection.{sealed, unsealedSet}
 
 -- idle and awake: a chip that obeys every command
 abbrev pub Ready : Registers → Type 0
@@ -21,7 +21,7 @@ Ready r = (r .operation ≡ O.Idle) × (r .deep ≡ false)
 
 -- the sector of the page that the address names is not sealed
 abbrev pub Open : Geometry → Registers → ℕ → Type 0
-Open g r address = writeProtected r (sectorOf (pageAt g address)) ≡ false
+Open g r address = sealed r (sectorOf (pageAt g address)) ≡ false
 
 -- the operations that a frame may start on these registers
 pub data Starts (g : Geometry) (r : Registers) : Operation → Type 0 where
@@ -33,11 +33,11 @@ pub data Starts (g : Geometry) (r : Registers) : Operation → Type 0 where
   erases-page : (address : ℕ) → Open g r address → Starts g r (O.ErasePage (pageAt g address))
   erases-block : (address : ℕ) → Open g r address → Starts g r (O.EraseBlock (pageAt g address / 8))
   erases-sector : (address : ℕ) → Open g r address → Starts g r (O.EraseSector (sectorOf (pageAt g address)))
-  erases-chip : Starts g r (O.EraseChip (unprotectedSet g r))
+  erases-chip : Starts g r (O.EraseChip (unsealedSet g r))
   erases-protection : r .wp ≡ true → Starts g r O.EraseProtection
   programs-protection : (d : Data16) → r .wp ≡ true → Starts g r (O.ProgramProtection d)
   locks-sector : (address : ℕ) → Starts g r (O.LockSector (sectorOf (pageAt g address)))
-  programs-security : (d : Data64) → r .programmed ≡ false → Starts g r (O.ProgramSecurity d)
+  programs-security : (d : Data64) → r .used ≡ false → Starts g r (O.ProgramSecurity d)
 
 -- what every frame leaves as it is: the registers n after it have of r what only a busy end, a cut or a pin move changes
 pub record Fixed (r n : Registers) : Type 0 where
@@ -45,7 +45,7 @@ pub record Fixed (r n : Registers) : Type 0 where
   pub lockdown : n .lockdown ≡ r .lockdown
   pub user : n .user ≡ r .user
   pub factory : n .factory ≡ r .factory
-  pub programmed : n .programmed ≡ r .programmed
+  pub used : n .used ≡ r .used
   pub wp : n .wp ≡ r .wp
 
 -- the registers' lengths: "protection (16 bytes), lockdown (16), security (64 user bytes, 64 factory bytes ..)"

@@ -12,7 +12,7 @@ ghost use Rattle.registers.specs.Fields.{withProtection, withLockdown, withUser
 ghost use Rattle.registers.specs.Operations.{within};
 ghost use Rattle.registers.specs.Protection.{lockedBytes};
 ghost use Rattle.control.specs.Obeyed.{classOf, usageOf, sameBuffer, allowed, isWake, obeyed};
-ghost use Rattle.control.specs.Control.{startedOn, rowOf, protectionDisabled, protectionErased, protectionProgrammed, sectorLocked, securityProgrammed, control};
+ghost use Rattle.control.specs.Control.{startedOn, rowOf, protectOff, protectionErased, protectionProgrammed, sectorLocked, securityProgrammed, control};
 ghost use Rattle.control.specs.Rulings.{marksOf, changed, ruled, WithMarks, Applies};
 ghost use Rattle.control.specs.Completion.{completedBy, completed};
 ghost use Rattle.control.specs.PowerLoss.{afterBuffers, reaching, lostBy, lost};
@@ -72,7 +72,7 @@ pub struct Decision {
 // What of the registers decides on a frame.
 pub struct Marks {
     pub seals: Seals,
-    pub programmed: bool,
+    pub used: bool,
     pub deep: bool,
     pub usage: Usage,
 }
@@ -82,7 +82,7 @@ pub enum Change {
     Nothing,
     Start { operation: Operation },
     // 01's software-protect mark.
-    Enable { on: bool },
+    Protect { on: bool },
     // 01's deep mark.
     Sleep { on: bool },
 }
@@ -105,12 +105,12 @@ pub fn marks_of(r: Registers) -> Marks
     let seals = Seals {
         protection: protection,
         lockdown: lockdown,
-        enabled: r.enabled,
+        protect: r.protect,
         wp: r.wp,
     };
     Marks {
         seals: seals,
-        programmed: r.programmed,
+        used: r.used,
         deep: r.deep,
         usage: usage_of(o),
     }
@@ -123,7 +123,7 @@ pub fn apply(r: Registers, c: Change) -> Registers
     match c {
         Change::Nothing => r,
         Change::Start { operation } => registers::with_operation(r, operation),
-        Change::Enable { on } => registers::with_enabled(r, on),
+        Change::Protect { on } => registers::with_protect(r, on),
         Change::Sleep { on } => registers::with_deep(r, on),
     }
 }
@@ -148,8 +148,8 @@ fn class_of(e: Effect) -> Class
         Effect::Transfer(_) => Class::Other,
         Effect::Compare(_) => Class::Other,
         Effect::Rewrite(_) => Class::Other,
-        Effect::EnableProtection => Class::Other,
-        Effect::DisableProtection => Class::Other,
+        Effect::ProtectOn => Class::Other,
+        Effect::ProtectOff => Class::Other,
         Effect::EraseProtection => Class::Other,
         Effect::ProgramProtection => Class::Other,
         Effect::LockSector => Class::Other,
@@ -292,7 +292,7 @@ fn start_on(m: Marks, page: usize, o: Operation) -> Ruling
     ensures { λ d. ⌜ Applies m d (λ r. startedOn r page o) ⌝ }
 {
     let seals = m.seals;
-    if registers::is_write_protected(seals, geometry::sector_of(page)) {
+    if registers::is_sealed(seals, geometry::sector_of(page)) {
         return ignore();
     }
     start(o)
@@ -409,7 +409,7 @@ fn program_through(g: Geometry, m: Marks, frame: &[u8], lead: usize, buffer: Buf
 {
     let page = page_named(g, frame, 1);
     let seals = m.seals;
-    if registers::is_write_protected(seals, geometry::sector_of(page)) {
+    if registers::is_sealed(seals, geometry::sector_of(page)) {
         return ignore();
     }
     let o = Operation::Program {
@@ -467,7 +467,7 @@ fn erase_chip(g: Geometry, m: Marks, frame: &[u8], lead: usize) -> Ruling
 {
     let seals = m.seals;
     start(Operation::EraseChip {
-        sectors: registers::unprotected_set(g, seals),
+        sectors: registers::unsealed_set(g, seals),
     })
 }
 
@@ -512,12 +512,12 @@ fn rewrite(g: Geometry, m: Marks, frame: &[u8], lead: usize, buffer: Buffer) -> 
 }
 
 // 3D 2A 7F 9A.
-fn disable_protection(m: Marks) -> Ruling
-    ensures { λ d. ⌜ Applies m d (λ r. protectionDisabled r) ⌝ }
+fn protect_off(m: Marks) -> Ruling
+    ensures { λ d. ⌜ Applies m d (λ r. protectOff r) ⌝ }
 {
     let seals = m.seals;
     if seals.wp {
-        return rule(Change::Enable { on: false }, Action::Silent, 0);
+        return rule(Change::Protect { on: false }, Action::Silent, 0);
     }
     ignore()
 }
@@ -567,7 +567,7 @@ fn program_security(m: Marks, frame: &[u8]) -> Ruling
     requires { ⌜ 4 ≤ length (now frame) ⌝ }
     ensures { λ d. ⌜ Applies m d (λ r. securityProgrammed r (now (frame .entry))) ⌝ }
 {
-    if m.programmed {
+    if m.used {
         return ignore();
     }
     let data = registers::security_data(frame);
@@ -599,8 +599,8 @@ fn row(g: Geometry, m: Marks, frame: &[u8], lead: usize, e: Effect) -> Ruling
         Effect::Transfer(buffer) => transfer(g, m, frame, lead, buffer),
         Effect::Compare(buffer) => compare(g, m, frame, lead, buffer),
         Effect::Rewrite(buffer) => rewrite(g, m, frame, lead, buffer),
-        Effect::EnableProtection => rule(Change::Enable { on: true }, Action::Silent, 0),
-        Effect::DisableProtection => disable_protection(m),
+        Effect::ProtectOn => rule(Change::Protect { on: true }, Action::Silent, 0),
+        Effect::ProtectOff => protect_off(m),
         Effect::EraseProtection => erase_protection(m),
         Effect::ProgramProtection => program_protection(m, frame),
         Effect::LockSector => lock_sector(g, m, frame),

@@ -8,7 +8,7 @@ use lib.ListN.{replicate}
 use Rattle.slices.specs.Lists.{tabulate}
 use Rattle.geometry.specs.Parts.{partOf}
 use Rattle.geometry.specs.Sectors.{sectorOf}
-use Rattle.registers.specs.Protection.{marked, bitsOf}
+use Rattle.registers.specs.Protection.{hasBits, bitsOf}
 use Rattle.state.specs.Answers.{numberOf}
 use Rattle.slots.specs.declared.Kind.the-variants.{Wipe}
 use Rattle.slots.specs.Calls.{firstCourse}
@@ -56,5 +56,5 @@ pub record WipeTwo : Type 0 where
   pub answer : numberOf (answerOf (done .course .phase) (done .verdict)) ≡ 0
 
 pub wipe-two : WipeTwo
-unfolding startDriver refusalBy firstCourse numberOf partOf soundOn frameIn frameBy frameOf tabulate shapeOf frameByte loaded tookIn courseBy heldBy takenIn courseAfter heardIn registerIn marked bitsOf sectorOf isEnded answerOf weighed verdictAnswer
+unfolding startDriver refusalBy firstCourse numberOf partOf soundOn frameIn frameBy frameOf tabulate shapeOf frameByte loaded tookIn courseBy heldBy takenIn courseAfter heardIn registerIn hasBits bitsOf sectorOf isEnded answerOf weighed verdictAnswer
 wipe-two = record { first = refl; second = refl; third = refl; fourth = refl; fifth = refl; none = refl; answer = refl }

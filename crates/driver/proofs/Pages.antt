@@ -12,7 +12,7 @@ use borrow.Author.Tests.{eq-eqb, ne-eqb}
 use Rattle.slices.specs.Lists.{tabulate, splice}
 use Rattle.slices.proofs.Laws.{length-tabulate, getD-tabulate, tabulate-same, tabulate-append, tabulate-part, length-splice, spliced, splice-part, run-length, run-part}
 use Rattle.geometry.specs.declared.Geometry.{Geometry}
-use Rattle.registers.specs.Protection.{marked}
+use Rattle.registers.specs.Protection.{hasBits}
 use Rattle.registers.proofs.Protection.{bits-high}
 use Rattle.slots.specs.declared.Kind.{Kind}
 use Rattle.slots.specs.declared.Kind.the-variants.{Put, Patch, Get, Wipe}
@@ -203,9 +203,9 @@ taken-none g d payload staged reply e f =
 
 -- ---- a register's reply
 
-pub marked-high : (reply : List ℕ) (s : ℕ) → 2 ≤ s → s < 17 → not (eqb (getD reply (3 + s) 255) 0) ≡ marked (registerIn reply) s
-unfolding marked registerIn
-marked-high reply s h l =
+pub set-high : (reply : List ℕ) (s : ℕ) → 2 ≤ s → s < 17 → not (eqb (getD reply (3 + s) 255) 0) ≡ hasBits (registerIn reply) s
+unfolding hasBits registerIn
+set-high reply s h l =
     let k : 4 + (s - 1) ≡ 3 + s = omega arith in
     ap (λ (x : ℕ). not (eqb x 0))
     (sym (bits-high (tabulate 16 (λ j. getD reply (4 + j) 255)) s h ∙ getD-tabulate 16 (λ j. getD reply (4 + j) 255) (s - 1) 0 (omega arith)

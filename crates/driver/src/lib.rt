@@ -11,7 +11,7 @@ ghost use lib.Dec.{eqb, ltb};
 ghost use Rattle.slices.specs.Lists.{tabulate, over};
 ghost use Rattle.geometry.specs.Parts.{partOf};
 ghost use Rattle.geometry.specs.Sectors.{sectorOf};
-ghost use Rattle.registers.specs.Protection.{marked};
+ghost use Rattle.registers.specs.Protection.{hasBits};
 ghost use Rattle.state.specs.Answers.{numberOf};
 ghost use Rattle.slots.specs.Records.{lengthIn, isRecord, image, patched, getVerdict, patchVerdict};
 ghost use Rattle.slots.specs.Driver.{addressed, shapeOf, frameByte, loaded, frameOf, statusHeard, registerHeard, registerIn, heardIn, at, ended, waiting, polled, asking, opened, mainOf, checked, paged, afterRead, courseAfter, judged, readIn, takenIn, isEnded, isPoll, verdictAnswer, weighed, answerOf};
@@ -464,9 +464,9 @@ fn hear_register(held: bool) -> Heard
 }
 
 // Whether the sector's bits in a reply to 32 or 35 are not all 0.
-fn is_marked(reply: &[u8], sector: usize) -> bool
+fn has_bits(reply: &[u8], sector: usize) -> bool
     requires { ⌜ sector < 17 ⌝ }
-    ensures { λ r. ⌜ r ≡ marked (registerIn (now (reply .entry))) sector ⌝ }
+    ensures { λ r. ⌜ r ≡ hasBits (registerIn (now (reply .entry))) sector ⌝ }
 {
     match sector {
         0 => byte_or(reply, 4, 255) / 64 != 0,
@@ -477,9 +477,9 @@ fn is_marked(reply: &[u8], sector: usize) -> bool
 
 fn hear_sector(slot: usize, reply: &[u8]) -> Heard
     requires { ⌜ slot < 512 ⌝ }
-    ensures { λ r. ⌜ r ≡ registerHeard (marked (registerIn (now (reply .entry))) (sectorOf (8 * slot))) ⌝ }
+    ensures { λ r. ⌜ r ≡ registerHeard (hasBits (registerIn (now (reply .entry))) (sectorOf (8 * slot))) ⌝ }
 {
-    hear_register(is_marked(reply, geometry::sector_of(8 * slot)))
+    hear_register(has_bits(reply, geometry::sector_of(8 * slot)))
 }
 
 fn hear(p: Phase, slot: usize, reply: &[u8]) -> Heard

@@ -10,7 +10,7 @@ use lib.ListN.{length, set, take, drop, length-append, length-take, length-drop}
 use Rattle.commands.specs.declared.Buffer.the-variants.{One, Two}
 use Rattle.registers.specs.declared.Registers.{Registers}
 use Rattle.control.specs.declared.Change.{Change}
-use Rattle.control.specs.declared.Change.the-variants.{Nothing, Start, Enable, Sleep}
+use Rattle.control.specs.declared.Change.the-variants.{Nothing, Start, Protect, Sleep}
 use Rattle.control.specs.Rulings.{changed}
 use Rattle.state.specs.declared.Chip.{Chip}
 use Rattle.state.specs.Memory.{memoryOf, memoryIn, chipOf, withRegisters}
@@ -25,7 +25,7 @@ changed-arrays : (c : Change) (r : Registers) → Arrays r → Arrays (changed c
 unfolding changed
 changed-arrays Nothing r a = a
 changed-arrays (Start o) r a = record { protection = a .protection; lockdown = a .lockdown; user = a .user; factory = a .factory }
-changed-arrays (Enable on) r a = record { protection = a .protection; lockdown = a .lockdown; user = a .user; factory = a .factory }
+changed-arrays (Protect on) r a = record { protection = a .protection; lockdown = a .lockdown; user = a .user; factory = a .factory }
 changed-arrays (Sleep on) r a = record { protection = a .protection; lockdown = a .lockdown; user = a .user; factory = a .factory }
 
 -- the block keeps its length

@@ -28,13 +28,13 @@ use Rattle.registers.specs.declared.Operation.{Operation}
 use Rattle.registers.specs.declared.Operation.the-variants as O
 use Rattle.registers.specs.declared.Registers.{Registers}
 use Rattle.registers.specs.Data.{padded, pack16, pack64}
-use Rattle.registers.specs.Fields.{withOperation, withEnabled}
-use Rattle.registers.specs.Protection.{writeProtected, unprotectedSet}
+use Rattle.registers.specs.Fields.{withOperation, withProtect}
+use Rattle.registers.specs.Protection.{sealed, unsealedSet}
 use Rattle.registers.proofs.Places.{placed-sized}
-use Rattle.registers.proofs.Sets.{unprotected-small}
+use Rattle.registers.proofs.Sets.{unsealed-small}
 use Rattle.control.specs.declared.Action.the-variants as A
 use Rattle.control.specs.declared.Decision.{Decision}
-use Rattle.control.specs.Control.{decided, ignored, started, startedOn, programmedThrough, protectionDisabled, protectionErased, protectionData, protectionProgrammed, sectorLocked, securityData, securityProgrammed, rowDecided, rowOf, control}
+use Rattle.control.specs.Control.{decided, ignored, started, startedOn, programmedThrough, protectOff, protectionErased, protectionData, protectionProgrammed, sectorLocked, securityData, securityProgrammed, rowDecided, rowOf, control}
 use Rattle.control.specs.Completion.{completed}
 use Rattle.control.specs.Starts.{Lengths}
 use Rattle.control.proofs.Rows.{control-cases, control-lengths}
@@ -108,15 +108,15 @@ module _ (g : Geometry) (n : ℕ) (z : Parts.Sized g n) (r : Registers) (f : Lis
   sector : (a : ℕ) → sectorOf (Parts.pageAt g a) < 65536
   sector a = omega (arith, sector-few g (Parts.pageAt g a) (page-named g a (omega (arith, z .blocks))), sector-most g (z .few))
 
-  sectors : unprotectedSet g r < 2 ^ 32
-  sectors = omega (arith, unprotected-small g r, pow-mono {i = sectorCount g} {j = 17} (sector-most g (z .few)))
+  sectors : unsealedSet g r < 2 ^ 32
+  sectors = omega (arith, unsealed-small g r, pow-mono {i = sectorCount g} {j = 17} (sector-most g (z .few)))
 
   on-page : (p : ℕ) (o : Operation) → Fitting o → Fitting (startedOn r p o .registers .operation)
   unfolding startedOn
-  on-page p o h = either (writeProtected r (sectorOf p)) (ignored r) (started r o) u h
+  on-page p o h = either (sealed r (sectorOf p)) (ignored r) (started r o) u h
 
   row-fits : (lead : ℕ) (e : Effect) → Fitting (rowOf g r f lead e .registers .operation)
-  unfolding rowDecided programmedThrough protectionDisabled protectionErased protectionProgrammed sectorLocked securityProgrammed Fitting
+  unfolding rowDecided programmedThrough protectOff protectionErased protectionProgrammed sectorLocked securityProgrammed Fitting
   row-fits lead E.ReadPage = u
   row-fits lead E.ReadArray = u
   row-fits lead (E.ReadBuffer x) = u
@@ -125,7 +125,7 @@ module _ (g : Geometry) (n : ℕ) (z : Parts.Sized g n) (r : Registers) (f : Lis
   row-fits lead (E.ProgramOver x) = on-page (Parts.pageAt g (Parts.addressAt f 1)) (O.ProgramOver x (Parts.pageAt g (Parts.addressAt f 1))) (page (Parts.addressAt f 1))
   row-fits lead (E.ProgramThrough x) =
       let p = Parts.pageAt g (Parts.addressAt f 1) in
-      either (writeProtected r (sectorOf p)) (ignored r) (decided (withOperation r (O.Program x p)) (A.WriteBuffer x (Parts.byteAt g (Parts.addressAt f 1))) lead) u (page (Parts.addressAt f 1))
+      either (sealed r (sectorOf p)) (ignored r) (decided (withOperation r (O.Program x p)) (A.WriteBuffer x (Parts.byteAt g (Parts.addressAt f 1))) lead) u (page (Parts.addressAt f 1))
   row-fits lead E.ErasePage = on-page (Parts.pageAt g (Parts.addressAt f 1)) (O.ErasePage (Parts.pageAt g (Parts.addressAt f 1))) (page (Parts.addressAt f 1))
   row-fits lead E.EraseBlock = on-page (Parts.pageAt g (Parts.addressAt f 1)) (O.EraseBlock (Parts.pageAt g (Parts.addressAt f 1) / 8)) (block (Parts.addressAt f 1))
   row-fits lead E.EraseSector =
@@ -134,14 +134,14 @@ module _ (g : Geometry) (n : ℕ) (z : Parts.Sized g n) (r : Registers) (f : Lis
   row-fits lead (E.Transfer x) = page (Parts.addressAt f 1)
   row-fits lead (E.Compare x) = page (Parts.addressAt f 1)
   row-fits lead (E.Rewrite x) = on-page (Parts.pageAt g (Parts.addressAt f 1)) (O.Rewrite x (Parts.pageAt g (Parts.addressAt f 1))) (page (Parts.addressAt f 1))
-  row-fits lead E.EnableProtection = u
-  row-fits lead E.DisableProtection = either (r .wp) (decided (withEnabled r false) A.Silent 0) (ignored r) u u
+  row-fits lead E.ProtectOn = u
+  row-fits lead E.ProtectOff = either (r .wp) (decided (withProtect r false) A.Silent 0) (ignored r) u u
   row-fits lead E.EraseProtection = either (r .wp) (started r O.EraseProtection) (ignored r) tt u
   row-fits lead E.ProgramProtection =
       let d = protectionData f in either (r .wp) (decided (withOperation r (O.ProgramProtection d)) (A.LoadProtection d) 0) (ignored r) (words16 f b) u
   row-fits lead E.LockSector = sector (Parts.addressAt f 4)
   row-fits lead E.ProgramSecurity =
-      let d = securityData f in either (r .programmed) (ignored r) (decided (withOperation r (O.ProgramSecurity d)) (A.LoadSecurity d) 0) u (words64 f b)
+      let d = securityData f in either (r .used) (ignored r) (decided (withOperation r (O.ProgramSecurity d)) (A.LoadSecurity d) 0) u (words64 f b)
   row-fits lead E.ReadProtection = u
   row-fits lead E.ReadLockdown = u
   row-fits lead E.ReadSecurity = u

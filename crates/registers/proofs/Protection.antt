@@ -12,7 +12,7 @@ use lib.Dec.{eqb}
 use lib.Bits.{bitOr, or-add-and, and-le-l, and-le-r, or-shr, or-mod}
 use borrow.Author.Tests.{eqb-false, ne-eqb, not-true}
 use Rattle.registers.specs.declared.Registers.{Registers}
-use Rattle.registers.specs.Protection.{bitsOf, marked, guarded, writeProtected, maskOf, lockedBytes}
+use Rattle.registers.specs.Protection.{bitsOf, hasBits, guarded, sealed, maskOf, lockedBytes}
 
 -- a sector after 0b has a byte of its own
 pub bits-high : (bytes : List ℕ) (s : ℕ) → 2 ≤ s → bitsOf bytes s ≡ getD bytes (s - 1) 0
@@ -28,19 +28,19 @@ mask-high (suc zero) l = absurd (omega arith)
 mask-high (suc (suc j)) l = refl
 
 -- ---- sealed
-pub protected-locked : (r : Registers) (s : ℕ) → marked (r .lockdown) s ≡ true → writeProtected r s ≡ true
-unfolding writeProtected
-protected-locked r s e = ap (λ (b : Bool). b || (marked (r .protection) s && guarded r)) e
+pub protected-locked : (r : Registers) (s : ℕ) → hasBits (r .lockdown) s ≡ true → sealed r s ≡ true
+unfolding sealed
+protected-locked r s e = ap (λ (b : Bool). b || (hasBits (r .protection) s && guarded r)) e
 
-pub protected-listed : (r : Registers) (s : ℕ) → marked (r .lockdown) s ≡ false → marked (r .protection) s ≡ true → writeProtected r s ≡ guarded r
-unfolding writeProtected
+pub protected-listed : (r : Registers) (s : ℕ) → hasBits (r .lockdown) s ≡ false → hasBits (r .protection) s ≡ true → sealed r s ≡ guarded r
+unfolding sealed
 protected-listed r s e f =
-    ap (λ (b : Bool). b || (marked (r .protection) s && guarded r)) e ∙ ap (λ (b : Bool). b && guarded r) f
+    ap (λ (b : Bool). b || (hasBits (r .protection) s && guarded r)) e ∙ ap (λ (b : Bool). b && guarded r) f
 
-pub protected-free : (r : Registers) (s : ℕ) → marked (r .lockdown) s ≡ false → marked (r .protection) s ≡ false → writeProtected r s ≡ false
-unfolding writeProtected
+pub protected-free : (r : Registers) (s : ℕ) → hasBits (r .lockdown) s ≡ false → hasBits (r .protection) s ≡ false → sealed r s ≡ false
+unfolding sealed
 protected-free r s e f =
-    ap (λ (b : Bool). b || (marked (r .protection) s && guarded r)) e ∙ ap (λ (b : Bool). b && guarded r) f
+    ap (λ (b : Bool). b || (hasBits (r .protection) s && guarded r)) e ∙ ap (λ (b : Bool). b && guarded r) f
 
 -- ---- locking
 pub length-locked : (bytes : List ℕ) (s : ℕ) → length (lockedBytes bytes s) ≡ length bytes
@@ -53,13 +53,13 @@ or-le-l a b = omega (arith, or-add-and a b, and-le-r a b)
 or-le-r : (a b : ℕ) → b ≤ bitOr a b
 or-le-r a b = omega (arith, or-add-and a b, and-le-l a b)
 
-some-marked : (bytes : List ℕ) (s : ℕ) → 0 < bitsOf bytes s → marked bytes s ≡ true
-unfolding marked
-some-marked bytes s l = ap not (ne-eqb (bitsOf bytes s) 0 (λ e. omega arith))
+some-bits : (bytes : List ℕ) (s : ℕ) → 0 < bitsOf bytes s → hasBits bytes s ≡ true
+unfolding hasBits
+some-bits bytes s l = ap not (ne-eqb (bitsOf bytes s) 0 (λ e. omega arith))
 
-marked-some : (bytes : List ℕ) (s : ℕ) → marked bytes s ≡ true → 0 < bitsOf bytes s
-unfolding marked
-marked-some bytes s e = let h = eqb-false (bitsOf bytes s) 0 (not-true (eqb (bitsOf bytes s) 0) e) in omega (arith, h)
+bits-some : (bytes : List ℕ) (s : ℕ) → hasBits bytes s ≡ true → 0 < bitsOf bytes s
+unfolding hasBits
+bits-some bytes s e = let h = eqb-false (bitsOf bytes s) 0 (not-true (eqb (bitsOf bytes s) 0) e) in omega (arith, h)
 
 -- the byte that serves the sector
 locked-byte : (bytes : List ℕ) (s : ℕ) → s < 17 → length bytes ≡ 16 → getD (lockedBytes bytes s) (s - 1) 0 ≡ bitOr (getD bytes (s - 1) 0) (maskOf s)
@@ -67,13 +67,13 @@ unfolding lockedBytes
 locked-byte bytes s l e = getD-set-same bytes (s - 1) (bitOr (getD bytes (s - 1) 0) (maskOf s)) 0 (omega arith)
 
 -- a locked sector is locked
-pub locked-marked : (bytes : List ℕ) (s : ℕ) → s < 17 → length bytes ≡ 16 → marked (lockedBytes bytes s) s ≡ true
+pub locked-bits : (bytes : List ℕ) (s : ℕ) → s < 17 → length bytes ≡ 16 → hasBits (lockedBytes bytes s) s ≡ true
 unfolding bitsOf maskOf
-locked-marked bytes zero l e =
-    some-marked (lockedBytes bytes 0) 0
+locked-bits bytes zero l e =
+    some-bits (lockedBytes bytes 0) 0
     (omega (arith, ap (λ (x : ℕ). x / 64) (locked-byte bytes 0 l e), or-shr (getD bytes 0 0) 192 6, or-le-r (getD bytes 0 0 / 64) 3))
-locked-marked bytes (suc zero) l e =
-    some-marked (lockedBytes bytes 1) 1
+locked-bits bytes (suc zero) l e =
+    some-bits (lockedBytes bytes 1) 1
     (omega (
       arith,
       ap (λ (x : ℕ). x / 16 % 4) (locked-byte bytes 1 l e),
@@ -81,8 +81,8 @@ locked-marked bytes (suc zero) l e =
       or-mod (getD bytes 0 0 / 16) 3 2,
       or-le-r (getD bytes 0 0 / 16 % 4) 3,
     ))
-locked-marked bytes (suc (suc j)) l e =
-    some-marked (lockedBytes bytes (suc (suc j))) (suc (suc j))
+locked-bits bytes (suc (suc j)) l e =
+    some-bits (lockedBytes bytes (suc (suc j))) (suc (suc j))
     (omega (
       arith,
       bits-high (lockedBytes bytes (suc (suc j))) (suc (suc j)) (omega arith),
@@ -116,6 +116,6 @@ bits-grow bytes s (suc zero) = byte-grows (λ x. x / 16 % 4) low-grows bytes s 0
 bits-grow bytes s (suc (suc j)) = byte-grows (λ x. x) or-le-l bytes s (suc j)
 
 -- locking unlocks no sector
-pub locked-keeps : (bytes : List ℕ) (s t : ℕ) → marked bytes t ≡ true → marked (lockedBytes bytes s) t ≡ true
+pub locked-keeps : (bytes : List ℕ) (s t : ℕ) → hasBits bytes t ≡ true → hasBits (lockedBytes bytes s) t ≡ true
 locked-keeps bytes s t e =
-    some-marked (lockedBytes bytes s) t (omega (arith, marked-some bytes t e, bits-grow bytes s t))
+    some-bits (lockedBytes bytes s) t (omega (arith, bits-some bytes t e, bits-grow bytes s t))

@@ -18,34 +18,41 @@ bitsOf bytes zero = getD bytes 0 0 / 64
 bitsOf bytes (suc zero) = getD bytes 0 0 / 16 % 4
 bitsOf bytes (suc (suc j)) = getD bytes (suc j) 0
 
--- "A sector is locked, or listed, if its bits are not all 0": by the lockdown bytes, or the protection bytes
-unfoldable pub marked : List ℕ → ℕ → Bool
-marked bytes s = not (eqb (bitsOf bytes s) 0)
+-- the bits that serve a sector are not all 0
+unfoldable pub hasBits : List ℕ → ℕ → Bool
+hasBits bytes s = not (eqb (bitsOf bytes s) 0)
 
--- "while the mark is set or WP is low"
+-- such bits list a sector in the protection register, and lock it in the lockdown register
+abbrev pub listed : Registers → ℕ → Bool
+listed r s = hasBits (r .protection) s
+
+abbrev pub locked : Registers → ℕ → Bool
+locked r s = hasBits (r .lockdown) s
+
+-- the protect mark is set, or WP is low
 abbrev pub guarded : Registers → Bool
-guarded r = r .enabled || not (r .wp)
+guarded r = r .protect || not (r .wp)
 
 -- what of the registers decides that
 abbrev pub sealsOf : Registers → Seals
-sealsOf r = record { protection = r .protection; lockdown = r .lockdown; enabled = r .enabled; wp = r .wp }
+sealsOf r = record { protection = r .protection; lockdown = r .lockdown; protect = r .protect; wp = r .wp }
 
 -- it holds of all registers that have these seals
 abbrev pub WithSeals : Seals → (Registers → Type 0) → Type 0
 WithSeals s P = (r : Registers) → sealsOf r ≡ s → P r
 
 -- "It is sealed if locked, or if listed while the mark is set or WP is low."
-unfoldable pub writeProtected : Registers → ℕ → Bool
-writeProtected r s = marked (r .lockdown) s || (marked (r .protection) s && guarded r)
+unfoldable pub sealed : Registers → ℕ → Bool
+sealed r s = locked r s || (listed r s && guarded r)
 
 -- the sectors from s on, n of them, that are not sealed: bit i is sector s + i
-unfoldable pub unprotectedFrom : Registers → ℕ → ℕ → ℕ
-unprotectedFrom r zero s = 0
-unprotectedFrom r (suc n) s = cond (writeProtected r s) 0 1 + 2 * unprotectedFrom r n (s + 1)
+unfoldable pub unsealedFrom : Registers → ℕ → ℕ → ℕ
+unsealedFrom r zero s = 0
+unsealedFrom r (suc n) s = cond (sealed r s) 0 1 + 2 * unsealedFrom r n (s + 1)
 
 -- "the sectors of the part that a Chip Erase found unsealed": bit i is sector i
-unfoldable pub unprotectedSet : Geometry → Registers → ℕ
-unprotectedSet g r = unprotectedFrom r (sectorCount g) 0
+unfoldable pub unsealedSet : Geometry → Registers → ℕ
+unsealedSet g r = unsealedFrom r (sectorCount g) 0
 
 -- the bits that serve a sector, all set: "C0h (0a), 30h (0b) or FFh"
 unfoldable pub maskOf : ℕ → ℕ

@@ -6,8 +6,8 @@ ghost use Prim.Native.Nat.{_+_, _*_, _≤_, _<_, _^_};
 ghost use lib.ListN.{length, drop};
 ghost use Rattle.geometry.specs.Parts.{Sized};
 ghost use Rattle.registers.specs.Data.{padded, pack16, pack64, bytes16, bytes64};
-ghost use Rattle.registers.specs.Fields.{withProtection, withLockdown, withUser, withEnabled, withWp, withDeep, withOperation, restarted};
-ghost use Rattle.registers.specs.Protection.{bitsOf, marked, guarded, writeProtected, unprotectedSet, WithSeals, maskOf, lockedBytes};
+ghost use Rattle.registers.specs.Fields.{withProtection, withLockdown, withUser, withProtect, withWp, withDeep, withOperation, restarted};
+ghost use Rattle.registers.specs.Protection.{bitsOf, hasBits, guarded, sealed, unsealedSet, WithSeals, maskOf, lockedBytes};
 ghost use Rattle.registers.specs.Operations.{within, placed, runOf, sectorsOf, bufferUsed};
 use commands::Buffer;
 use geometry::Geometry;
@@ -64,9 +64,9 @@ pub struct Registers {
     // Security: user bytes, factory bytes, and 01's used mark.
     pub user: [u8; 64],
     pub factory: [u8; 64],
-    pub programmed: bool,
+    pub used: bool,
     // 01's software-protect mark.
-    pub enabled: bool,
+    pub protect: bool,
     // WP level: high.
     pub wp: bool,
     // 01's deep mark: deep power-down.
@@ -78,7 +78,7 @@ pub struct Registers {
 pub struct Seals {
     pub protection: [u8; 16],
     pub lockdown: [u8; 16],
-    pub enabled: bool,
+    pub protect: bool,
     pub wp: bool,
 }
 
@@ -175,15 +175,15 @@ pub fn with_user(r: Registers, bytes: [u8; 64]) -> Registers
 {
     let mut n = r;
     n.user = bytes;
-    n.programmed = true;
+    n.used = true;
     n
 }
 
-pub fn with_enabled(r: Registers, on: bool) -> Registers
-    ensures { λ n. ⌜ n ≡ withEnabled r on ⌝ }
+pub fn with_protect(r: Registers, on: bool) -> Registers
+    ensures { λ n. ⌜ n ≡ withProtect r on ⌝ }
 {
     let mut n = r;
-    n.enabled = on;
+    n.protect = on;
     n
 }
 
@@ -215,8 +215,8 @@ pub fn with_operation(r: Registers, o: Operation) -> Registers
         lockdown: lockdown,
         user: user,
         factory: factory,
-        programmed: r.programmed,
-        enabled: r.enabled,
+        used: r.used,
+        protect: r.protect,
         wp: r.wp,
         deep: r.deep,
         operation: o,
@@ -228,7 +228,7 @@ pub fn restart(r: Registers) -> Registers
     ensures { λ n. ⌜ n ≡ restarted r ⌝ }
 {
     with_deep(
-        with_enabled(with_operation(r, Operation::Idle), false),
+        with_protect(with_operation(r, Operation::Idle), false),
         false,
     )
 }
@@ -246,9 +246,9 @@ fn bits(bytes: [u8; 16], sector: usize) -> u8
     }
 }
 
-fn is_marked(bytes: [u8; 16], sector: usize) -> bool
+fn has_bits(bytes: [u8; 16], sector: usize) -> bool
     requires { ⌜ sector < 17 ⌝ }
-    ensures { λ r. ⌜ r ≡ marked bytes sector ⌝ }
+    ensures { λ r. ⌜ r ≡ hasBits bytes sector ⌝ }
 {
     bits(bytes, sector) != 0
 }
@@ -257,39 +257,39 @@ fn is_marked(bytes: [u8; 16], sector: usize) -> bool
 pub fn is_guarded(s: Seals) -> bool
     ensures { λ b. ⌜ WithSeals s (λ r. b ≡ guarded r) ⌝ }
 {
-    if s.enabled {
+    if s.protect {
         return true;
     }
     !s.wp
 }
 
 // 01's sealed.
-pub fn is_write_protected(s: Seals, sector: usize) -> bool
+pub fn is_sealed(s: Seals, sector: usize) -> bool
     requires { ⌜ sector < 17 ⌝ }
-    ensures { λ b. ⌜ WithSeals s (λ r. b ≡ writeProtected r sector) ⌝ }
+    ensures { λ b. ⌜ WithSeals s (λ r. b ≡ sealed r sector) ⌝ }
 {
     let lockdown = s.lockdown;
-    if is_marked(lockdown, sector) {
+    if has_bits(lockdown, sector) {
         return true;
     }
     let protection = s.protection;
-    if is_marked(protection, sector) {
+    if has_bits(protection, sector) {
         return is_guarded(s);
     }
     false
 }
 
 // The sectors of the part that are not sealed: bit i is sector i.
-pub fn unprotected_set(g: Geometry, seals: Seals) -> u32
+pub fn unsealed_set(g: Geometry, seals: Seals) -> u32
     requires { ⌜ Sized g (g .pages * g .size) ⌝ }
-    ensures { λ m. ⌜ WithSeals seals (λ r. m ≡ unprotectedSet g r) ⌝ }
+    ensures { λ m. ⌜ WithSeals seals (λ r. m ≡ unsealedSet g r) ⌝ }
 {
     let mut s = geometry::sector_count(g);
     let mut m: u32 = 0;
     while 0 < s {
         s -= 1;
         m = 2 * m;
-        if !is_write_protected(seals, s) {
+        if !is_sealed(seals, s) {
             m += 1;
         }
     }

@@ -26,7 +26,7 @@ use Rattle.registers.specs.declared.Operation.{Operation}
 use Rattle.registers.specs.declared.Operation.the-variants.{Idle, Program, EraseBlock}
 use Rattle.registers.specs.declared.Registers.{Registers}
 use Rattle.registers.specs.Operations.{placed, writes}
-use Rattle.registers.specs.Protection.{writeProtected}
+use Rattle.registers.specs.Protection.{sealed}
 use Rattle.registers.proofs.Operations.{writes-program, writes-block}
 use Rattle.registers.proofs.Places.{placed-known}
 use Rattle.control.specs.declared.Decision.{Decision}
@@ -154,7 +154,7 @@ starts g slot r f d page o e h u = go (isIdle (r .operation)) refl
   where
     row : r .operation ≡ Idle → Spares g slot (startedOn r page o .registers .operation)
     row i =
-        cases (λ (c : Decision). Spares g slot (c .registers .operation)) (writeProtected r (sectorOf page)) {x = ignored r} {y = started r o}
+        cases (λ (c : Decision). Spares g slot (c .registers .operation)) (sealed r (sectorOf page)) {x = ignored r} {y = started r o}
         (idle-spares g slot (r .operation) i) u
 
     go : (b : Bool) → isIdle (r .operation) ≡ b → Spares g slot (cond b (control g r f .registers .operation) Idle)

@@ -22,7 +22,7 @@ use Rattle.registers.specs.declared.Operation.the-variants.{Idle, Program, Eras
 use Rattle.registers.specs.declared.Registers.{Registers}
 use Rattle.registers.specs.Fields.{withOperation}
 use Rattle.registers.specs.Operations.{placed}
-use Rattle.registers.specs.Protection.{marked, guarded, writeProtected}
+use Rattle.registers.specs.Protection.{hasBits, guarded, sealed}
 use Rattle.registers.proofs.Places.{placed-sized}
 use Rattle.commands.specs.declared.Buffer.the-variants.{One}
 use Rattle.control.specs.declared.Decision.{Decision}
@@ -249,17 +249,17 @@ module _ (g : Geometry) (a : Asked) (log junk : ℕ) (oversize : Bool) (r : Regi
 
   -- the slot's sector is listed
   abbrev listing : Bool
-  listing = marked (r .protection) (sectorOf (8 * a .slot))
+  listing = hasBits (r .protection) (sectorOf (8 * a .slot))
 
   -- a call's first three frames, if the sector is not sealed
   module _ {m : Memory} {h : Holding} {fs : List (List ℕ)} {k : ℕ} {w : Verdict} (l : Lengths r) where
-    ask-lockdown : (p : Phase) → mainOf (a .kind) ≡ p → writeProtected r (sectorOf (8 * a .slot)) ≡ false
+    ask-lockdown : (p : Phase) → mainOf (a .kind) ≡ p → sealed r (sectorOf (8 * a .slot)) ≡ false
         → Leads (courseAt p 0 listing (guarded r)) m h fs k w → Leads (courseAt AskLockdown 0 listing (guarded r)) m h (registerFrame 0x35 ∷ fs) k w
-    unfolding isEnded isPoll frameOf shapeOf frameByte tabulate heardIn courseAfter takenIn writeProtected
+    unfolding isEnded isPoll frameOf shapeOf frameByte tabulate heardIn courseAfter takenIn sealed
     ask-lockdown p e u =
         let c = courseAt AskLockdown 0 listing (guarded r) in
         leads-plain (registerFrame 0x35) k refl refl (omega arith) (lockdown-keeps g r 0 0 0 (replicate 16 0)) (lockdown-memory g r m 0 0 0 (replicate 16 0))
-        ((λ i. checked (a .kind) c (registerHeard (marked (lockdown-told m (l .lockdown) i) (sectorOf (8 * a .slot)))))
+        ((λ i. checked (a .kind) c (registerHeard (hasBits (lockdown-told m (l .lockdown) i) (sectorOf (8 * a .slot)))))
         ∙ other _ (ended Answers.Sealed c) (at (mainOf (a .kind)) 0 c) u ∙ (λ i. at (e i) 0 c)) refl
 
     ask-protection : Leads (courseAt AskLockdown 0 listing (guarded r)) m h fs k w
@@ -267,10 +267,10 @@ module _ (g : Geometry) (a : Asked) (log junk : ℕ) (oversize : Bool) (r : Regi
     unfolding isEnded isPoll frameOf shapeOf frameByte tabulate heardIn courseAfter takenIn
     ask-protection =
         leads-plain (registerFrame 0x32) k refl refl (omega arith) (protection-keeps g r 0 0 0 (replicate 16 0)) (protection-memory g r m 0 0 0 (replicate 16 0))
-        (λ i. courseAt AskLockdown 0 (marked (protection-told m (l .protection) i) (sectorOf (8 * a .slot))) (guarded r)) refl
+        (λ i. courseAt AskLockdown 0 (hasBits (protection-told m (l .protection) i) (sectorOf (8 * a .slot))) (guarded r)) refl
 
   asked-first : {m : Memory} {h : Holding} {fs : List (List ℕ)} {k : ℕ} {w : Verdict} (p : Phase) → Lengths r
-      → ((c : Course) (o : Heard) → opened (a .kind) c o ≡ asking c o) → mainOf (a .kind) ≡ p → writeProtected r (sectorOf (8 * a .slot)) ≡ false
+      → ((c : Course) (o : Heard) → opened (a .kind) c o ≡ asking c o) → mainOf (a .kind) ≡ p → sealed r (sectorOf (8 * a .slot)) ≡ false
       → Leads (courseAt p 0 listing (guarded r)) m h fs k w
       → Leads (courseAt Opening 0 false false) m h (statusFrame ∷ registerFrame 0x32 ∷ registerFrame 0x35 ∷ fs) (suc k) w
   asked-first p l e f u next =
@@ -301,7 +301,7 @@ module _ (g : Geometry) (a : Asked) (log junk : ℕ) (oversize : Bool) (r : Regi
   record Room (n : ℕ) : Type 0 where
     known : placed n (r .operation) ≡ Known g
     few : 8 * a .slot + 8 ≤ g .pages
-    unsealed : writeProtected r (sectorOf (8 * a .slot)) ≡ false
+    unsealed : sealed r (sectorOf (8 * a .slot)) ≡ false
 
   program-sent : {fs : List (List ℕ)} {k : ℕ} {w : Verdict} (page n : ℕ) (listing mark : Bool) (m : Memory) (h : Holding) → Room n → page < 8
       → Leads (courseAt Between page listing mark) (completedMemory g (Program One (slotPage (a .slot) page)) m) h fs k w
@@ -355,7 +355,7 @@ module _ (g : Geometry) (a : Asked) (log junk : ℕ) (oversize : Bool) (r : Regi
   started-kept : (page block : ℕ) → completed (startedOn r page (EraseBlock block) .registers) ≡ r
   unfolding startedOn
   started-kept page block =
-      cases (λ (d : Decision). completed (d .registers) ≡ r) (writeProtected r (sectorOf page)) {x = ignored r} {y = started r (EraseBlock block)}
+      cases (λ (d : Decision). completed (d .registers) ≡ r) (sealed r (sectorOf page)) {x = ignored r} {y = started r (EraseBlock block)}
       (completed-idle r (y .0)) (completed-block (withOperation r (EraseBlock block)) block refl ∙ idle-again)
 
   erase-kept : (page : ℕ) → completed (control g r (eraseFrame g page) .registers) ≡ r
@@ -550,7 +550,7 @@ module _ (g : Geometry) (a : Asked) (log junk : ℕ) (oversize : Bool) (r : Regi
       wait-first 0 false false (courseAt Reading 0 false false) (λ i. opened (kind i) (courseAt Opening 0 false false) hears)
       (gets-sent kind false false m w known few 7 0 h refl ((λ i. judged g (kind i) h (pageOf g (slotPage (a .slot) 0) (m .array))) ∙ e))
 
-  wipe-sent : a .kind ≡ Wipe → (m : Memory) (h : Holding) (bytes : ℕ → ℕ → ℕ) → Lengths r → writeProtected r (sectorOf (8 * a .slot)) ≡ false
+  wipe-sent : a .kind ≡ Wipe → (m : Memory) (h : Holding) (bytes : ℕ → ℕ → ℕ) → Lengths r → sealed r (sectorOf (8 * a .slot)) ≡ false
       → Leads (courseAt Opening 0 false false) m h (listed g Wipe (a .slot) bytes) 2 (h .verdict)
   unfolding listed
   wipe-sent kind m h bytes l u =

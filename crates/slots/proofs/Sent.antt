@@ -26,7 +26,7 @@ use Rattle.registers.specs.declared.Operation.the-variants.{Program}
 use Rattle.registers.specs.declared.Registers.{Registers}
 use Rattle.registers.specs.Fields.{withOperation}
 use Rattle.registers.specs.Operations.{placed}
-use Rattle.registers.specs.Protection.{bitsOf, marked, guarded, writeProtected}
+use Rattle.registers.specs.Protection.{bitsOf, hasBits, guarded, sealed}
 use Rattle.registers.proofs.Places.{placed-known, placed-sized}
 use Rattle.control.specs.Control.{control, started, startedOn}
 use Rattle.control.specs.Starts.{Ready}
@@ -125,7 +125,7 @@ page-told g r m a page h y k l =
 
 -- the 83 of a page of the slot starts its program, if the slot's sector is not sealed
 pub program-starts : (g : Geometry) (n : ℕ) (r : Registers) (a : Asked) (page : ℕ) (h : Holding) → Ready r → placed n (r .operation) ≡ Known g → page < 8
-    → slotPage (a .slot) page < g .pages → writeProtected r (sectorOf (8 * a .slot)) ≡ false
+    → slotPage (a .slot) page < g .pages → sealed r (sectorOf (8 * a .slot)) ≡ false
     → control g r (frameIn g Programming a page h) ≡ started r (Program One (slotPage (a .slot) page))
 unfolding shapeOf frameByte tabulate
 program-starts g n r a page h y k s l u =
@@ -137,7 +137,7 @@ program-starts g n r a page h y k s l u =
     ∙ page-address g N l (placed-sized n (r .operation) g k .addressed) in
     program-obeyed g r (x / 65536 % 256) (x / 256 % 256) (x % 256) [] y
     ∙ ap (λ (q : ℕ). startedOn r q (Program One q)) e
-    ∙ started-open r N (Program One N) (ap (writeProtected r) (block-sector (a .slot) page s) ∙ u)
+    ∙ started-open r N (Program One N) (ap (sealed r) (block-sector (a .slot) page s) ∙ u)
 
 -- ---- 32 and 35
 
@@ -156,16 +156,16 @@ byte-free bytes told j f z e h = go (either-byte bytes j)
     go (inr q) = ap (λ (x : ℕ). not (eqb (f x) 0)) q ∙ ap (λ (x : ℕ). not (eqb x 0)) z
 
 -- a sector that the reply tells free is free
-marked-free : (bytes told : List ℕ) (s : ℕ) → s < 17 → ((j : ℕ) → j < 16 → getD told j 0 ≡ getD bytes j 255) → marked told s ≡ false → marked bytes s ≡ false
-unfolding marked bitsOf
-marked-free bytes told zero l e h = byte-free bytes told 0 (λ x. x / 64) refl (e 0 (lit< tt)) h
-marked-free bytes told (suc zero) l e h = byte-free bytes told 0 (λ x. x / 16 % 4) refl (e 0 (lit< tt)) h
-marked-free bytes told (suc (suc j)) l e h = byte-free bytes told (suc j) (λ x. x) refl (e (suc j) (omega arith)) h
+bits-free : (bytes told : List ℕ) (s : ℕ) → s < 17 → ((j : ℕ) → j < 16 → getD told j 0 ≡ getD bytes j 255) → hasBits told s ≡ false → hasBits bytes s ≡ false
+unfolding hasBits bitsOf
+bits-free bytes told zero l e h = byte-free bytes told 0 (λ x. x / 64) refl (e 0 (lit< tt)) h
+bits-free bytes told (suc zero) l e h = byte-free bytes told 0 (λ x. x / 16 % 4) refl (e 0 (lit< tt)) h
+bits-free bytes told (suc (suc j)) l e h = byte-free bytes told (suc j) (λ x. x) refl (e (suc j) (omega arith)) h
 
-register-free : (bytes reply : List ℕ) (s : ℕ) → s < 17 → reply ≡ replied 20 4 (onceData bytes) → marked (registerIn reply) s ≡ false → marked bytes s ≡ false
+register-free : (bytes reply : List ℕ) (s : ℕ) → s < 17 → reply ≡ replied 20 4 (onceData bytes) → hasBits (registerIn reply) s ≡ false → hasBits bytes s ≡ false
 unfolding registerIn
 register-free bytes reply s l e h =
-    marked-free bytes (tabulate 16 (λ j. getD reply (4 + j) 255)) s l
+    bits-free bytes (tabulate 16 (λ j. getD reply (4 + j) 255)) s l
     (λ j k.
     let i : 4 + j - 4 ≡ j = omega arith in
     getD-tabulate 16 (λ j. getD reply (4 + j) 255) j 0 k ∙ ap (λ (x : List ℕ). getD x (4 + j) 255) e
@@ -173,8 +173,8 @@ register-free bytes reply s l e h =
     h
 
 module _ (g : Geometry) (r : Registers) (m : Memory) (s : ℕ) (few : s < 17) (y : Ready r) where
-  pub protection-free : marked (registerIn (replyOf g r m (0x32 ∷ 0 ∷ 0 ∷ 0 ∷ replicate 16 0))) s ≡ false → marked (r .protection) s ≡ false
+  pub protection-free : hasBits (registerIn (replyOf g r m (0x32 ∷ 0 ∷ 0 ∷ 0 ∷ replicate 16 0))) s ≡ false → hasBits (r .protection) s ≡ false
   protection-free h = register-free (r .protection) (replyOf g r m (0x32 ∷ 0 ∷ 0 ∷ 0 ∷ replicate 16 0)) s few (reply-protection g r m 0 0 0 (replicate 16 0) y) h
 
-  pub lockdown-free : marked (registerIn (replyOf g r m (0x35 ∷ 0 ∷ 0 ∷ 0 ∷ replicate 16 0))) s ≡ false → marked (r .lockdown) s ≡ false
+  pub lockdown-free : hasBits (registerIn (replyOf g r m (0x35 ∷ 0 ∷ 0 ∷ 0 ∷ replicate 16 0))) s ≡ false → hasBits (r .lockdown) s ≡ false
   lockdown-free h = register-free (r .lockdown) (replyOf g r m (0x35 ∷ 0 ∷ 0 ∷ 0 ∷ replicate 16 0)) s few (reply-lockdown g r m 0 0 0 (replicate 16 0) y) h

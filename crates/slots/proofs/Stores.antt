@@ -24,7 +24,7 @@ use Rattle.registers.specs.declared.Operation.the-variants.{Idle, Program}
 use Rattle.registers.specs.declared.Registers.{Registers}
 use Rattle.registers.specs.Fields.{withOperation}
 use Rattle.registers.specs.Operations.{within, placed}
-use Rattle.registers.specs.Protection.{marked, guarded, writeProtected}
+use Rattle.registers.specs.Protection.{hasBits, guarded, sealed}
 use Rattle.registers.proofs.Places.{placed-known, known-placed}
 use Rattle.control.specs.declared.Decision.{Decision}
 use Rattle.control.specs.Control.{control, started}
@@ -140,7 +140,7 @@ weighed-done Answers.End k e = let z : _≡_ {A = ℕ} 0 1 = cc in absurd (omega
 
 module _ (g : Geometry) (v : Request) (plan : Plan g (v .asked)) where
   abbrev Unsealed : Registers → Type 0
-  Unsealed r = writeProtected r (sectorOf (8 * v .asked .slot)) ≡ false
+  Unsealed r = sealed r (sectorOf (8 * v .asked .slot)) ≡ false
 
   -- the first n pages are written
   abbrev pub Stored : ℕ → List ℕ → Type 0
@@ -167,7 +167,7 @@ module _ (g : Geometry) (v : Request) (plan : Plan g (v .asked)) where
   At Opening page listed heard cut r m h = plan .Opens r m × plan .Fresh 0 h
   At AskProtection page listed heard cut r m h = Ready r × (heard ≡ guarded r) × Left 0 (m .array) × plan .Fresh 0 h
   At AskLockdown page listed heard cut r m h =
-      Ready r × (heard ≡ guarded r) × (listed ≡ false → marked (r .protection) (sectorOf (8 * v .asked .slot)) ≡ false) × Left 0 (m .array) × plan .Fresh 0 h
+      Ready r × (heard ≡ guarded r) × (listed ≡ false → hasBits (r .protection) (sectorOf (8 * v .asked .slot)) ≡ false) × Left 0 (m .array) × plan .Fresh 0 h
   At Reading page listed heard cut r m h = Going page r m × plan .Fresh page h
   At Loading page listed heard cut r m h = Going page r m × plan .Filled page h
   At Programming page listed heard cut r m h = Going page r m × Loaded page m × plan .Fresh (page + 1) h
@@ -238,10 +238,10 @@ module _ (g : Geometry) (v : Request) (plan : Plan g (v .asked)) where
       (carry e f (λ t n. G (completed t) (completedMemory g (t .operation) n)) (idle-stays g r m G (u .0) base))
 
   -- a slot that the driver takes for unsealed is unsealed
-  free : (r : Registers) (s : ℕ) → marked (r .lockdown) s ≡ false → (marked (r .protection) s ≡ false) ⊎ (guarded r ≡ false) → writeProtected r s ≡ false
-  unfolding writeProtected
+  free : (r : Registers) (s : ℕ) → hasBits (r .lockdown) s ≡ false → (hasBits (r .protection) s ≡ false) ⊎ (guarded r ≡ false) → sealed r s ≡ false
+  unfolding sealed
   free r s e (inl f) = λ i. e i || (f i && guarded r)
-  free r s e (inr f) = (λ i. e i || (marked (r .protection) s && f i)) ∙ and-none (marked (r .protection) s)
+  free r s e (inr f) = (λ i. e i || (hasBits (r .protection) s && f i)) ∙ and-none (hasBits (r .protection) s)
     where
       and-none : (b : Bool) → (b && false) ≡ false
       and-none true = refl
@@ -284,8 +284,8 @@ module _ (g : Geometry) (v : Request) (plan : Plan g (v .asked)) where
       live AskLockdown p q refl (carry e f G base)
       (carry e f (λ t n. G (completed t) (completedMemory g (t .operation) n)) (idle-stays g r m G (u .0) base))
     where
-      either : (r : Registers) (s : ℕ) {listed heard : Bool} → heard ≡ guarded r → (listed ≡ false → marked (r .protection) s ≡ false)
-          → (listed ≡ false) ⊎ (heard ≡ false) → (marked (r .protection) s ≡ false) ⊎ (guarded r ≡ false)
+      either : (r : Registers) (s : ℕ) {listed heard : Bool} → heard ≡ guarded r → (listed ≡ false → hasBits (r .protection) s ≡ false)
+          → (listed ≡ false) ⊎ (heard ≡ false) → (hasBits (r .protection) s ≡ false) ⊎ (guarded r ≡ false)
       either r s e f (inl x) = inl (f x)
       either r s e f (inr x) = inr (sym e ∙ x)
 
@@ -383,7 +383,7 @@ module _ (g : Geometry) (v : Request) (plan : Plan g (v .asked)) where
           there j x ∙ s j (omega (arith, x))
 
   programming : (p : Open) (q : Closed) → Room g (v .asked .slot) (q .memory) → Of Along (inPhase Programming p) q → After Programming p q
-  unfolding At frameOf shapeOf frameByte tabulate heardIn courseAfter takenIn isEnded writeProtected
+  unfolding At frameOf shapeOf frameByte tabulate heardIn courseAfter takenIn isEnded sealed
   programming p q b u =
       let r = p .registers in
       let m = q .memory in
@@ -419,7 +419,7 @@ module _ (g : Geometry) (v : Request) (plan : Plan g (v .asked)) where
 
   -- its end seals nothing
   ended-free : (page : ℕ) (r : Registers) (m : Memory) → Unsealed r → Under page r m → Unsealed (completed r)
-  unfolding writeProtected
+  unfolding sealed
   ended-free page r m s (inl x) = subst Unsealed (sym (completed-idle r (x .0))) s
   ended-free page r m s (inr x) = subst Unsealed (sym (completed-program r One (slotPage (v .asked .slot) page) (x .0))) s
 

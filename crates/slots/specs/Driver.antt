@@ -9,7 +9,7 @@ use lib.Dec.{eqb, ltb, leb}
 use Rattle.slices.specs.Lists.{tabulate, splice}
 use Rattle.geometry.specs.declared.Geometry.{Geometry}
 use Rattle.geometry.specs.Sectors.{sectorOf}
-use Rattle.registers.specs.Protection.{marked}
+use Rattle.registers.specs.Protection.{hasBits}
 use Rattle.state.specs.declared.Answer.{Answer}
 use Rattle.state.specs.declared.Answer.the-variants as Answers
 use Rattle.slots.specs.declared.Course.{Course}
@@ -93,8 +93,8 @@ registerIn reply = tabulate 16 (λ j. getD reply (4 + j) 255)
 
 unfoldable pub heardIn : Phase → ℕ → List ℕ → Heard
 heardIn Opening slot reply = statusHeard (getD reply 1 255)
-heardIn AskProtection slot reply = registerHeard (marked (registerIn reply) (sectorOf (8 * slot)))
-heardIn AskLockdown slot reply = registerHeard (marked (registerIn reply) (sectorOf (8 * slot)))
+heardIn AskProtection slot reply = registerHeard (hasBits (registerIn reply) (sectorOf (8 * slot)))
+heardIn AskLockdown slot reply = registerHeard (hasBits (registerIn reply) (sectorOf (8 * slot)))
 heardIn Reading slot reply = registerHeard false
 heardIn Loading slot reply = registerHeard false
 heardIn Programming slot reply = registerHeard false

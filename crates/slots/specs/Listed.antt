@@ -11,7 +11,7 @@ use Rattle.geometry.specs.declared.Part.the-variants.{Known}
 use Rattle.geometry.specs.Parts.{pageOf}
 use Rattle.geometry.specs.Sectors.{sectorOf}
 use Rattle.registers.specs.declared.Registers.{Registers}
-use Rattle.registers.specs.Protection.{writeProtected}
+use Rattle.registers.specs.Protection.{sealed}
 use Rattle.control.specs.Starts.{Ready, Lengths}
 use Rattle.slots.specs.declared.Kind.{Kind}
 use Rattle.slots.specs.declared.Kind.the-variants.{Put, Patch, Get, Wipe}
@@ -134,10 +134,10 @@ pollsListed Wipe = 2
 
 -- the slot's sector is not sealed, where the call asks
 abbrev pub Unsealed : Kind → Registers → ℕ → Type 0
-Unsealed Put r slot = writeProtected r (sectorOf (8 * slot)) ≡ false
-Unsealed Patch r slot = writeProtected r (sectorOf (8 * slot)) ≡ false
+Unsealed Put r slot = sealed r (sectorOf (8 * slot)) ≡ false
+Unsealed Patch r slot = sealed r (sectorOf (8 * slot)) ≡ false
 Unsealed Get r slot = Unit {0}
-Unsealed Wipe r slot = writeProtected r (sectorOf (8 * slot)) ≡ false
+Unsealed Wipe r slot = sealed r (sectorOf (8 * slot)) ≡ false
 
 -- nothing stands in the call's way: a known part, the chip idle and awake, its registers as long as they are
 pub record Undisturbed (g : Geometry) (k : Kind) (slot : ℕ) (s : State) : Type 0 where

@@ -26,7 +26,7 @@ use Rattle.registers.specs.declared.Operation.{Operation}
 use Rattle.registers.specs.declared.Operation.the-variants.{Idle, Program, EraseBlock}
 use Rattle.registers.specs.declared.Registers.{Registers}
 use Rattle.registers.specs.Operations.{bufferUsed, runOf}
-use Rattle.registers.specs.Protection.{writeProtected}
+use Rattle.registers.specs.Protection.{sealed}
 use Rattle.control.specs.declared.Action.the-variants as A
 use Rattle.control.specs.declared.Decision.{Decision}
 use Rattle.control.specs.Control.{decided, ignored, startedOn, rowDecided, rowOf, control}
@@ -102,9 +102,9 @@ module _ (g : Geometry) (r : Registers) (m : Memory) where
   -- a program or erase only starts
   started-silent : (page : ℕ) (o : Operation) (bytes : List ℕ) → acted g (startedOn r page o .action) bytes m ≡ m
   unfolding startedOn
-  started-silent page o bytes = go (writeProtected r (sectorOf page))
+  started-silent page o bytes = go (sealed r (sectorOf page))
     where
-      go : (b : Bool) → acted g (cond b (ignored r) (decided (record { protection = r .protection; lockdown = r .lockdown; user = r .user; factory = r .factory; programmed = r .programmed; enabled = r .enabled; wp = r .wp; deep = r .deep; operation = o }) A.Silent 0) .action) bytes m ≡ m
+      go : (b : Bool) → acted g (cond b (ignored r) (decided (record { protection = r .protection; lockdown = r .lockdown; user = r .user; factory = r .factory; used = r .used; protect = r .protect; wp = r .wp; deep = r .deep; operation = o }) A.Silent 0) .action) bytes m ≡ m
       go true = silent bytes
       go false = silent bytes
 

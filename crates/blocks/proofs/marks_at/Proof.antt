@@ -51,10 +51,10 @@ returns c = λ i.
           record {
             protection = c .before .before .before .before .before .before .before .before .before .before .part16 .ensures i;
             lockdown = c .before .before .before .before .before .before .before .before .before .part162 .ensures i;
-            enabled = c .before .before .before .before .before .before .before .is-set .ensures i;
+            protect = c .before .before .before .before .before .before .before .is-set .ensures i;
             wp = c .before .before .before .before .before .is-set2 .ensures i;
           };
-      programmed = c .before .before .before .is-set3 .ensures i;
+      used = c .before .before .before .is-set3 .ensures i;
       deep = c .before .is-set4 .ensures i;
       usage = (c .usage-of .ensures ∙ ap usageOf (c .before .before .before .before .before .before .before .before .before .before .before .before .pre .1)) i;
     }

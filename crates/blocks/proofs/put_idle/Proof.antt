@@ -38,7 +38,7 @@ unfolding headBytes headOf dataBytes
 returns c =
     let a = c .before .before .before .before .before .before .before .before .before .before .before .before .args in
     let b = a .block .now in
-    let f = flagged (a .programmed) (a .enabled) (a .wp) (a .deep) in
+    let f = flagged (a .used) (a .protect) (a .wp) (a .deep) in
     c .before .before .clear-data .ensures
     ∙ ap (λ (t : List ℕ). splice 172 (dataBytes Idle) t) (c .before .before .before .before .before .before .put .ensures ∙ ap (λ (l : List ℕ). splice 160 l b) (c .before .before .before .before .before .before .before .before .before .head-bytes .ensures ∙ ap (headBytes f) (c .before .before .before .before .before .before .before .before .before .before .headed .ensures)))
     ∙ sym (splice-append 160 (headBytes f (headOf Idle)) (dataBytes Idle) b)

@@ -28,7 +28,7 @@ returns : tie.Need-returns
 returns c =
     let a = c .before .before .before .before .before .before .before .args in
     c .before .before .put-idle .ensures
-    ∙ ap (λ (o : Operation). splice 160 (headBytes (flagged (a .programmed) (a .enabled) (a .wp) (a .deep)) (headOf o) ++ dataBytes o) (a .block .now))
+    ∙ ap (λ (o : Operation). splice 160 (headBytes (flagged (a .used) (a .protect) (a .wp) (a .deep)) (headOf o) ++ dataBytes o) (a .block .now))
     (sym (c .before .before .before .before .enum-told .given .1))
 
 head-requires : tie.Need-head-requires
@@ -54,7 +54,7 @@ unfolding headBytes
 returns-2 c =
     let a = c .before .before .before .before .before .before .before .before .before .before .before .before .before .args in
     let b = a .block .now in
-    let f = flagged (a .programmed) (a .enabled) (a .wp) (a .deep) in
+    let f = flagged (a .used) (a .protect) (a .wp) (a .deep) in
     c .before .before .put-data .ensures
     ∙ ap (λ (t : List ℕ). splice 172 (dataBytes (a .o)) t) (c .before .before .before .before .before .before .put .ensures ∙ ap (λ (l : List ℕ). splice 160 l b) (c .before .before .before .before .before .before .before .before .before .head-bytes .ensures ∙ ap (headBytes f) (c .before .before .before .before .before .before .before .before .before .before .head .ensures)))
     ∙ sym (splice-append 160 (headBytes f (headOf (a .o))) (dataBytes (a .o)) b)

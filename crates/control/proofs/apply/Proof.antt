@@ -17,8 +17,8 @@ with-operation-requires c κs = search needs
 enum-known-c-2 : tie.Need-enum-known-c-2
 enum-known-c-2 c = search needs
 
-with-enabled-requires : tie.Need-with-enabled-requires
-with-enabled-requires c κs = search needs
+with-protect-requires : tie.Need-with-protect-requires
+with-protect-requires c κs = search needs
 
 enum-known-c-3 : tie.Need-enum-known-c-3
 enum-known-c-3 c = search needs
@@ -36,7 +36,7 @@ returns-2 c = rw (c .before .before .c .given .1) (c .with-operation .ensures)
 
 returns-3 : tie.Need-returns-3
 unfolding changed
-returns-3 c = rw (c .before .before .c2 .given .1) (c .with-enabled .ensures)
+returns-3 c = rw (c .before .before .c2 .given .1) (c .with-protect .ensures)
 
 returns-4 : tie.Need-returns-4
 unfolding changed
@@ -50,7 +50,7 @@ apply-spec =
     enum-known-c
     with-operation-requires
     enum-known-c-2
-    with-enabled-requires
+    with-protect-requires
     enum-known-c-3
     with-deep-requires
     returns

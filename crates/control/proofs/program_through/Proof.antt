@@ -18,8 +18,8 @@ page-named-requires c κs = search needs
 sector-of-requires : tie.Need-sector-of-requires
 sector-of-requires c κs = search needs
 
-is-write-protected-requires : tie.Need-is-write-protected-requires
-is-write-protected-requires c κs = search needs
+is-sealed-requires : tie.Need-is-sealed-requires
+is-sealed-requires c κs = search needs
 
 ignore-requires : tie.Need-ignore-requires
 ignore-requires c κs = search needs
@@ -33,7 +33,7 @@ returns c = let s = c .before .before .before .before .before .before .before .a
     rw (c .ignore .ensures)
     (through-sealed r (s .buffer) page (byteAt (s .g) n) (s .lead)
     (tested r page (c .before .before .before .sector-of .ensures .0 ∙ ap sectorOf (c .before .before .before .before .before .page-named .ensures .0))
-    (c .before .before .is-write-protected .ensures r (seals-of r (s .m) k)) (c .before .if1 .taken)))
+    (c .before .before .is-sealed .ensures r (seals-of r (s .m) k)) (c .before .if1 .taken)))
 
 byte-named-requires : tie.Need-byte-named-requires
 byte-named-requires c κs = search needs
@@ -50,7 +50,7 @@ returns-2 c = let s = c .before .before .before .before .before .before .before 
     rw (c .rule .ensures, c .before .byte-named .ensures .0, c .before .before .before .before .before .before .page-named .ensures .0)
     (through-open r (s .buffer) page (byteAt (s .g) n) (s .lead)
     (tested r page (c .before .before .before .before .sector-of .ensures .0 ∙ ap sectorOf (c .before .before .before .before .before .before .page-named .ensures .0))
-    (c .before .before .before .is-write-protected .ensures r (seals-of r (s .m) k)) (c .before .before .if1 .left)))
+    (c .before .before .before .is-sealed .ensures r (seals-of r (s .m) k)) (c .before .before .if1 .left)))
 
 pub program-through-spec : {M : Type 1} → statement M
 program-through-spec =
@@ -58,7 +58,7 @@ program-through-spec =
     (tie.spec
     page-named-requires
     sector-of-requires
-    is-write-protected-requires
+    is-sealed-requires
     ignore-requires
     returns
     byte-named-requires

@@ -110,8 +110,8 @@ enum-told-7 c = search needs
 enum-told-8 : tie.Need-enum-told-8
 enum-told-8 c = search needs
 
-disable-protection-requires : tie.Need-disable-protection-requires
-disable-protection-requires c κs = search needs
+protect-off-requires : tie.Need-protect-off-requires
+protect-off-requires c κs = search needs
 
 enum-told-9 : tie.Need-enum-told-9
 enum-told-9 c = search needs
@@ -242,7 +242,7 @@ returns-15 c = λ r k. rw (c .before .enum-told7 .given .1, c .rule .ensures)
 
 returns-16 : tie.Need-returns-16
 unfolding rowDecided
-returns-16 c = λ r k. rw (c .before .enum-told8 .given .1) (c .disable-protection .ensures r k)
+returns-16 c = λ r k. rw (c .before .enum-told8 .given .1) (c .protect-off .ensures r k)
 
 returns-17 : tie.Need-returns-17
 unfolding rowDecided
@@ -327,7 +327,7 @@ row-spec =
     enum-told-7
     rule-requires
     enum-told-8
-    disable-protection-requires
+    protect-off-requires
     enum-told-9
     erase-protection-requires
     enum-told-10

@@ -12,8 +12,8 @@ use Rattle.control.proofs.start_on.Tie as tie
 sector-of-requires : tie.Need-sector-of-requires
 sector-of-requires c κs = search needs
 
-is-write-protected-requires : tie.Need-is-write-protected-requires
-is-write-protected-requires c κs = search needs
+is-sealed-requires : tie.Need-is-sealed-requires
+is-sealed-requires c κs = search needs
 
 ignore-requires : tie.Need-ignore-requires
 ignore-requires c κs = search needs
@@ -22,7 +22,7 @@ returns : tie.Need-returns
 unfolding applied changed
 returns c = let s = c .before .before .before .before .before .args in
     λ r k.
-    let e = tested r (s .page) (c .before .before .before .sector-of .ensures .0) (c .before .before .is-write-protected .ensures r (seals-of r (s .m) k)) (c .before .if1 .taken) in
+    let e = tested r (s .page) (c .before .before .before .sector-of .ensures .0) (c .before .before .is-sealed .ensures r (seals-of r (s .m) k)) (c .before .if1 .taken) in
     rw (c .ignore .ensures) (sym (started-sealed r (s .page) (s .o) e))
 
 start-requires : tie.Need-start-requires
@@ -32,7 +32,7 @@ returns-2 : tie.Need-returns-2
 unfolding applied changed
 returns-2 c = let s = c .before .before .before .before .before .args in
     λ r k.
-    let e = tested r (s .page) (c .before .before .before .sector-of .ensures .0) (c .before .before .is-write-protected .ensures r (seals-of r (s .m) k)) (c .before .if1 .left) in
+    let e = tested r (s .page) (c .before .before .before .sector-of .ensures .0) (c .before .before .is-sealed .ensures r (seals-of r (s .m) k)) (c .before .if1 .left) in
     rw (c .start .ensures) (sym (started-open r (s .page) (s .o) e))
 
 pub start-on-spec : {M : Type 1} → statement M
@@ -40,7 +40,7 @@ start-on-spec =
     tie.close
     (tie.spec
     sector-of-requires
-    is-write-protected-requires
+    is-sealed-requires
     ignore-requires
     returns
     start-requires

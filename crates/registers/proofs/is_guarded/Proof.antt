@@ -9,12 +9,12 @@ use Rattle.registers.proofs.is_guarded.Tie as tie
 returns : tie.Need-returns
 returns c =
     let s = c .before .args .s in
-    λ r e. sym (ap (λ (x : Seals). x .enabled || not (x .wp)) e ∙ (λ i. c .if1 .taken i || not (s .wp)))
+    λ r e. sym (ap (λ (x : Seals). x .protect || not (x .wp)) e ∙ (λ i. c .if1 .taken i || not (s .wp)))
 
 returns-2 : tie.Need-returns-2
 returns-2 c =
     let s = c .before .before .args .s in
-    λ r e. sym (ap (λ (x : Seals). x .enabled || not (x .wp)) e ∙ (λ i. c .before .if1 .left i || not (s .wp)))
+    λ r e. sym (ap (λ (x : Seals). x .protect || not (x .wp)) e ∙ (λ i. c .before .if1 .left i || not (s .wp)))
 
 pub is-guarded-spec : {M : Type 1} → statement M
 is-guarded-spec = tie.close (tie.spec returns returns-2)

@@ -1,17 +1,17 @@
--- `registers::unprotected_set` meets its contract. The loop's invariant: m is the set of the sectors from s on. Assumes nothing.
+-- `registers::unsealed_set` meets its contract. The loop's invariant: m is the set of the sectors from s on. Assumes nothing.
 use borrow.Author.Needs.{needs}
 use borrow.Author.Tests.{not-true, not-false}
 use mathlib.Core.Path.{_≡_, refl, sym, _∙_}
 use Prim.Native.Nat.{_-_, _≤_}
 use native.Mathlib.Omega.{arith}
 use Rattle.geometry.proofs.Sectors.{sector-most}
-use Rattle.registers.specs.Protection.{unprotectedFrom}
+use Rattle.registers.specs.Protection.{unsealedFrom}
 use Rattle.registers.proofs.Sets.{bare, set-alike, from-none, from-most, from-free, from-sealed, from-all}
-use Rattle.registers.proofs.unprotected_set.Statement.{statement}
-use Rattle.registers.proofs.unprotected_set.Tie as tie
+use Rattle.registers.proofs.unsealed_set.Statement.{statement}
+use Rattle.registers.proofs.unsealed_set.Tie as tie
 
 abbrev Inv-loop : tie.InvT-loop
-Inv-loop z s₀ m₀ s m = (s ≤ s₀) × (m ≡ unprotectedFrom (bare z) (s₀ - s) s)
+Inv-loop z s₀ m₀ s m = (s ≤ s₀) × (m ≡ unsealedFrom (bare z) (s₀ - s) s)
 
 abbrev μ-loop : tie.MeasureT-loop
 μ-loop z s₀ m₀ s m = s
@@ -32,8 +32,8 @@ mul-m c =
     let n = c .before .before .sector-count in
     omega (arith, from-most (bare (s .args .seals)) (n .result - l .s) (l .s) (omega (arith, sector-most (s .args .g) (s .pre .few))))
 
-is-write-protected-requires : tie.Need-is-write-protected-requires Inv-loop μ-loop
-is-write-protected-requires c κs = let s = c .before .before .before in omega (arith, sector-most (s .args .g) (s .pre .few))
+is-sealed-requires : tie.Need-is-sealed-requires Inv-loop μ-loop
+is-sealed-requires c κs = let s = c .before .before .before in omega (arith, sector-most (s .args .g) (s .pre .few))
 
 add-m : tie.Need-add-m Inv-loop μ-loop
 add-m c =
@@ -48,7 +48,7 @@ loop-less c = search needs
 loop-again : tie.Need-loop-again Inv-loop μ-loop
 loop-again c =
     let l = c .before .before .before .loop in
-    let p = c .before .is-write-protected in
+    let p = c .before .is-sealed in
     let n = c .before .before .before .before .sector-count .result in
     let e = sym (p .ensures (bare (c .before .before .before .before .before .args .seals)) refl) ∙ not-true (p .result) (c .if1 .taken) in
     (omega arith, from-free (bare (c .before .before .before .before .before .args .seals)) n (l .s) (l .m) (omega arith) (omega arith) e (l .inv .1))
@@ -59,7 +59,7 @@ loop-less-2 c = search needs
 loop-again-2 : tie.Need-loop-again-2 Inv-loop μ-loop
 loop-again-2 c =
     let l = c .before .before .before .loop in
-    let p = c .before .is-write-protected in
+    let p = c .before .is-sealed in
     let n = c .before .before .before .before .sector-count .result in
     let e = sym (p .ensures (bare (c .before .before .before .before .before .args .seals)) refl) ∙ not-false (p .result) (c .if1 .left) in
     (omega arith, from-sealed (bare (c .before .before .before .before .before .args .seals)) n (l .s) (l .m) (omega arith) (omega arith) e (l .inv .1))
@@ -71,8 +71,8 @@ returns c =
     let l = c .before .loop in
     λ r e. from-all (s .g) (bare (s .seals)) (n .result) (l .s) (l .m) (n .ensures) (omega arith) (l .inv .1) ∙ set-alike (s .g) r (s .seals) e
 
-pub unprotected-set-spec : {M : Type 1} → statement M
-unprotected-set-spec =
+pub unsealed-set-spec : {M : Type 1} → statement M
+unsealed-set-spec =
     tie.close
     (tie.spec
     Inv-loop
@@ -81,7 +81,7 @@ unprotected-set-spec =
     loop-holds
     sub-s
     mul-m
-    is-write-protected-requires
+    is-sealed-requires
     add-m
     loop-less
     loop-again

@@ -1,4 +1,4 @@
--- `driver::is_marked` meets its contract: each sector's bits are those of the register's sixteen bytes in the reply.
+-- `driver::has_bits` meets its contract: each sector's bits are those of the register's sixteen bytes in the reply.
 -- Assumes nothing.
 use mathlib.Core.Bool.{not}
 use mathlib.Core.Path.{ap, _∙_}
@@ -8,10 +8,10 @@ use lib.Dec.{eqb}
 use borrow.Author.Needs.{needs}
 use Rattle.slices.specs.Lists.{tabulate}
 use Rattle.slots.specs.Driver.{registerIn}
-use Rattle.registers.specs.Protection.{marked, bitsOf}
-use Rattle.driver.proofs.Pages.{marked-high}
-use Rattle.driver.proofs.is_marked.Statement.{statement}
-use Rattle.driver.proofs.is_marked.Tie as tie
+use Rattle.registers.specs.Protection.{hasBits, bitsOf}
+use Rattle.driver.proofs.Pages.{set-high}
+use Rattle.driver.proofs.has_bits.Statement.{statement}
+use Rattle.driver.proofs.has_bits.Tie as tie
 
 byte-or-requires : tie.Need-byte-or-requires
 byte-or-requires c κs = search needs
@@ -26,21 +26,21 @@ byte-or-requires-3 : tie.Need-byte-or-requires-3
 byte-or-requires-3 c κs = search needs
 
 returns : tie.Need-returns
-unfolding marked bitsOf registerIn tabulate
+unfolding hasBits bitsOf registerIn tabulate
 returns c = rw (c .before .match .keys1, c .byte-or .ensures)
 
 returns-2 : tie.Need-returns-2
-unfolding marked bitsOf registerIn tabulate
+unfolding hasBits bitsOf registerIn tabulate
 returns-2 c = rw (c .before .match .keys2, c .byte-or2 .ensures)
 
 returns-3 : tie.Need-returns-3
 returns-3 c =
     let s = c .before .before .before in
     let a = s .args in
-    ap (λ (x : ℕ). not (eqb x 0)) (c .byte-or3 .ensures) ∙ marked-high (a .reply .now) (a .sector) (omega arith) (s .pre)
+    ap (λ (x : ℕ). not (eqb x 0)) (c .byte-or3 .ensures) ∙ set-high (a .reply .now) (a .sector) (omega arith) (s .pre)
 
-pub is-marked-spec : {M : Type 1} → statement M
-is-marked-spec =
+pub has-bits-spec : {M : Type 1} → statement M
+has-bits-spec =
     tie.close
     (tie.spec
     byte-or-requires
