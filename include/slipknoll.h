@@ -25,7 +25,7 @@
  * examples/c/recipes.c uses all three, and says how to compile it.
  *
  * Answers. A function that returns uint8_t returns the number of an answer in
- * 01's table. 0 is accepted. With 1 to 7 the call changed nothing: record,
+ * 01's table (the driver's also SLIPKNOLL_RUNNING: no answer yet). 0 is accepted. With 1 to 7 the call changed nothing: record,
  * array, reply, log and get buffer are as they were, byte for byte. 8 to 13,
  * which only the slot calls and the driver have, end a call that was under
  * way; what its frames have done stays.
@@ -103,6 +103,8 @@ extern "C" {
 #define SLIPKNOLL_BLANK 12
 /* end: the patch would end beyond the stored length */
 #define SLIPKNOLL_END 13
+/* Of slipknoll_driver_answer alone: the call has not ended, there is no answer. */
+#define SLIPKNOLL_RUNNING 255
 
 /*
  * ---- The record: where each field begins.
@@ -378,21 +380,35 @@ uint8_t slipknoll_raw(uint8_t *record, uint8_t *array, size_t array_len,
  *     slipknoll_driver_start_put(state, SLIPKNOLL_ARRAY_LEN, slot, 100, recipe, recipe_len);
  *     len = slipknoll_driver_frame(state, recipe, recipe_len, staged, frame);
  *     while (len != 0) {
- *         got = exchange(frame, len, reply);        // yours; see below
+ *         if (!exchange(frame, len, reply, &got))   // yours; see below
+ *             break;                                // the frame may be lost: give up
  *         len = slipknoll_driver_next(state, recipe, recipe_len, reply, got, staged, frame);
  *     }
- *     answer = slipknoll_driver_answer(state);      // 0, 1, 3 to 5, 8 to 10, 12, 13
+ *     answer = slipknoll_driver_answer(state);      // 0, 1, 3 to 5, 8 to 10, 12, 13;
+ *                                                   // given up: SLIPKNOLL_RUNNING
  *
  * exchange() makes one chip-select period of the frame: CS low, len bytes out
  * on SI while len bytes come in on SO, CS high. Programs and erases begin when
  * CS goes high, so a frame may not be split, joined with another, or sent twice.
  * The reply is all that came in, from the first byte on, so that it lines up
  * with the frame: the status stands in reply[1], a page read in reply[8] to
- * reply[271]. Bytes behind the frame's length are not looked at. If bytes are
- * missing, hand over those that came, none at all if need be: a missing byte
- * counts as FFh, so that a lost status ends the call with 8 and lost registers
- * with 10. Lost bytes of a page (D2) cannot be told from FFh: if the bridge
- * knows that a page came short, give up the call, which is done by not going on.
+ * reply[271]. Bytes behind the frame's length are not looked at.
+ *
+ * A link that loses bytes. What is not there counts as FFh; so a status that
+ * did not come ends the call with 8 and registers that did not come with 10.
+ * Two losses the driver cannot see, and the caller must end the call by not
+ * going on with it:
+ *
+ *   - A frame that may not have reached the chip whole. The replies to 84, 83
+ *     and 50 carry nothing that is looked at: over a lost 84 or 83 the driver
+ *     would go on, and a put would answer 0 with the slot holding something
+ *     else. Such a frame may not be sent again either.
+ *   - A reply to D2 that may be short or damaged. A get would hand over bytes
+ *     that are not the slot's; a patch would program them back into it.
+ *
+ * Replies to D7, 32 and 35 that came short may be handed over as they are, none
+ * at all if need be; a link that can change bits unseen needs a checksum of its
+ * own. A call given up so has written any number of pages: start it again.
  *
  * Waiting. A busy chip is asked again at once, poll_limit times. 83 is busy for
  * up to 35 ms and 50 for up to 75 ms (data sheet 002): let exchange() pause
@@ -404,9 +420,9 @@ uint8_t slipknoll_raw(uint8_t *record, uint8_t *array, size_t array_len,
  * without pauses that depend on the recipe.
  *
  * At the end. After a put, patch or wipe the answer is all. After a get with
- * answer 0 the slot's bytes are in `staged`: the recipe's length n is
- * staged[1] * 256 + staged[2], at most 2,109, and the recipe is staged[3] to
- * staged[2 + n]. With any other answer `staged` means nothing.
+ * answer 0 the recipe stands in `staged` from staged[3] on, and
+ * slipknoll_driver_count tells its length. With any other answer `staged` means
+ * nothing.
  *
  * If the supply or the link is lost in between, the slot may hold pages of both
  * recipes, or of none. Start the call again from its beginning.
@@ -415,7 +431,11 @@ uint8_t slipknoll_raw(uint8_t *record, uint8_t *array, size_t array_len,
  * The driver does not look at status bit 0: a chip that is set to 256-byte pages
  * has a 1 there and must not be driven by it.
  *
- * Any bytes of `state` are a state: a made-up one gives frames or the end.
+ * Any bytes of `state` are a state. One that no call comes to, made up or
+ * damaged, has ended, with 1, 3 or 4: it gives no frame. Any other gives frames
+ * of the call that it names, none but those, and ends within that call's bound
+ * whatever comes back. The bytes that name the call differ in at least four
+ * bits, so that a flipped bit does not make a get a wipe.
  */
 
 /*
@@ -448,8 +468,17 @@ size_t slipknoll_driver_next(uint8_t *state, const uint8_t *payload, size_t payl
                              const uint8_t *reply, size_t reply_len, uint8_t *staged,
                              uint8_t *frame);
 
-/* The answer, once there is no frame left to send. */
+/*
+ * The answer, once there is no frame left to send; SLIPKNOLL_RUNNING (255) while
+ * there is one.
+ */
 uint8_t slipknoll_driver_answer(const uint8_t *state);
+
+/*
+ * Of a get that has ended with 0 the recipe's length, 0 to 2,109: the recipe is
+ * staged[3] to staged[2 + n]. 0 of any other call, and before the end.
+ */
+size_t slipknoll_driver_count(const uint8_t *state, const uint8_t *staged);
 
 #ifdef __cplusplus
 }

@@ -53,22 +53,24 @@ static uint8_t get(uint8_t *buffer, size_t *len)
 /* ---- The slot driver. */
 
 /*
- * One chip-select period: the frame goes out while the reply comes in. For a
- * real chip this function is another, and nothing else. This chip is ready at
- * the second poll after each command.
+ * One chip-select period: the frame goes out while the reply comes in. False if
+ * the frame may not have arrived, or a page read may be damaged. For a real
+ * chip this function is another, and nothing else. This chip is ready at the
+ * second poll after each command.
  */
-static size_t exchange(const uint8_t *frame, size_t len, uint8_t *reply)
+static bool exchange(const uint8_t *frame, size_t len, uint8_t *reply)
 {
     if (slipknoll_send(record, array, sizeof array, frame, len, reply, len) != SLIPKNOLL_ACCEPTED)
-        return 0;
+        return false;
     if (frame[0] == 0xD7)
         slipknoll_end_busy(record, array, sizeof array);
-    return len;
+    return true;
 }
 
 /*
- * Goes on with a call that was started, to its end, and returns its answer.
- * `payload` is that of the start; what a get has read is in `staged`.
+ * Goes on with a call that was started, to its end, and returns its answer;
+ * SLIPKNOLL_RUNNING if it was given up. `payload` is that of the start; what a
+ * get has read is in `staged`.
  */
 static uint8_t drive(const char *name, uint8_t *state, const uint8_t *payload, size_t payload_len,
                      uint8_t *staged)
@@ -78,10 +80,12 @@ static uint8_t drive(const char *name, uint8_t *state, const uint8_t *payload, s
     size_t len = slipknoll_driver_frame(state, payload, payload_len, staged, frame);
 
     while (len != 0) {
-        size_t got = exchange(frame, len, reply);
+        size_t sent = len;
+        if (!exchange(frame, sent, reply))
+            break;
         frames += 1;
-        bytes += (unsigned)len;
-        len = slipknoll_driver_next(state, payload, payload_len, reply, got, staged, frame);
+        bytes += (unsigned)sent;
+        len = slipknoll_driver_next(state, payload, payload_len, reply, sent, staged, frame);
     }
     printf("driver %s: answer %u, frames %u, bytes on the wire %u\n", name,
            (unsigned)slipknoll_driver_answer(state), frames, bytes);
@@ -105,11 +109,8 @@ static uint8_t drive_get(uint8_t *buffer, size_t *len)
 
     slipknoll_driver_start_get(state, sizeof array, SLOT, POLL_LIMIT, SLIPKNOLL_RECIPE_MAX);
     answer = drive("get", state, none, 0, staged);
-    *len = 0;
-    if (answer == SLIPKNOLL_ACCEPTED) {
-        *len = (size_t)staged[1] * 256 + staged[2];
-        memcpy(buffer, staged + 3, *len);
-    }
+    *len = slipknoll_driver_count(state, staged);
+    memcpy(buffer, staged + 3, *len);
     return answer;
 }
 

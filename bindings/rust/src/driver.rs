@@ -29,7 +29,7 @@ use crate::{Error, Part, DRIVER_FRAME_LEN, RECIPE_MAX, SLOT_LEN};
 /// # Ok::<(), Box<dyn std::error::Error>>(())
 /// ```
 ///
-/// By hand, where the link has its own loop or replies may come short:
+/// By hand, where the link has its own loop or a status may come short:
 ///
 /// ```
 /// # use slipknoll::{Driver, Error, Part};
@@ -134,8 +134,11 @@ impl<'a> Driver<'a> {
     /// Takes the reply to the frame: all bytes that came in, from the first on.
     ///
     /// A byte that is missing counts as FFh, so that a lost status ends the
-    /// call with `Chip` and lost registers with `Sealed`. Lost bytes of a page
-    /// cannot be told from FFh: if the link knows of any, give up the call.
+    /// call with `Chip` and lost registers with `Sealed`. Two losses cannot be
+    /// seen here and end the call by not going on with it: a frame that may
+    /// not have reached the chip whole (a put over a lost 84 or 83 would come
+    /// to Ok), and a reply to D2 that may be short or damaged (a patch would
+    /// program it back).
     pub fn take(&mut self, reply: &[u8]) {
         self.frame_len = driver::next(
             &mut self.state,
@@ -151,10 +154,7 @@ impl<'a> Driver<'a> {
     /// Errors: `Chip`, `Busy`, `Sealed` (not of a get), `Blank` (patch and get)
     /// and `End` (patch).
     pub fn answer(&self) -> Option<Result<(), Error>> {
-        match self.frame_len {
-            0 => Some(accepted(driver::answer(&self.state))),
-            _ => None,
-        }
+        driver::answer(&self.state).map(accepted)
     }
 
     /// The recipe that a get has read; None before its end, after an error and
@@ -163,8 +163,8 @@ impl<'a> Driver<'a> {
         if !self.is_get || self.answer() != Some(Ok(())) {
             return None;
         }
-        let len = u16::from_be_bytes([self.staged[1], self.staged[2]]);
-        self.staged[3..].get(..usize::from(len))
+        let len = driver::count(&self.state, &self.staged);
+        self.staged[3..].get(..len)
     }
 
     /// Goes on to the end over a function that exchanges the bytes of one
@@ -180,7 +180,8 @@ impl<'a> Driver<'a> {
             exchange(frame, reply).map_err(DriveError::Link)?;
             self.take(reply);
         }
-        accepted(driver::answer(&self.state)).map_err(DriveError::Call)
+        let answer = self.answer().expect("a driver without a frame has ended");
+        answer.map_err(DriveError::Call)
     }
 }
 

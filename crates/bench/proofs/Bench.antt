@@ -5,37 +5,49 @@ use Rattle.slices.specs.Lists.{tabulate, over, splice, andOver, same, ringRead,
 use Rattle.slices.specs.Words.{wordAt, wordBytes}
 use Rattle.geometry.specs.Parts.{partOf, addressAt, pageAt, byteAt, pageStart, pageOf, inRun}
 use Rattle.geometry.specs.Sectors.{sectorOf, firstPage, endPage, sectorRun, sectorCount}
-use Rattle.commands.specs.Decode.{placeIn, placeOf, lookupIn, lookupOf, begins, sequenceIn, opened, complete, decodeOf}
+use Rattle.commands.specs.Table.{commands, sequences, rowAt, sequenceAt}
+use Rattle.commands.specs.Decode.{lookupIn, lookupOf, begins, sequenceIn, opened, complete, decodeOf, placeIn, placeOf}
 use Rattle.commands.specs.Room.{room, takes}
-use Rattle.commands.specs.Table.{commands, rowAt, sequences, sequenceAt}
 use Rattle.registers.specs.Data.{padded, pack16, bytes16, pack64, bytes64}
-use Rattle.registers.specs.Operations.{within, placedIn, placed, runOf, sectorsOf, inSet, writes, bufferUsed}
 use Rattle.registers.specs.Protection.{bitsOf, hasBits, sealed, unsealedFrom, unsealedSet, maskOf, lockedBytes}
-use Rattle.control.specs.Completion.{completedBy, completed}
+use Rattle.registers.specs.Operations.{within, placedIn, placed, runOf, sectorsOf, inSet, writes, bufferUsed}
+use Rattle.control.specs.Obeyed.{classOf, allowed, obeyed}
 use Rattle.control.specs.Control.{startedOn, programmedThrough, protectOff, protectionErased, protectionData, protectionProgrammed, sectorLocked, securityData, securityProgrammed, rowDecided, decodedControl, control}
-use Rattle.control.specs.Names.{Names}
-use Rattle.control.specs.Obeyed.{classOf, usageOf, sameBuffer, allowed, isWake, obeyed}
+use Rattle.control.specs.Completion.{completedBy, completed}
 use Rattle.control.specs.PowerLoss.{reaching, lostBy, lost}
+use Rattle.control.specs.Names.{Names}
+use Rattle.control.specs.Rulings.{applied}
 use Rattle.memory.specs.Pages.{programmed, programmedOver, transferred, differing, erased, junked, eachSector, inSectors, junkBuffer}
 use Rattle.memory.specs.Replies.{replied}
 use Rattle.state.specs.Answers.{numberOf}
-use Rattle.state.specs.Completion.{arrayCompleted, bufferCompleted, compareCompleted, completedMemory}
 use Rattle.state.specs.Frames.{isIdle, statusOf, dataOf, replyOf, bufferWritten, written, acted, sentMemory}
-use Rattle.state.specs.Outcomes.{freshRegisters, freshChip, freshAnswer, freshOutcome, freshFilled, freshArray, framed, sentTo, sendOutcome, repliedBy, sendReply, endedIn, endOutcome, endedArray, endArray, pinOutcome, cutIn, cutOutcome, cutArrayIn, cutArray}
+use Rattle.state.specs.Completion.{inTarget, completedMemory}
 use Rattle.state.specs.PowerLoss.{arrayLost, lostMemory}
-use Rattle.slots.specs.Calls.{outline, registersAfter, memoryAfter, cutState, openAfter, closedAfter, stepOpen, stepClosed, run, firstCourse, startOpen, startClosed, ran, isGet, countOf, outFrom, callOut, callNext, sentState, rawSent, rawOut, rawNext}
-use Rattle.slots.specs.Driver.{shapeOf, frameByte, loaded, frameOf, registerIn, heardIn, courseAfter, judged, readIn, takenIn, isEnded, isPoll, verdictAnswer, weighed, answerOf}
-use Rattle.slots.specs.Lists.{straightOut, cutFits, outOn, lentTo, outOff, outBy, outOf, nextOn, nextOff, nextBy, nextOf, runList, leftBy}
-use Rattle.slots.specs.Records.{slotSize, limitOf, lengthIn, isRecord, image, patched, getVerdict, patchVerdict}
-use Rattle.slots.specs.Refusals.{bound, hasOverTwo, hasCut, badScript, callRefusal, rawRefusal}
+use Rattle.state.specs.Outcomes.{freshRegisters, freshState, freshBy, freshOutcome, framed, sentState, sentBy, sendOutcome, endedState, endedBy, endOutcome, pinnedState, pinOutcome, cutState, cutFits, cutBy, cutOutcome}
+use Rattle.state.specs.Lent.{actedOn}
+use Rattle.slots.specs.Plans.{isAsking, pageSteps, runBy, pages, planBy, stepAt, isEnd, isWait, framesMost, waitsIn, stated, framesOf, pollsOf}
+use Rattle.slots.specs.Records.{slotSize, limitOf, lengthIn, isRecord, image, patched, getVerdict, patchVerdict, changed}
+use Rattle.slots.specs.Driver.{opcodeOf, shapeOf, frameByte, storedBy, loaded, registerIn, heard, courseBy, judged, readIn, takenBy, isEnded, verdictAnswer, weighed, toldBy}
+use Rattle.slots.specs.Refusals.{isOver, isShort, hasOverTwo, hasCut, badScript, lateRefusal, earlyRefusal, orElse, callRefusal, rawRefusal}
+use Rattle.slots.specs.Calls.{outline, registersAfter, memoryAfter, stateAfter, openAfter, closedAfter, stepOpen, stepClosed, run, firstCourse, startOpen, startClosed, ran, countBy, countOf, outFrom, answerIn, callOut, callNext, rawSent, rawOut, rawNext}
+use Rattle.slots.specs.Lists.{callBy, rawBy, outOf, calledBy, rawLeft, nextOf, runList, leftBy, boundOf, lentTo, logOf}
 use Rattle.bench.specs.Start.{freshShort, log}
 use Rattle.bench.specs.Table.{Bench}
 
 pub bench : Bench
-unfolding tabulate over splice andOver same ringRead ringWrite wordAt wordBytes partOf addressAt pageAt byteAt pageStart pageOf inRun sectorOf firstPage endPage sectorRun sectorCount placeIn placeOf lookupIn lookupOf begins sequenceIn opened complete decodeOf room takes commands rowAt sequences sequenceAt padded pack16 bytes16 pack64 bytes64 within placedIn placed runOf sectorsOf inSet writes bufferUsed bitsOf hasBits sealed unsealedFrom unsealedSet maskOf lockedBytes completedBy completed startedOn programmedThrough protectOff protectionErased protectionData protectionProgrammed sectorLocked securityData securityProgrammed rowDecided decodedControl control Names classOf usageOf sameBuffer allowed isWake obeyed reaching lostBy lost programmed programmedOver transferred differing erased junked eachSector inSectors junkBuffer replied numberOf arrayCompleted bufferCompleted compareCompleted completedMemory isIdle statusOf dataOf replyOf bufferWritten written acted sentMemory freshRegisters freshChip freshAnswer freshOutcome freshFilled freshArray framed sentTo sendOutcome repliedBy sendReply endedIn endOutcome endedArray endArray pinOutcome cutIn cutOutcome cutArrayIn cutArray arrayLost lostMemory outline registersAfter memoryAfter cutState openAfter closedAfter stepOpen stepClosed run firstCourse startOpen startClosed ran isGet countOf outFrom callOut callNext sentState rawSent rawOut rawNext shapeOf frameByte loaded frameOf registerIn heardIn courseAfter judged readIn takenIn isEnded isPoll verdictAnswer weighed answerOf straightOut cutFits outOn lentTo outOff outBy outOf nextOn nextOff nextBy nextOf runList leftBy slotSize limitOf lengthIn isRecord image patched getVerdict patchVerdict bound hasOverTwo hasCut badScript callRefusal rawRefusal freshShort log
+unfolding tabulate over splice andOver same ringRead ringWrite wordAt wordBytes partOf addressAt pageAt byteAt pageStart pageOf inRun sectorOf firstPage endPage sectorRun sectorCount commands sequences rowAt sequenceAt lookupIn lookupOf begins sequenceIn opened complete decodeOf placeIn placeOf room takes padded pack16 bytes16 pack64 bytes64 bitsOf hasBits sealed unsealedFrom unsealedSet maskOf lockedBytes within placedIn placed runOf sectorsOf inSet writes bufferUsed classOf allowed obeyed startedOn programmedThrough protectOff protectionErased protectionData protectionProgrammed sectorLocked securityData securityProgrammed rowDecided decodedControl control completedBy completed reaching lostBy lost Names changed applied programmed programmedOver transferred differing erased junked eachSector inSectors junkBuffer replied numberOf isIdle statusOf dataOf replyOf bufferWritten written acted sentMemory inTarget completedMemory arrayLost lostMemory freshRegisters freshState freshBy freshOutcome framed sentState sentBy sendOutcome endedState endedBy endOutcome pinnedState pinOutcome cutState cutFits cutBy cutOutcome actedOn isAsking pageSteps runBy pages planBy stepAt isEnd isWait framesMost waitsIn stated framesOf pollsOf slotSize limitOf lengthIn isRecord image patched getVerdict patchVerdict opcodeOf shapeOf frameByte storedBy loaded registerIn heard courseBy judged readIn takenBy isEnded verdictAnswer weighed toldBy isOver isShort hasOverTwo hasCut badScript lateRefusal earlyRefusal orElse callRefusal rawRefusal outline registersAfter memoryAfter stateAfter openAfter closedAfter stepOpen stepClosed run firstCourse startOpen startClosed ran countBy countOf outFrom answerIn callOut callNext rawSent rawOut rawNext callBy rawBy outOf calledBy rawLeft nextOf runList leftBy boundOf lentTo logOf freshShort log
 bench =
     record {
       page-5 = refl;
+      part-full = refl;
+      page-last = refl;
+      page-high = refl;
+      byte-263 = refl;
+      byte-264 = refl;
+      sector-7 = refl;
+      sector-8 = refl;
+      sector-255 = refl;
+      sector-256 = refl;
       status-fresh = refl;
       status-guarded = refl;
       status-busy = refl;
@@ -51,4 +63,6 @@ bench =
       get-frames = refl;
       wipe-frames = refl;
       wipe-lines = refl;
+      wipe-polls = refl;
+      wipe-answer = refl;
     }

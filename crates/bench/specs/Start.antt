@@ -1,22 +1,17 @@
--- A fresh short part, and logs that are long enough for a poll limit of 1.
+-- The fresh chip of the definitions, short part, and logs that are long enough for a poll limit of 1.
 -- Assumes nothing.
 use Prim.Native.Nat.{ℕ}
-use mathlib.Core.Bool.{Bool, true, false}
 use mathlib.Core.List.{List, map}
 use lib.ListN.{replicate}
-use Rattle.state.specs.declared.Answer.{Answer}
 use Rattle.state.specs.Answers.{numberOf}
-use Rattle.state.specs.Outcomes.{freshRegisters}
-use Rattle.slots.specs.Calls.{State, Out}
+use Rattle.state.specs.Memory.{State}
+use Rattle.state.specs.Outcomes.{freshOutcome}
+use Rattle.slots.specs.Calls.{Out}
 use Rattle.slots.specs.Lists.{Op, runList}
 
--- "Fresh" on the short part, factory bytes 0
+-- what a fresh chip with factory bytes 0 leaves of an array of 33,792 bytes
 unfoldable pub freshShort : State
-freshShort =
-    record {
-      registers = freshRegisters (replicate 64 0);
-      memory = record { array = replicate 33792 255; buffer1 = replicate 264 0; buffer2 = replicate 264 0; compare = false };
-    }
+freshShort = freshOutcome (replicate 64 0) (replicate 33792 0) .state
 
 -- a log long enough for any call with poll limit 1
 unfoldable pub log : List ℕ

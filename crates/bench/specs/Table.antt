@@ -1,13 +1,16 @@
--- 01's bench table, as far as it speaks of the chip's replies and of the calls (addresses and sectors: crate geometry).
+-- 01's bench table, all of it: addresses, sectors, status, pages, records, answers, frames, and the program's example.
 -- Assumes nothing.
 use Prim.Native.Nat.{ℕ, _+_}
 use mathlib.Core.Path.{_≡_}
-use mathlib.Core.Bool.{false}
 use mathlib.Core.List.{List, [], _∷_, _++_}
 use lib.ListN.{length, take, replicate}
+use Rattle.geometry.specs.declared.Geometry.{Geometry}
+use Rattle.geometry.specs.declared.Part.the-variants.{Known}
+use Rattle.geometry.specs.Parts.{partOf, addressAt, pageAt, byteAt}
+use Rattle.geometry.specs.Sectors.{sectorOf}
 use Rattle.commands.specs.declared.Buffer.the-variants.{One}
 use Rattle.registers.specs.declared.Operation.the-variants.{Program}
-use Rattle.slots.specs.Calls.{State, Out}
+use Rattle.state.specs.Memory.{State}
 use Rattle.slots.specs.Lists.{Op, put, patch, get, wipe, straight, busyEnd, outOf, nextOf, leftBy}
 use Rattle.bench.specs.Start.{freshShort, log, answers}
 
@@ -43,29 +46,54 @@ overF0 =
     sending (0x84 ∷ 0x00 ∷ 0x00 ∷ 0x00 ∷ 0xF0 ∷ []) ∷ sending (0x83 ∷ 0x00 ∷ 0x00 ∷ 0x00 ∷ []) ∷ busyEnd
     ∷ sending (0x84 ∷ 0x00 ∷ 0x00 ∷ 0x00 ∷ 0x3C ∷ []) ∷ sending (0x88 ∷ 0x00 ∷ 0x00 ∷ 0x00 ∷ []) ∷ busyEnd ∷ []
 
+-- the part of 4,096 pages
+abbrev pub full : Geometry
+full = record { size = 264; pages = 4096; field = 512 }
+
+-- the address behind an opcode
+abbrev pub addressIn : List ℕ → ℕ
+addressIn f = addressAt f 1
+
+-- `wipe 2`, empty script, B 1
+abbrev pub wipeTwo : Op
+wipeTwo = wipe 2 1 [] [] log
+
 pub record Bench : Type 0 where
-  -- "Frame 83 00 0A 00 names page 5"
+  -- addresses: 83 00 0A 00 names page 5, as the chip takes it; 1F FE 00 and FF FE 00 name 4,095 of 4,096
   pub page-5 : sent (0x83 ∷ 0x00 ∷ 0x0A ∷ 0x00 ∷ []) freshShort .registers .operation ≡ Program One 5
-  -- "Status fresh A4h, mark set A6h, busy 24h"
+  pub part-full : partOf 1081344 ≡ Known full
+  pub page-last : pageAt full (addressIn (0x83 ∷ 0x1F ∷ 0xFE ∷ 0x00 ∷ [])) ≡ 4095
+  pub page-high : pageAt full (addressIn (0x83 ∷ 0xFF ∷ 0xFE ∷ 0x00 ∷ [])) ≡ 4095
+  -- byte field 263 is byte 263, 264 is byte 0
+  pub byte-263 : byteAt full (addressIn (0x84 ∷ 0x00 ∷ 0x01 ∷ 0x07 ∷ [])) ≡ 263
+  pub byte-264 : byteAt full (addressIn (0x84 ∷ 0x00 ∷ 0x01 ∷ 0x08 ∷ [])) ≡ 0
+  -- pages 7, 8, 255, 256 lie in 0a, 0b, 0b, 1, which are numbered 0, 1, 1, 2
+  pub sector-7 : sectorOf 7 ≡ 0
+  pub sector-8 : sectorOf 8 ≡ 1
+  pub sector-255 : sectorOf 255 ≡ 1
+  pub sector-256 : sectorOf 256 ≡ 2
+  -- status: fresh, mark set, busy
   pub status-fresh : replyTo status freshShort ≡ 0xFF ∷ 0xA4 ∷ []
   pub status-guarded : replyTo status (sent (0x3D ∷ 0x2A ∷ 0x7F ∷ 0xA9 ∷ []) freshShort) ≡ 0xFF ∷ 0xA6 ∷ []
   pub status-busy : replyTo status (sent (0x83 ∷ 0x00 ∷ 0x0A ∷ 0x00 ∷ []) freshShort) ≡ 0xFF ∷ 0x24 ∷ []
-  -- "88 over F0h with 3Ch gives 30h"
+  -- 88 over F0h with 3Ch gives 30h
   pub over : replyTo (0xD2 ∷ replicate 8 0x00) (leftBy overF0 freshShort) ≡ replicate 8 0xFF ++ 0x30 ∷ []
-  -- "Recipe 41h 42h is stored 01 00 02 41 42 and 2,107 zeros; none, 01 00 00; 2,109 bytes begin 01 08 3D; 2,110 meet 5"
+  -- records: of two bytes, of none, of the longest; 2,110 bytes meet 5
   pub two-bytes : stored (0x41 ∷ 0x42 ∷ []) ≡ 0x01 ∷ 0x00 ∷ 0x02 ∷ 0x41 ∷ 0x42 ∷ replicate 2107 0
   pub no-byte : stored [] ≡ 0x01 ∷ 0x00 ∷ 0x00 ∷ replicate 2109 0
   pub longest : take 3 (stored (replicate 2109 7)) ≡ 0x01 ∷ 0x08 ∷ 0x3D ∷ []
   pub too-long : answers (putFresh (replicate 2110 7) ∷ []) freshShort ≡ 5 ∷ []
-  -- "Fresh slot: get meets 12"
+  -- a get of a fresh slot meets 12
   pub blank : answers (get 0 1 [] [] log lentBuffer ∷ []) freshShort ≡ 12 ∷ []
-  -- "Empty script: put 27 frames and 9 polls, patch 35, get 9, wipe 5"
+  -- frames and polls with an empty script
   pub put-frames : outOf (putFresh (0x41 ∷ [])) freshShort .frames ≡ 27
   pub put-polls : outOf (putFresh (0x41 ∷ [])) freshShort .polls ≡ 9
   pub patch-frames : outOf (patch 0 1 0 [] (0x41 ∷ []) [] log) freshShort .frames ≡ 35
   pub get-frames : outOf (get 0 1 [] [] log lentBuffer) freshShort .frames ≡ 9
-  pub wipe-frames : outOf (wipe 0 1 [] [] log) freshShort .frames ≡ 5
-  -- the lines of `wipe 2`
-  pub wipe-lines : outOf (wipe 2 1 [] [] log) freshShort .lines
+  pub wipe-frames : outOf wipeTwo freshShort .frames ≡ 5
+  -- the program's example: its lines, its polls, its answer
+  pub wipe-lines : outOf wipeTwo freshShort .lines
       ≡ 0 ∷ 2 ∷ 0xD7 ∷ 0x00 ∷ 0xFF ∷ 0xFF ∷ 0 ∷ 20 ∷ 0x32 ∷ 0x00 ∷ 0x00 ∷ 0x00 ∷ 0 ∷ 20 ∷ 0x35 ∷ 0x00 ∷ 0x00 ∷ 0x00
       ∷ 0 ∷ 4 ∷ 0x50 ∷ 0x00 ∷ 0x20 ∷ 0x00 ∷ 0 ∷ 2 ∷ 0xD7 ∷ 0x00 ∷ 0xFF ∷ 0xFF ∷ []
+  pub wipe-polls : outOf wipeTwo freshShort .polls ≡ 2
+  pub wipe-answer : answers (wipeTwo ∷ []) freshShort ≡ 0 ∷ []

@@ -21,17 +21,18 @@ use Rattle.registers.specs.declared.Operation.{Operation}
 use Rattle.registers.specs.Data.{pack16, pack64}
 use Rattle.registers.specs.Operations.{within, placed}
 use Rattle.registers.proofs.Places.{known-beyond, unknown-placed}
+use Rattle.state.specs.Whole.{Whole}
 use Rattle.blocks.specs.Block.{field, beyond, bufferedOf, plainOf, operationOf, numberIn, sectorsIn, decodeOperation, decodeRegisters, decodeChip, encodeChip}
-use Rattle.blocks.specs.Holds.{Sized, Words16, Words64, Fitting, Holds}
+use Rattle.blocks.specs.Holds.{Words16, Words64, Fitting, Holds}
 use Rattle.blocks.proofs.RoundTrip.{decode-encode}
 
 -- ---- the lengths
 length-field : (a n : ℕ) (xs : List ℕ) → a + n ≤ length xs → length (field a n xs) ≡ n
 length-field a n xs h = simp (length-take, length-drop) (omega arith)
 
-pub sized-decode : (block : List ℕ) → length block ≡ 765 → Sized (decodeChip block)
+pub whole-decode : (block : List ℕ) → length block ≡ 765 → Whole (decodeChip block)
 unfolding decodeChip decodeRegisters
-sized-decode block l =
+whole-decode block l =
     record {
       registers =
           record {
@@ -77,31 +78,30 @@ cases Q true h k = h
 cases Q false h k = k
 
 beyond-fits : Fitting beyond
-unfolding Fitting
-beyond-fits = lit< tt
+beyond-fits = (lit< tt, tt)
 
 buffered-fits : (tag : ℕ) (b : Buffer) (n : ℕ) → n < 65536 → Fitting (bufferedOf tag b n)
-unfolding bufferedOf Fitting
+unfolding bufferedOf
 buffered-fits tag b n h =
-    cases Fitting (eqb tag 0x83) h
-    (cases Fitting (eqb tag 0x88) h
-    (cases Fitting (eqb tag 0x53) h
-    (cases Fitting (eqb tag 0x60) h
-    (cases Fitting (eqb tag 0x58) h
+    cases Fitting (eqb tag 0x83) (h, tt)
+    (cases Fitting (eqb tag 0x88) (h, tt)
+    (cases Fitting (eqb tag 0x53) (h, tt)
+    (cases Fitting (eqb tag 0x60) (h, tt)
+    (cases Fitting (eqb tag 0x58) (h, tt)
     beyond-fits))))
 
 plain-fits : (tag n sectors : ℕ) (xs : List ℕ) → n < 65536 → sectors < 2 ^ 32 → ((k : ℕ) → getD xs k 0 < 256) → Fitting (plainOf tag n sectors xs)
-unfolding plainOf Fitting
+unfolding plainOf
 plain-fits tag n sectors xs h s b =
-    cases Fitting (eqb tag 0x00) tt
-    (cases Fitting (eqb tag 0x81) h
-    (cases Fitting (eqb tag 0x50) h
-    (cases Fitting (eqb tag 0x7C) h
-    (cases Fitting (eqb tag 0xC7) s
-    (cases Fitting (eqb tag 0xCF) tt
-    (cases Fitting (eqb tag 0xFC) (words16 (take 16 xs) (bytes-field 0 16 xs b))
-    (cases Fitting (eqb tag 0x30) h
-    (cases Fitting (eqb tag 0x9B) (words64 xs b)
+    cases Fitting (eqb tag 0x00) (tt, tt)
+    (cases Fitting (eqb tag 0x81) (h, tt)
+    (cases Fitting (eqb tag 0x50) (h, tt)
+    (cases Fitting (eqb tag 0x7C) (h, tt)
+    (cases Fitting (eqb tag 0xC7) (s, tt)
+    (cases Fitting (eqb tag 0xCF) (tt, tt)
+    (cases Fitting (eqb tag 0xFC) (tt, words16 (take 16 xs) (bytes-field 0 16 xs b))
+    (cases Fitting (eqb tag 0x30) (h, tt)
+    (cases Fitting (eqb tag 0x9B) (tt, words64 xs b)
     beyond-fits))))))))
 
 operation-fits : (tag buffer n sectors : ℕ) (xs : List ℕ) → n < 65536 → sectors < 2 ^ 32 → ((k : ℕ) → getD xs k 0 < 256)
@@ -119,7 +119,7 @@ unfolding decodeChip decodeRegisters decodeOperation
 holds-decode block l h =
     let b = bytes block h in
     record {
-      sized = sized-decode block l;
+      whole = whole-decode block l;
       operation =
           operation-fits (getD block 164 0) (getD block 165 0) (numberIn block) (sectorsIn block) (field 172 64 block)
           (omega (arith, b 166, b 167)) (omega (arith, b 168, b 169, b 170, b 171)) (bytes-field 172 64 block b);

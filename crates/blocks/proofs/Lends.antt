@@ -11,9 +11,10 @@ use lib.Seq.{take-at, drop-at, drop-drop, take-take, take-all, take-append-add, 
 use lib.Dec.{lit≤}
 use Rattle.slices.proofs.Laws.{over-append, over-whole}
 use Rattle.state.specs.declared.Chip.{Chip}
-use Rattle.state.specs.Memory.{memoryOf, memoryIn, chipOf}
+use Rattle.state.specs.Lent.{memoryIn}
+use Rattle.state.specs.Memory.{memoryOf, chipOf}
+use Rattle.state.specs.Whole.{Whole}
 use Rattle.blocks.specs.Block.{field, flag, flagByte, decodeRegisters, decodeChip, encodeRegisters, encodeChip}
-use Rattle.blocks.specs.Holds.{Sized}
 use Rattle.blocks.proofs.Lengths.{length-encodeRegisters}
 use Rattle.blocks.proofs.Stored.{Stored, stored-more, splice-one}
 
@@ -48,7 +49,7 @@ buffers-lent b xs l =
     }
 
 -- ---- what comes back to a block that holds the chip
-module _ (c : Chip) (s : Sized c) where
+module _ (c : Chip) (s : Whole c) where
   -- what lies behind the registers, and behind the buffers
   behind : drop 236 (encodeChip c) ≡ (c .buffer1 ++ c .buffer2) ++ (flagByte (c .compare) ∷ [])
   unfolding encodeChip

@@ -70,28 +70,28 @@ operation-back : (o : Operation) → Fitting o
     (headOf o .sectors / 16777216 % 256 * 16777216 + headOf o .sectors / 65536 % 256 * 65536 + headOf o .sectors / 256 % 256 * 256 + headOf o .sectors % 256)
     (dataBytes o)
     ≡ o
-unfolding operationOf plainOf bufferedOf headOf dataBytes Fitting
+unfolding operationOf plainOf bufferedOf headOf dataBytes
 operation-back Idle h = refl
-operation-back (Program One page) h = ap (Program One) (two-back page h)
-operation-back (Program Two page) h = ap (Program Two) (two-back page h)
-operation-back (ProgramOver One page) h = ap (ProgramOver One) (two-back page h)
-operation-back (ProgramOver Two page) h = ap (ProgramOver Two) (two-back page h)
-operation-back (Transfer One page) h = ap (Transfer One) (two-back page h)
-operation-back (Transfer Two page) h = ap (Transfer Two) (two-back page h)
-operation-back (Compare One page) h = ap (Compare One) (two-back page h)
-operation-back (Compare Two page) h = ap (Compare Two) (two-back page h)
-operation-back (Rewrite One page) h = ap (Rewrite One) (two-back page h)
-operation-back (Rewrite Two page) h = ap (Rewrite Two) (two-back page h)
-operation-back (ErasePage page) h = ap ErasePage (two-back page h)
-operation-back (EraseBlock block) h = ap EraseBlock (two-back block h)
-operation-back (EraseSector s) h = ap EraseSector (two-back s h)
-operation-back (EraseChip sectors) h = ap EraseChip (four-back sectors h)
+operation-back (Program One page) h = ap (Program One) (two-back page (h .0))
+operation-back (Program Two page) h = ap (Program Two) (two-back page (h .0))
+operation-back (ProgramOver One page) h = ap (ProgramOver One) (two-back page (h .0))
+operation-back (ProgramOver Two page) h = ap (ProgramOver Two) (two-back page (h .0))
+operation-back (Transfer One page) h = ap (Transfer One) (two-back page (h .0))
+operation-back (Transfer Two page) h = ap (Transfer Two) (two-back page (h .0))
+operation-back (Compare One page) h = ap (Compare One) (two-back page (h .0))
+operation-back (Compare Two page) h = ap (Compare Two) (two-back page (h .0))
+operation-back (Rewrite One page) h = ap (Rewrite One) (two-back page (h .0))
+operation-back (Rewrite Two page) h = ap (Rewrite Two) (two-back page (h .0))
+operation-back (ErasePage page) h = ap ErasePage (two-back page (h .0))
+operation-back (EraseBlock block) h = ap EraseBlock (two-back block (h .0))
+operation-back (EraseSector s) h = ap EraseSector (two-back s (h .0))
+operation-back (EraseChip sectors) h = ap EraseChip (four-back sectors (h .0))
 operation-back EraseProtection h = refl
 operation-back (ProgramProtection d) h =
-    ap ProgramProtection (ap pack16 (take-at (bytes16 d) (replicate 48 0) 16 (length-bytes16 d)) ∙ pack16-bytes16 d (h .a) (h .b))
-operation-back (LockSector s) h = ap LockSector (two-back s h)
+    ap ProgramProtection (ap pack16 (take-at (bytes16 d) (replicate 48 0) 16 (length-bytes16 d)) ∙ pack16-bytes16 d (h .1 .a) (h .1 .b))
+operation-back (LockSector s) h = ap LockSector (two-back s (h .0))
 operation-back (ProgramSecurity d) h =
-    ap ProgramSecurity (pack64-bytes64 d (h .a) (h .b) (h .c) (h .d) (h .e) (h .f) (h .g) (h .h))
+    ap ProgramSecurity (pack64-bytes64 d (h .1 .a) (h .1 .b) (h .1 .c) (h .1 .d) (h .1 .e) (h .1 .f) (h .1 .g) (h .1 .h))
 
 -- ---- the chip
 pub decode-encode : (c : Chip) → Holds c → decodeChip (encodeChip c) ≡ c
@@ -99,7 +99,7 @@ unfolding decodeChip decodeRegisters decodeOperation headBytes
 decode-encode c h =
     let r = c .registers in
     let o = r .operation in
-    let s = h .sized in
+    let s = h .whole in
     let z0 = lies c in
     let z1 = past 16 (s .registers .protection) z0 in
     let z2 = past 16 (s .registers .lockdown) z1 in

@@ -2,29 +2,40 @@
 -- is the chip's, since it sets the WP byte and no other.
 -- Assumes nothing.
 use mathlib.Core.Path.{_≡_, refl, ap, _∙_}
-use mathlib.Core.Bool.{Bool, false}
+use mathlib.Core.Bool.{Bool, true, false, cond}
 use mathlib.Core.List.{List}
 use Prim.Native.Nat.{ℕ, _+_, _*_, _<_, _≤_}
 use native.Mathlib.Omega.{arith}
 use lib.ListN.{length, set, take, drop, getD}
 use lib.Seq.{getD-set-same, getD-set-other, take-set-le, drop-set-lt, drop-set-add}
 use lib.Dec.{eqb, lit<, lit≤}
-use borrow.Author.Tests.{eq-eqb, ne-eqb, eqb-false}
-use Rattle.state.specs.declared.Outcome.{Outcome}
-use Rattle.state.specs.Outcomes.{pinOutcome}
-use Rattle.blocks.specs.Block.{field, flag, flagByte, operationOf, decodeOperation, decodeRegisters, decodeChip}
+use borrow.Author.Tests.{eqb-false}
+use Rattle.registers.specs.Fields.{withWp}
+use Rattle.state.specs.declared.Answer.{Answer}
+use Rattle.state.specs.declared.Answer.the-variants as Answers
+use Rattle.state.specs.declared.Chip.{Chip}
+use Rattle.state.specs.Answers.{numberOf}
+use Rattle.state.specs.Memory.{withRegisters}
+use Rattle.blocks.specs.Block.{field, flag, flagByte, operationOf, decodeOperation, decodeRegisters, decodeChip, encodeChip}
 use Rattle.blocks.specs.Holds.{Holds}
-use Rattle.blocks.specs.Promises.{answered, storedIn, pinMoved}
+use Rattle.blocks.specs.Promises.{storedBy, pinMoved}
 use Rattle.blocks.proofs.RoundTrip.{decode-encode, flag-back}
 
 -- ---- after a call
-pub accepted-stored : (block : List ℕ) (o : Outcome) → answered o ≡ 0 → Holds (o .chip) → decodeChip (storedIn block o) ≡ o .chip
-unfolding storedIn
-accepted-stored block o e h = simp (eq-eqb (answered o) 0 e) (decode-encode (o .chip) h)
 
-pub refused-stored : (block : List ℕ) (o : Outcome) → (answered o ≡ 0 → ⊥) → storedIn block o ≡ block
-unfolding storedIn
-refused-stored block o e = simp (ne-eqb (answered o) 0 e)
+-- an accepted one's chip is read back
+pub stored-done : (held : List ℕ) (c : Chip) → Holds c → decodeChip (storedBy held Answers.Done c) ≡ c
+unfolding storedBy numberOf
+stored-done held c h = decode-encode c h
+
+-- so is the block's own, stored or not
+pub stored-same : (held : List ℕ) (a : Answer) → Holds (decodeChip held) → decodeChip (storedBy held a (decodeChip held)) ≡ decodeChip held
+unfolding storedBy
+stored-same held a h = go (eqb (numberOf a) 0)
+  where
+    go : (b : Bool) → decodeChip (cond b (encodeChip (decodeChip held)) held) ≡ decodeChip held
+    go true = decode-encode (decodeChip held) h
+    go false = refl
 
 -- ---- one byte set: a part before it, a part after it, another byte
 pub part-before : (a n k : ℕ) (xs : List ℕ) (x : ℕ) → n ≤ k → field a n (set xs (a + k) x) ≡ field a n xs
@@ -37,8 +48,8 @@ other : (k : ℕ) (xs : List ℕ) (x : ℕ) → eqb k 162 ≡ false → getD (se
 other k xs x e = getD-set-other xs 162 k x 0 (eqb-false k 162 e)
 
 -- ---- a pin move
-pub pin-moved : (block : List ℕ) (high : Bool) → length block ≡ 765 → decodeChip (pinMoved block high) ≡ pinOutcome (decodeChip block) high .chip
-unfolding pinMoved pinOutcome decodeChip decodeRegisters decodeOperation
+pub pin-moved : (block : List ℕ) (high : Bool) → length block ≡ 765 → decodeChip (pinMoved block high) ≡ withRegisters (decodeChip block) (withWp (decodeChip block .registers) high)
+unfolding pinMoved decodeChip decodeRegisters decodeOperation
 pin-moved block high l =
     let x = flagByte high in
     λ i.

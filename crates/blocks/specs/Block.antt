@@ -12,8 +12,12 @@ use Rattle.commands.specs.declared.Buffer.the-variants.{One, Two}
 use Rattle.registers.specs.declared.Operation.{Operation}
 use Rattle.registers.specs.declared.Operation.the-variants.{Idle, Program, ProgramOver, Transfer, Compare, Rewrite, ErasePage, EraseBlock, EraseSector, EraseChip, EraseProtection, ProgramProtection, LockSector, ProgramSecurity}
 use Rattle.registers.specs.declared.Registers.{Registers}
+use Rattle.registers.specs.declared.Update.{Update}
+use Rattle.registers.specs.declared.Update.the-variants.{Keep, FillProtection, MaskProtection, Lock, WriteUser}
+use Rattle.registers.specs.Facts.{updateOf}
 use Rattle.registers.specs.Data.{pack16, pack64, bytes16, bytes64}
 use Rattle.state.specs.declared.Chip.{Chip}
+use Rattle.state.specs.Memory.{bufferSize}
 use Rattle.blocks.specs.declared.Heading.{Heading}
 
 -- n bytes from index a on
@@ -90,21 +94,15 @@ headOf (LockSector s) = head 0x30 0 s 0
 headOf (ProgramSecurity d) = head 0x9B 0 0 0
 
 -- the 64 data bytes: those of an FC (16) or a 9B, zeros elsewhere
+abbrev pub bytesHeld : Update → List ℕ
+bytesHeld Keep = replicate 64 0
+bytesHeld FillProtection = replicate 64 0
+bytesHeld (MaskProtection d) = bytes16 d ++ replicate 48 0
+bytesHeld (Lock s) = replicate 64 0
+bytesHeld (WriteUser d) = bytes64 d
+
 unfoldable pub dataBytes : Operation → List ℕ
-dataBytes Idle = replicate 64 0
-dataBytes (Program b page) = replicate 64 0
-dataBytes (ProgramOver b page) = replicate 64 0
-dataBytes (Transfer b page) = replicate 64 0
-dataBytes (Compare b page) = replicate 64 0
-dataBytes (Rewrite b page) = replicate 64 0
-dataBytes (ErasePage page) = replicate 64 0
-dataBytes (EraseBlock block) = replicate 64 0
-dataBytes (EraseSector s) = replicate 64 0
-dataBytes (EraseChip sectors) = replicate 64 0
-dataBytes EraseProtection = replicate 64 0
-dataBytes (ProgramProtection d) = bytes16 d ++ replicate 48 0
-dataBytes (LockSector s) = replicate 64 0
-dataBytes (ProgramSecurity d) = bytes64 d
+dataBytes o = bytesHeld (updateOf o)
 
 -- ---- the block
 
@@ -134,7 +132,7 @@ decodeRegisters block =
 
 unfoldable pub decodeChip : List ℕ → Chip
 decodeChip block =
-    record { registers = decodeRegisters block; buffer1 = field 236 264 block; buffer2 = field 500 264 block; compare = flag (getD block 764 0) }
+    record { registers = decodeRegisters block; buffer1 = field 236 bufferSize block; buffer2 = field 500 bufferSize block; compare = flag (getD block 764 0) }
 
 -- the twelve bytes from 160 on
 unfoldable pub headBytes : Registers → Heading → List ℕ
@@ -143,7 +141,15 @@ headBytes r h =
     h .tag ∷ h .buffer ∷ h .number / 256 % 256 ∷ h .number % 256 ∷
     h .sectors / 16777216 % 256 ∷ h .sectors / 65536 % 256 ∷ h .sectors / 256 % 256 ∷ h .sectors % 256 ∷ []
 
--- registers with these marks, to give that their four flags
+unfoldable pub encodeRegisters : Registers → List ℕ
+encodeRegisters r =
+    r .protection ++ (r .lockdown ++ (r .user ++ (r .factory ++ (headBytes r (headOf (r .operation)) ++ dataBytes (r .operation)))))
+
+unfoldable pub encodeChip : Chip → List ℕ
+encodeChip c = encodeRegisters (c .registers) ++ (c .buffer1 ++ (c .buffer2 ++ (flagByte (c .compare) ∷ [])))
+
+-- ---- Aid: registers with these marks, to give the twelve bytes their four flags
+
 abbrev pub flagged : Bool → Bool → Bool → Bool → Registers
 flagged used protect wp deep =
     record {
@@ -157,10 +163,3 @@ flagged used protect wp deep =
       deep = deep;
       operation = Idle;
     }
-
-unfoldable pub encodeRegisters : Registers → List ℕ
-encodeRegisters r =
-    r .protection ++ (r .lockdown ++ (r .user ++ (r .factory ++ (headBytes r (headOf (r .operation)) ++ dataBytes (r .operation)))))
-
-unfoldable pub encodeChip : Chip → List ℕ
-encodeChip c = encodeRegisters (c .registers) ++ (c .buffer1 ++ (c .buffer2 ++ (flagByte (c .compare) ∷ [])))

@@ -1,27 +1,17 @@
--- The chip records that a block can hold: arrays of their lengths, and an operation whose numbers fit their bytes.
+-- Aid: the chip records that a block can hold: registers and buffers of their lengths, and an operation whose numbers fit their bytes. No rule of the chip:
+-- every block holds such a one, and the entry points leave such a one.
 -- Assumes nothing.
 use Prim.Native.Nat.{_^_, _<_}
-use mathlib.Core.Path.{_≡_}
-use lib.ListN.{length}
 use Rattle.registers.specs.declared.Data16.{Data16}
 use Rattle.registers.specs.declared.Data64.{Data64}
+use Rattle.registers.specs.declared.Named.{Named}
+use Rattle.registers.specs.declared.Named.the-variants.{Nothing, Page, Block, Sector, Sectors}
 use Rattle.registers.specs.declared.Operation.{Operation}
-use Rattle.registers.specs.declared.Operation.the-variants.{Idle, Program, ProgramOver, Transfer, Compare, Rewrite, ErasePage, EraseBlock, EraseSector, EraseChip, EraseProtection, ProgramProtection, LockSector, ProgramSecurity}
-use Rattle.registers.specs.declared.Registers.{Registers}
+use Rattle.registers.specs.declared.Update.{Update}
+use Rattle.registers.specs.declared.Update.the-variants.{Keep, FillProtection, MaskProtection, Lock, WriteUser}
+use Rattle.registers.specs.Facts.{factsOf, updateOf}
 use Rattle.state.specs.declared.Chip.{Chip}
-
--- the registers' arrays have their lengths
-pub record Arrays (r : Registers) : Type 0 where
-  pub protection : length (r .protection) ≡ 16
-  pub lockdown : length (r .lockdown) ≡ 16
-  pub user : length (r .user) ≡ 64
-  pub factory : length (r .factory) ≡ 64
-
--- so have all the chip's
-pub record Sized (c : Chip) : Type 0 where
-  pub registers : Arrays (c .registers)
-  pub buffer1 : length (c .buffer1) ≡ 264
-  pub buffer2 : length (c .buffer2) ≡ 264
+use Rattle.state.specs.Whole.{Whole}
 
 -- two words of an FC's data, eight of a 9B's
 pub record Words16 (x : Data16) : Type 0 where
@@ -38,23 +28,25 @@ pub record Words64 (x : Data64) : Type 0 where
   pub g : x .g < 2 ^ 64
   pub h : x .h < 2 ^ 64
 
--- page, block or sector in two bytes, the sector set in four, the data in words of eight
-unfoldable pub Fitting : Operation → Type 0
-Fitting Idle = Unit
-Fitting (Program b page) = page < 65536
-Fitting (ProgramOver b page) = page < 65536
-Fitting (Transfer b page) = page < 65536
-Fitting (Compare b page) = page < 65536
-Fitting (Rewrite b page) = page < 65536
-Fitting (ErasePage page) = page < 65536
-Fitting (EraseBlock block) = block < 65536
-Fitting (EraseSector s) = s < 65536
-Fitting (EraseChip sectors) = sectors < 2 ^ 32
-Fitting EraseProtection = Unit
-Fitting (ProgramProtection d) = Words16 d
-Fitting (LockSector s) = s < 65536
-Fitting (ProgramSecurity d) = Words64 d
+-- a page, block or sector in two bytes, a set of sectors in four
+abbrev pub Numbered : Named → Type 0
+Numbered Nothing = Unit
+Numbered (Page page) = page < 65536
+Numbered (Block block) = block < 65536
+Numbered (Sector s) = s < 65536
+Numbered (Sectors sectors) = sectors < 2 ^ 32
+
+-- data in words of eight bytes
+abbrev pub Worded : Update → Type 0
+Worded Keep = Unit
+Worded FillProtection = Unit
+Worded (MaskProtection d) = Words16 d
+Worded (Lock s) = Unit
+Worded (WriteUser d) = Words64 d
+
+abbrev pub Fitting : Operation → Type 0
+Fitting o = Numbered (factsOf o .names) × Worded (updateOf o)
 
 pub record Holds (c : Chip) : Type 0 where
-  pub sized : Sized c
+  pub whole : Whole c
   pub operation : Fitting (c .registers .operation)

@@ -6,9 +6,11 @@ ghost use lib.ListN.{length, take, replicate};
 ghost use Rattle.slices.specs.Lists.{over, splice};
 ghost use Rattle.registers.specs.Data.{pack16, pack64, bytes16};
 ghost use Rattle.control.specs.Rulings.{marksOf, changed};
+ghost use Rattle.state.specs.Answers.{numberOf};
 ghost use Rattle.state.specs.Memory.{withRegisters};
 ghost use Rattle.blocks.specs.Block.{field, flag, flagByte, beyond, bufferNumber, numberIn, sectorsIn, bufferedOf, plainOf, decodeOperation, decodeRegisters, decodeChip, headOf, dataBytes, headBytes, flagged, encodeRegisters, encodeChip};
-ghost use Rattle.blocks.specs.Promises.{answered, storedIn};
+ghost use Rattle.blocks.specs.Holds.{Holds};
+ghost use Rattle.blocks.specs.Promises.{storedBy, pinMoved};
 use commands::Buffer;
 use control::Change;
 use control::Marks;
@@ -16,6 +18,7 @@ use registers::Data16;
 use registers::Operation;
 use registers::Registers;
 use registers::Seals;
+use registers::Update;
 use state::Chip;
 use state::Outcome;
 
@@ -180,10 +183,10 @@ fn operation_in(block: &[u8]) -> Operation
     }
 }
 
-// The operation under way. Mostly there is none, so that is told first.
+// The operation under way. Mostly there is none, so that is told first. Whatever the block's bytes are, it holds a chip.
 pub fn operation(block: &[u8]) -> Operation
     requires { ⌜ length (now block) ≡ 765 ⌝ }
-    ensures { λ r. ⌜ r ≡ decodeOperation (now (block .entry)) ⌝ }
+    ensures { λ r. ⌜ (r ≡ decodeOperation (now (block .entry))) × (Holds (decodeChip (now (block .entry)))) ⌝ }
 {
     if block[164] == 0 {
         if block[165] == 0 {
@@ -232,7 +235,7 @@ fn decode_registers(block: &[u8]) -> Registers
 // The chip that a block of any content holds.
 pub fn decode(block: &[u8]) -> Chip
     requires { ⌜ length (now block) ≡ 765 ⌝ }
-    ensures { λ r. ⌜ r ≡ decodeChip (now (block .entry)) ⌝ }
+    ensures { λ r. ⌜ (r ≡ decodeChip (now (block .entry))) × (Holds (decodeChip (now (block .entry)))) ⌝ }
 {
     Chip {
         registers: decode_registers(block),
@@ -340,24 +343,16 @@ fn put_data(block: &mut [u8], o: Operation)
     requires { ⌜ length (now block) ≡ 765 ⌝ }
     ensures { λ _. ⌜ now (block .exit) ≡ splice 172 (dataBytes o) (now (block .entry)) ⌝ }
 {
-    match o {
-        Operation::Idle => clear_data(block),
-        Operation::Program { buffer: _, page: _ } => clear_data(block),
-        Operation::ProgramOver { buffer: _, page: _ } => clear_data(block),
-        Operation::Transfer { buffer: _, page: _ } => clear_data(block),
-        Operation::Compare { buffer: _, page: _ } => clear_data(block),
-        Operation::Rewrite { buffer: _, page: _ } => clear_data(block),
-        Operation::ErasePage { page: _ } => clear_data(block),
-        Operation::EraseBlock { block: _ } => clear_data(block),
-        Operation::EraseSector { sector: _ } => clear_data(block),
-        Operation::EraseChip { sectors: _ } => clear_data(block),
-        Operation::EraseProtection => clear_data(block),
-        Operation::ProgramProtection { data } => {
+    let u = registers::update_of(o);
+    match u {
+        Update::Keep => clear_data(block),
+        Update::FillProtection => clear_data(block),
+        Update::MaskProtection { data } => {
             let bytes = protection_bytes(data);
             put(block, 172, &bytes)
         }
-        Operation::LockSector { sector: _ } => clear_data(block),
-        Operation::ProgramSecurity { data } => {
+        Update::Lock { sector: _ } => clear_data(block),
+        Update::WriteUser { data } => {
             let bytes = registers::unpacked64(data);
             put(block, 172, &bytes)
         }
@@ -451,6 +446,14 @@ pub fn settle(block: &mut [u8], o: Operation, c: Change)
     settle_in(block, o, c);
 }
 
+// The WP pin's level stored.
+pub fn move_pin(block: &mut [u8], high: bool)
+    requires { ⌜ length (now block) ≡ 765 ⌝ }
+    ensures { λ _. ⌜ now (block .exit) ≡ pinMoved (now (block .entry)) high ⌝ }
+{
+    block[162] = flag_byte(high);
+}
+
 // The chip stored into the block.
 fn encode(block: &mut [u8], c: Chip)
     requires { ⌜ length (now block) ≡ 765 ⌝ }
@@ -468,7 +471,7 @@ fn encode(block: &mut [u8], c: Chip)
 // What the outcome leaves in the block, and its answer's number.
 pub fn store(block: &mut [u8], o: Outcome) -> u8
     requires { ⌜ length (now block) ≡ 765 ⌝ }
-    ensures { λ r. ⌜ (r ≡ answered o) × (now (block .exit) ≡ storedIn (now (block .entry)) o) ⌝ }
+    ensures { λ r. ⌜ (r ≡ numberOf (o .answer)) × (now (block .exit) ≡ storedBy (now (block .entry)) (o .answer) (o .chip)) ⌝ }
 {
     let a = o.answer;
     let n = state::number(a);

@@ -2,36 +2,27 @@
 // changes nothing. Each works on the chip in its record block, in place, and takes the array as a lent slice; a script with a byte for
 // each frame, the junk that a cut takes, and a log for six bytes a frame. All but raw take a slot and the poll limit.
 ghost use mathlib.Core.Path.{_≡_};
-ghost use lib.ListN.{length};
+ghost use mathlib.Core.List.{[]};
+ghost use Prim.Native.Nat.{ℕ};
+ghost use lib.ListN.{length, replicate};
 ghost use Rattle.state.specs.Answers.{numberOf};
-ghost use Rattle.state.specs.Outcomes.{partFor};
+ghost use Rattle.state.specs.Outcomes.{partIn};
 ghost use Rattle.blocks.specs.Block.{decodeOperation, decodeChip};
-ghost use Rattle.blocks.specs.Holds.{Holds};
 ghost use Rattle.slots.specs.Refusals.{rawRefusal};
-ghost use Rattle.slots.specs.Lists.{Op};
-ghost use Rattle.driver.specs.Start.{limitIn, startDriver};
-ghost use Rattle.calls.specs.Promises.{countsOf, Promise, Lends};
-ghost use Rattle.calls.specs.Runs.{oversizeBy, blankSlot, opOf, Placed, Suits};
-use driver::Driver;
+ghost use Rattle.slots.specs.Lists.{Op, asking, put, patch, get, wipe};
+ghost use Rattle.blocks.specs.Promises.{heldIn};
+ghost use Rattle.runs.specs.Promises.{countsOf, Promise};
+ghost use Rattle.runs.specs.Runs.{opOf, Started};
 use geometry::Geometry;
 use geometry::Part;
-use registers::Operation;
+use runs::Done;
 use runs::Session;
+use slots::Driver;
 use slots::Kind;
 use state::Answer;
 
-mod exchange;
 mod finish;
-mod refusals;
-mod runs;
-
-// What a call hands back: its answer, how many frames it sent and how many of them were polls, and of a get the recipe's length.
-pub struct Done {
-    pub answer: Answer,
-    pub frames: usize,
-    pub polls: usize,
-    pub count: usize,
-}
+mod turning;
 
 // The recipe is stored in the slot.
 pub fn put(
@@ -44,7 +35,7 @@ pub fn put(
     junk: &[u8],
     log: &mut [u8],
 ) -> Done
-    ensures { λ r. ⌜ Promise (Op.put slot limit (now (script .entry)) (now (recipe .entry)) (now (junk .entry)) (now (log .entry))) (now (block .entry)) (now (array .entry)) (now (log .entry)) r (now (block .exit)) (now (array .exit)) (now (log .exit)) ⌝ }
+    ensures { λ r. ⌜ Promise (put slot limit (now (script .entry)) (now (recipe .entry)) (now (junk .entry)) (now (log .entry))) (now (block .entry)) (now (array .entry)) r (now (block .exit)) (now (array .exit)) (now (log .exit)) [] ⌝ }
 {
     let mut none = [0u8; 1];
     call(
@@ -74,7 +65,7 @@ pub fn patch(
     junk: &[u8],
     log: &mut [u8],
 ) -> Done
-    ensures { λ r. ⌜ Promise (Op.patch slot limit place (now (script .entry)) (now (bytes .entry)) (now (junk .entry)) (now (log .entry))) (now (block .entry)) (now (array .entry)) (now (log .entry)) r (now (block .exit)) (now (array .exit)) (now (log .exit)) ⌝ }
+    ensures { λ r. ⌜ Promise (patch slot limit place (now (script .entry)) (now (bytes .entry)) (now (junk .entry)) (now (log .entry))) (now (block .entry)) (now (array .entry)) r (now (block .exit)) (now (array .exit)) (now (log .exit)) [] ⌝ }
 {
     let mut none = [0u8; 1];
     call(
@@ -103,7 +94,7 @@ pub fn get(
     junk: &[u8],
     log: &mut [u8],
 ) -> Done
-    ensures { λ r. ⌜ Lends (Op.get slot limit (now (script .entry)) (now (junk .entry)) (now (log .entry)) (now (buffer .entry))) (now (block .entry)) (now (array .entry)) (now (log .entry)) r (now (block .exit)) (now (array .exit)) (now (log .exit)) (now (buffer .exit)) ⌝ }
+    ensures { λ r. ⌜ Promise (get slot limit (now (script .entry)) (now (junk .entry)) (now (log .entry)) (now (buffer .entry))) (now (block .entry)) (now (array .entry)) r (now (block .exit)) (now (array .exit)) (now (log .exit)) (now (buffer .exit)) ⌝ }
 {
     call(
         block,
@@ -130,7 +121,7 @@ pub fn wipe(
     junk: &[u8],
     log: &mut [u8],
 ) -> Done
-    ensures { λ r. ⌜ Promise (Op.wipe slot limit (now (script .entry)) (now (junk .entry)) (now (log .entry))) (now (block .entry)) (now (array .entry)) (now (log .entry)) r (now (block .exit)) (now (array .exit)) (now (log .exit)) ⌝ }
+    ensures { λ r. ⌜ Promise (wipe slot limit (now (script .entry)) (now (junk .entry)) (now (log .entry))) (now (block .entry)) (now (array .entry)) r (now (block .exit)) (now (array .exit)) (now (log .exit)) [] ⌝ }
 {
     let mut none = [0u8; 1];
     call(
@@ -158,9 +149,9 @@ pub fn raw(
     junk: &[u8],
     log: &mut [u8],
 ) -> Done
-    ensures { λ r. ⌜ Lends (Op.raw (now (frame .entry)) (now (script .entry)) (now (junk .entry)) (now (log .entry)) (now (reply .entry))) (now (block .entry)) (now (array .entry)) (now (log .entry)) r (now (block .exit)) (now (array .exit)) (now (log .exit)) (now (reply .exit)) ⌝ }
+    ensures { λ r. ⌜ Promise (Op.raw (now (frame .entry)) (now (script .entry)) (now (junk .entry)) (now (log .entry)) (now (reply .entry))) (now (block .entry)) (now (array .entry)) r (now (block .exit)) (now (array .exit)) (now (log .exit)) (now (reply .exit)) ⌝ }
 {
-    let o = operation(block);
+    let o = blocks::operation(block);
     let p = registers::place(array.len(), o);
     match p {
         Part::Known(g) => {
@@ -191,14 +182,6 @@ pub fn tell(counts: &mut [u64; 3], d: Done) -> u8
     state::number(a)
 }
 
-// The operation under way; every block of 765 bytes reads as a chip that a block can hold.
-fn operation(block: &[u8]) -> Operation
-    requires { ⌜ length (now block) ≡ 765 ⌝ }
-    ensures { λ r. ⌜ (r ≡ decodeOperation (now (block .entry))) × (Holds (decodeChip (now (block .entry)))) ⌝ }
-{
-    blocks::operation(block)
-}
-
 // ---- put, patch, get and wipe, by their kind
 
 // Put, patch, get and wipe.
@@ -215,10 +198,9 @@ fn call(
     junk: &[u8],
     log: &mut [u8],
 ) -> Done
-    requires { ⌜ Suits kind place (now payload) (now buffer) ⌝ }
-    ensures { λ r. ⌜ Lends (opOf kind slot limit place (now (payload .entry)) (now (buffer .entry)) (now (script .entry)) (now (junk .entry)) (now (log .entry))) (now (block .entry)) (now (array .entry)) (now (log .entry)) r (now (block .exit)) (now (array .exit)) (now (log .exit)) (now (buffer .exit)) ⌝ }
+    ensures { λ r. ⌜ Promise (Op.call (asking kind slot limit) place (now (script .entry)) (now (payload .entry)) (now (junk .entry)) (now (log .entry)) (now (buffer .entry))) (now (block .entry)) (now (array .entry)) r (now (block .exit)) (now (array .exit)) (now (log .exit)) (now (buffer .exit)) ⌝ }
 {
-    let o = operation(block);
+    let o = blocks::operation(block);
     let p = registers::place(array.len(), o);
     match p {
         Part::Known(g) => call_in(
@@ -254,14 +236,53 @@ fn call_in(
     junk: &[u8],
     log: &mut [u8],
 ) -> Done
-    requires { ⌜ (partFor (decodeChip (now block)) (now array) ≡ Part.Known g) × (Holds (decodeChip (now block))) × (Suits kind place (now payload) (now buffer)) ⌝ }
-    ensures { λ r. ⌜ Lends (opOf kind slot limit place (now (payload .entry)) (now (buffer .entry)) (now (script .entry)) (now (junk .entry)) (now (log .entry))) (now (block .entry)) (now (array .entry)) (now (log .entry)) r (now (block .exit)) (now (array .exit)) (now (log .exit)) (now (buffer .exit)) ⌝ }
+    requires { ⌜ partIn (heldIn (now block) (now array)) ≡ Part.Known g ⌝ }
+    ensures { λ r. ⌜ Promise (Op.call (asking kind slot limit) place (now (script .entry)) (now (payload .entry)) (now (junk .entry)) (now (log .entry)) (now (buffer .entry))) (now (block .entry)) (now (array .entry)) r (now (block .exit)) (now (array .exit)) (now (log .exit)) (now (buffer .exit)) ⌝ }
 {
-    let d = start(array.len(), kind, slot, limit, place, payload, buffer.len());
-    let a = refusals::call_refusal(g, array.len(), d, log.len(), script, junk.len());
+    let a = refusals::call_refusal(
+        g,
+        array.len(),
+        kind,
+        slot,
+        limit,
+        place,
+        payload.len(),
+        buffer.len(),
+        log.len(),
+        script,
+        junk.len(),
+    );
     if state::number(a) != 0 {
         return refuse(a);
     }
+    let d = driver::start(
+        array.len(),
+        kind,
+        slot,
+        limit,
+        place,
+        payload.len(),
+        buffer.len(),
+    );
+    run(g, d, block, array, payload, buffer, script, junk, log)
+}
+
+// A call that is not refused, whose driver starts as d.
+fn run(
+    g: Geometry,
+    d: Driver,
+    block: &mut [u8; 765],
+    array: &mut [u8],
+    payload: &[u8],
+    buffer: &mut [u8],
+    script: &[u8],
+    junk: &[u8],
+    log: &mut [u8],
+) -> Done
+    requires { ⌜ (partIn (heldIn (now block) (now array)) ≡ Part.Known g) × (Started g d (now array) (now payload) (now buffer) (now script) (now junk) (now log)) ⌝ }
+    ensures { λ r. ⌜ Promise (opOf d (now (payload .entry)) (now (buffer .entry)) (now (script .entry)) (now (junk .entry)) (now (log .entry))) (now (block .entry)) (now (array .entry)) r (now (block .exit)) (now (array .exit)) (now (log .exit)) (now (buffer .exit)) ⌝ }
+{
+    let kind = d.kind;
     let mut staged = blank_slot();
     let s = Session {
         driver: d,
@@ -269,34 +290,21 @@ fn call_in(
         polls: 0,
         cut: false,
     };
-    let e = runs::drive(g, s, block, array, payload, &mut staged, script, log);
-    finish::finish(g, kind, e, block, array, &staged, junk, buffer)
-}
-
-// The driver at the start of a call. The payload is a put's recipe or a patch's bytes, the buffer's length a get's.
-fn start(
-    array: usize,
-    kind: Kind,
-    slot: usize,
-    limit: usize,
-    place: usize,
-    payload: &[u8],
-    buffer: usize,
-) -> Driver
-    requires { ⌜ Placed kind place ⌝ }
-    ensures { λ r. ⌜ r ≡ startDriver array kind slot limit place (oversizeBy kind (limitIn array) place (length (now (payload .entry))) buffer) ⌝ }
-{
-    match kind {
-        Kind::Put => driver::start_put(array, slot, limit, payload),
-        Kind::Patch => driver::start_patch(array, slot, limit, place, payload),
-        Kind::Get => driver::start_get(array, slot, limit, buffer),
-        Kind::Wipe => driver::start_wipe(array, slot, limit),
+    let e = turning::drive(g, s, block, array, payload, &mut staged, script, log);
+    let a = finish::answer(e);
+    let n = finish::deliver(kind, a, &staged, buffer);
+    finish::lose(g, e, block, array, junk);
+    Done {
+        answer: a,
+        frames: e.frames,
+        polls: e.polls,
+        count: n,
     }
 }
 
 // A slot's bytes before any is read.
 fn blank_slot() -> [u8; 2112]
-    ensures { λ r. ⌜ r ≡ blankSlot ⌝ }
+    ensures { λ r. ⌜ r ≡ replicate 2112 0 ⌝ }
 {
     [0; 2112]
 }
@@ -326,13 +334,13 @@ fn raw_sent(
     junk: &[u8],
     log: &mut [u8],
 ) -> Done
-    requires { ⌜ (partFor (decodeChip (now block)) (now array) ≡ Part.Known g) × (Holds (decodeChip (now block))) × (numberOf (rawRefusal g (length (now array)) (now frame) (length (now reply)) (length (now log)) (now script) (length (now junk))) ≡ 0) ⌝ }
-    ensures { λ r. ⌜ Lends (Op.raw (now (frame .entry)) (now (script .entry)) (now (junk .entry)) (now (log .entry)) (now (reply .entry))) (now (block .entry)) (now (array .entry)) (now (log .entry)) r (now (block .exit)) (now (array .exit)) (now (log .exit)) (now (reply .exit)) ⌝ }
+    requires { ⌜ (partIn (heldIn (now block) (now array)) ≡ Part.Known g) × (numberOf (rawRefusal g (length (now array)) (now frame) (length (now reply)) (length (now log)) (now script) (length (now junk))) ≡ 0) ⌝ }
+    ensures { λ r. ⌜ Promise (Op.raw (now (frame .entry)) (now (script .entry)) (now (junk .entry)) (now (log .entry)) (now (reply .entry))) (now (block .entry)) (now (array .entry)) r (now (block .exit)) (now (array .exit)) (now (log .exit)) (now (reply .exit)) ⌝ }
 {
-    let b = exchange::byte_or(script, 0, 0);
-    exchange::exchange(g, block, array, frame, reply, log, 0, b);
+    let b = slices::byte_or(script, 0, 0);
+    exchanges::exchange(g, block, array, frame, reply, log, 0, b);
     if b == 2 {
-        finish::cut(block, array, junk);
+        exchanges::cut(g, block, array, junk);
         return Done {
             answer: Answer::Cut,
             frames: 1,

@@ -1,9 +1,10 @@
 // The AT45DB081D as document 01 condenses it: a chip record by value and the array as a lent slice.
 // Entry points: fresh, send, end_busy, move_pin, cut, and number. None has a `requires`: bad input is refused, and a refusal
 // changes nothing.
-ghost use mathlib.Core.Path.{_≡_};
-ghost use lib.ListN.{length};
-ghost use Rattle.state.specs.Outcomes.{freshOutcome, freshArray, sendOutcome, sendReply, endOutcome, endArray, pinOutcome, cutOutcome, cutArray};
+ghost use mathlib.Core.List.{List, []};
+ghost use Prim.Native.Nat.{ℕ};
+ghost use Rattle.state.specs.Memory.{stateOf};
+ghost use Rattle.state.specs.Outcomes.{Leaves, freshOutcome, sendOutcome, endOutcome, pinOutcome, cutOutcome};
 use geometry::Part;
 use registers::Operation;
 use registers::Registers;
@@ -13,7 +14,7 @@ use state::Outcome;
 
 // A fresh chip with these factory bytes; the array becomes FFh. Answer 1 for an array of another length, which keeps its bytes.
 pub fn fresh(factory: [u8; 64], array: &mut [u8]) -> Outcome
-    ensures { λ r. ⌜ (r ≡ freshOutcome factory (now (array .entry))) × (now (array .exit) ≡ freshArray (now (array .entry))) ⌝ }
+    ensures { λ r. ⌜ Leaves (freshOutcome factory (now (array .entry))) r (now (array .exit)) [] ⌝ }
 {
     let registers = Registers {
         protection: [0u8; 16],
@@ -50,7 +51,7 @@ pub fn fresh(factory: [u8; 64], array: &mut [u8]) -> Outcome
 
 // A frame sent straight to the chip, with its reply in the lent buffer. Answers 0, 1, 2.
 pub fn send(c: Chip, array: &[u8], frame: &[u8], reply: &mut [u8]) -> Outcome
-    ensures { λ r. ⌜ (r ≡ sendOutcome c (now (array .entry)) (now (frame .entry)) (length (now (reply .entry)))) × (now (reply .exit) ≡ sendReply c (now (array .entry)) (now (frame .entry)) (now (reply .entry))) ⌝ }
+    ensures { λ r. ⌜ Leaves (sendOutcome (stateOf c (now (array .entry))) (now (frame .entry)) (now (reply .entry))) r (now (array .entry)) (now (reply .exit)) ⌝ }
 {
     let r = c.registers;
     let o = r.operation;
@@ -66,7 +67,7 @@ pub fn send(c: Chip, array: &[u8], frame: &[u8], reply: &mut [u8]) -> Outcome
 
 // The operation under way ends and takes effect. Answers 0, 1.
 pub fn end_busy(c: Chip, array: &mut [u8]) -> Outcome
-    ensures { λ r. ⌜ (r ≡ endOutcome c (now (array .entry))) × (now (array .exit) ≡ endArray c (now (array .entry))) ⌝ }
+    ensures { λ r. ⌜ Leaves (endOutcome (stateOf c (now (array .entry)))) r (now (array .exit)) [] ⌝ }
 {
     let r = c.registers;
     let o = r.operation;
@@ -82,7 +83,7 @@ pub fn end_busy(c: Chip, array: &mut [u8]) -> Outcome
 
 // The WP pin is moved. Answer 0.
 pub fn move_pin(c: Chip, high: bool) -> Outcome
-    ensures { λ r. ⌜ r ≡ pinOutcome c high ⌝ }
+    ensures { λ r. ⌜ ((xs : List ℕ) → Leaves (pinOutcome high (stateOf c xs)) r xs []) ⌝ }
 {
     let r = c.registers;
     let n = registers::with_wp(r, high);
@@ -94,7 +95,7 @@ pub fn move_pin(c: Chip, high: bool) -> Outcome
 
 // The supply is cut, with junk for what was being written. Answers 0, 1, 7.
 pub fn cut(c: Chip, array: &mut [u8], junk: &[u8]) -> Outcome
-    ensures { λ r. ⌜ (r ≡ cutOutcome c (now (array .entry)) (now (junk .entry))) × (now (array .exit) ≡ cutArray c (now (array .entry)) (now (junk .entry))) ⌝ }
+    ensures { λ r. ⌜ Leaves (cutOutcome (now (junk .entry)) (stateOf c (now (array .entry)))) r (now (array .exit)) [] ⌝ }
 {
     let r = c.registers;
     let o = r.operation;

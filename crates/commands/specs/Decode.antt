@@ -17,14 +17,6 @@ use Rattle.commands.specs.Table.{Sequence, commands, sequences}
 abbrev pub unlisted : Decoded
 unlisted = record { lead = 0; effect = Unlisted }
 
--- how many rows stand before the one with this opcode; all of them where none has it
-unfoldable pub placeIn : List Command → ℕ → ℕ
-placeIn [] opcode = 0
-placeIn (c ∷ cs) opcode = cond (eqb (c .0) opcode) 0 (suc (placeIn cs opcode))
-
-unfoldable pub placeOf : ℕ → ℕ
-placeOf opcode = placeIn commands opcode
-
 -- the row with this opcode, if any
 unfoldable pub lookupIn : List Command → ℕ → Found
 lookupIn [] opcode = Missing
@@ -53,3 +45,13 @@ complete n d = cond (leb (d .lead) n) d unlisted
 -- a frame's row: its lead and effect
 unfoldable pub decodeOf : List ℕ → Decoded
 decodeOf f = cond (eqb (length f) 0) unlisted (complete (length f) (opened (lookupOf (getD f 0 0)) f))
+
+-- ---- Aid: the place of the row that the code looks up
+
+-- how many rows stand before the one with this opcode; all of them where none has it
+unfoldable pub placeIn : List Command → ℕ → ℕ
+placeIn [] opcode = 0
+placeIn (c ∷ cs) opcode = cond (eqb (c .0) opcode) 0 (suc (placeIn cs opcode))
+
+unfoldable pub placeOf : ℕ → ℕ
+placeOf opcode = placeIn commands opcode

@@ -1,4 +1,5 @@
--- What the table keeps to: how far into a frame each effect looks for its address, which effects take data, and the rule of every row.
+-- Aid: what the table keeps to, so that the code may read a frame: how far in each effect looks for its address, which effects take data, and what holds
+-- of every row; no rule of the chip.
 -- Assumes nothing.
 use Prim.Native.Nat.{ℕ, _≤_}
 use mathlib.Core.Path.{_≡_}

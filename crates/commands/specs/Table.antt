@@ -48,10 +48,6 @@ commands =
     row 0xAB 1 Resume ∷
     []
 
--- row i
-unfoldable pub rowAt : ℕ → Command
-rowAt i = getD commands i (row 0 0 ReadPage)
-
 -- a row whose opening is four bytes
 pub record Sequence : Type 0 where
   pub opening : List ℕ
@@ -70,6 +66,10 @@ sequences =
     record { opening = 0x9B ∷ 0x00 ∷ 0x00 ∷ 0x00 ∷ []; lead = 4; effect = ProgramSecurity } ∷
     []
 
--- sequence k
+-- ---- Aid: a row by its place, as the code reads it
+
+unfoldable pub rowAt : ℕ → Command
+rowAt i = getD commands i (row 0 0 ReadPage)
+
 unfoldable pub sequenceAt : ℕ → Sequence
 sequenceAt k = getD sequences k (record { opening = []; lead = 0; effect = Unlisted })

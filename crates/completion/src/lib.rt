@@ -1,19 +1,22 @@
 // A busy end on a chip whose part is known. The buffers are lent as one slice of 528 bytes.
 ghost use mathlib.Core.Path.{_≡_};
 ghost use mathlib.Core.Bool.{true};
+ghost use mathlib.Core.List.{[]};
 ghost use Prim.Native.Nat.{_<_};
 ghost use lib.ListN.{length};
 ghost use Rattle.geometry.specs.Parts.{Sized};
 ghost use Rattle.slices.specs.Lists.{splice};
-ghost use Rattle.registers.specs.Operations.{within, runOf};
+ghost use Rattle.registers.specs.Operations.{within};
 ghost use Rattle.memory.specs.Pages.{programmed, programmedOver, transferred, differing, erased};
-ghost use Rattle.state.specs.Memory.{memoryIn, bufferStart, lent};
-ghost use Rattle.state.specs.Completion.{completedMemory};
-ghost use Rattle.state.specs.Outcomes.{endedIn, endedArray};
+ghost use Rattle.state.specs.Lent.{memoryIn, bufferStart, lent};
+ghost use Rattle.state.specs.Completion.{inTarget, completedMemory};
+ghost use Rattle.state.specs.Memory.{stateOf};
+ghost use Rattle.state.specs.Outcomes.{Leaves, endedBy};
 use commands::Buffer;
 use geometry::Geometry;
 use geometry::Part;
 use registers::Operation;
+use registers::Work;
 use state::Answer;
 use state::Chip;
 use state::Outcome;
@@ -58,12 +61,18 @@ fn compare(g: Geometry, buffers: &[u8], array: &[u8], buffer: Buffer, page: usiz
     memory::page_differs(g, array, page, &buffers[a..e])
 }
 
-// 81, 50, 7C: the pages of the operation's run become FFh.
+// 81, 50, 7C, C7 94 80 9A: what the operation erases becomes FFh.
 fn erase(g: Geometry, array: &mut [u8], o: Operation)
     requires { ⌜ (Sized g (length (now array))) × (within g o ≡ true) ⌝ }
-    ensures { λ _. ⌜ now (array .exit) ≡ erased g (runOf g o) (now (array .entry)) ⌝ }
+    ensures { λ _. ⌜ now (array .exit) ≡ inTarget (erased g) g o (now (array .entry)) ⌝ }
 {
-    memory::erase(g, array, registers::run_of(g, o));
+    let n = registers::target_of(o);
+    memory::erase(g, array, registers::run_named(g, n));
+    let sectors = registers::set_named(n);
+    if sectors == 0 {
+        return;
+    }
+    memory::erase_sectors(g, array, sectors);
 }
 
 // What the operation does to the memory as it ends: the array, the buffers, and the compare bit, which it returns.
@@ -77,53 +86,38 @@ pub fn complete_memory(
     requires { ⌜ (Sized g (length (now array))) × (within g o ≡ true) × (length (now buffers) ≡ 528) ⌝ }
     ensures { λ r. ⌜ memoryIn (now (array .exit)) (now (buffers .exit)) r ≡ completedMemory g o (memoryIn (now (array .entry)) (now (buffers .entry)) bit) ⌝ }
 {
-    match o {
-        Operation::Idle => bit,
-        Operation::Program { buffer, page } => {
+    let f = registers::facts_of(o);
+    let n = f.names;
+    let page = registers::page_named(n);
+    let u = f.usage;
+    let buffer = registers::buffer_of(u);
+    let w = f.work;
+    match w {
+        Work::Rest => bit,
+        Work::Program => {
             program(g, buffers, array, buffer, page);
             bit
         }
-        Operation::ProgramOver { buffer, page } => {
+        Work::ProgramOver => {
             program_over(g, buffers, array, buffer, page);
             bit
         }
-        Operation::Transfer { buffer, page } => {
+        Work::Transfer => {
             transfer(g, buffers, array, buffer, page);
             bit
         }
-        Operation::Compare { buffer, page } => compare(g, buffers, array, buffer, page),
-        Operation::Rewrite { buffer, page } => {
-            transfer(g, buffers, array, buffer, page);
-            bit
-        }
-        Operation::ErasePage { page: _ } => {
+        Work::Compare => compare(g, buffers, array, buffer, page),
+        Work::Erase => {
             erase(g, array, o);
             bit
         }
-        Operation::EraseBlock { block: _ } => {
-            erase(g, array, o);
-            bit
-        }
-        Operation::EraseSector { sector: _ } => {
-            erase(g, array, o);
-            bit
-        }
-        // C7 94 80 9A: the sectors that were unsealed at the start become FFh.
-        Operation::EraseChip { sectors } => {
-            memory::erase_sectors(g, array, sectors);
-            bit
-        }
-        Operation::EraseProtection => bit,
-        Operation::ProgramProtection { data: _ } => bit,
-        Operation::LockSector { sector: _ } => bit,
-        Operation::ProgramSecurity { data: _ } => bit,
     }
 }
 
 // The busy end of a chip by value.
 pub fn end_in(g: Geometry, c: Chip, array: &mut [u8]) -> Outcome
     requires { ⌜ (Sized g (length (now array))) × (within g (c .registers .operation) ≡ true) ⌝ }
-    ensures { λ r. ⌜ (r ≡ endedIn (Part.Known g) c (now (array .entry))) × (now (array .exit) ≡ endedArray (Part.Known g) c (now (array .entry))) ⌝ }
+    ensures { λ r. ⌜ Leaves (endedBy (Part.Known g) (stateOf c (now (array .entry)))) r (now (array .exit)) [] ⌝ }
 {
     let r = c.registers;
     let o = r.operation;

@@ -17,12 +17,12 @@ use Rattle.commands.proofs.Frames.{decode-status, decode-protection, decode-loc
 use Rattle.registers.specs.declared.Operation.{Operation}
 use Rattle.registers.specs.declared.Operation.the-variants as O
 use Rattle.registers.specs.declared.Registers.{Registers}
+use Rattle.registers.specs.declared.Usage.{Usage}
+use Rattle.registers.specs.declared.Usage.the-variants.{Free, NoBuffer, Uses, Exclusive}
 use Rattle.registers.specs.Protection.{sealed}
 use Rattle.control.specs.declared.Action.the-variants as A
 use Rattle.control.specs.declared.Class.the-variants.{Status}
 use Rattle.control.specs.declared.Decision.{Decision}
-use Rattle.control.specs.declared.Usage.{Usage}
-use Rattle.control.specs.declared.Usage.the-variants.{Free, NoBuffer, Uses, Exclusive}
 use Rattle.control.specs.Obeyed.{classOf, usageOf, allowed, isWake, obeyed}
 use Rattle.control.specs.Control.{decided, ignored, started, startedOn, rowDecided, rowOf, decodedControl, control}
 use Rattle.control.specs.Starts.{Ready}
@@ -32,7 +32,7 @@ use Rattle.control.proofs.Steps.{deep-refuses, awake-allows, obeyed-row
 
 -- an idle, awake chip obeys every command
 ready-all : (r : Registers) (e : Effect) → Ready r → obeyed r e ≡ true
-unfolding usageOf allowed
+unfolding allowed
 ready-all r e y = awake-allows r e (y .1) ∙ (λ i. allowed (usageOf (y .0 i)) (classOf e))
 
 pub ready-obeys : (g : Geometry) (r : Registers) (f : List ℕ) → Ready r → control g r f ≡ rowOf g r f (decodeOf f .lead) (decodeOf f .effect)

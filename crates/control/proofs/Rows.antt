@@ -21,16 +21,17 @@ use Rattle.commands.specs.Decode.{decodeOf}
 use Rattle.registers.specs.declared.Operation.{Operation}
 use Rattle.registers.specs.declared.Operation.the-variants as O
 use Rattle.registers.specs.declared.Registers.{Registers}
+use Rattle.registers.specs.declared.Usage.{Usage}
+use Rattle.registers.specs.declared.Usage.the-variants.{Free, NoBuffer, Uses, Exclusive}
 use Rattle.registers.specs.Fields.{withOperation, withProtect, withDeep}
 use Rattle.registers.specs.Operations.{within}
 use Rattle.registers.specs.Protection.{sealed, unsealedSet}
+use Rattle.registers.proofs.Operations.{free-idle}
 use Rattle.registers.proofs.Sets.{unsealed-small}
 use Rattle.control.specs.declared.Action.the-variants as A
 use Rattle.control.specs.declared.Class.{Class}
 use Rattle.control.specs.declared.Class.the-variants.{Wake, Other}
 use Rattle.control.specs.declared.Decision.{Decision}
-use Rattle.control.specs.declared.Usage.{Usage}
-use Rattle.control.specs.declared.Usage.the-variants.{Free, NoBuffer, Uses, Exclusive}
 use Rattle.control.specs.Obeyed.{classOf, usageOf, allowed, isWake, obeyed}
 use Rattle.control.specs.Control.{decided, ignored, started, startedOn, programmedThrough, protectOff, protectionErased, protectionData, protectionProgrammed, sectorLocked, securityData, securityProgrammed, rowDecided, rowOf, decodedControl, control}
 use Rattle.control.specs.Starts.{Ready, Open, Starts, Fixed, Lengths, programs, programs-over, transfers, compares, rewrites, erases-page, erases-block, erases-sector, erases-chip, erases-protection, programs-protection, locks-sector, programs-security}
@@ -65,23 +66,6 @@ first false b e = never e
 second : (a b : Bool) → a && b ≡ true → b ≡ true
 second true b e = e
 second false b e = never e
-
-free-idle : (o : Operation) → usageOf o ≡ Free → o ≡ O.Idle
-unfolding usageOf
-free-idle O.Idle e = refl
-free-idle (O.Program b page) e = cc
-free-idle (O.ProgramOver b page) e = cc
-free-idle (O.Transfer b page) e = cc
-free-idle (O.Compare b page) e = cc
-free-idle (O.Rewrite b page) e = cc
-free-idle (O.ErasePage page) e = cc
-free-idle (O.EraseBlock block) e = cc
-free-idle (O.EraseSector s) e = cc
-free-idle (O.EraseChip sectors) e = cc
-free-idle O.EraseProtection e = cc
-free-idle (O.ProgramProtection d) e = cc
-free-idle (O.LockSector s) e = cc
-free-idle (O.ProgramSecurity d) e = cc
 
 other-free : (u : Usage) → allowed u Other ≡ true → u ≡ Free
 unfolding allowed
@@ -123,10 +107,10 @@ wake-idle r e k h =
 
 module _ (g : Geometry) (r : Registers) (f : List ℕ) (Q : Registers → Type 0)
     (same : Q r)
-    (starts : (o : Operation) → Ready r → Starts g r o → Q (withOperation r o))
+    (starts : (o : Operation) → Ready r → Starts g r f o → Q (withOperation r o))
     (marks : (on : Bool) → Ready r → Q (withProtect r on))
     (sleeps : (on : Bool) → r .operation ≡ O.Idle → Q (withDeep r on)) where
-  on-page : (n : ℕ) (o : Operation) → Ready r → (Open g r n → Starts g r o) → Q (startedOn r (pageAt g n) o .registers)
+  on-page : (n : ℕ) (o : Operation) → Ready r → (Open g r n → Starts g r f o) → Q (startedOn r (pageAt g n) o .registers)
   unfolding startedOn
   on-page n o y s =
       either Q (sealed r (sectorOf (pageAt g n))) (ignored r) (started r o) (λ e. same) (λ e. starts o y (s e))
@@ -169,13 +153,13 @@ module _ (g : Geometry) (r : Registers) (f : List ℕ) (Q : Registers → Type 0
   row-registers lead E.ProgramProtection h =
       let d = protectionData f in
       either Q (r .wp) (decided (withOperation r (O.ProgramProtection d)) (A.LoadProtection d) 0) (ignored r)
-      (λ e. starts (O.ProgramProtection d) (other-ready r E.ProgramProtection refl h) (programs-protection d e)) (λ e. same)
+      (λ e. starts (O.ProgramProtection d) (other-ready r E.ProgramProtection refl h) (programs-protection e)) (λ e. same)
   row-registers lead E.LockSector h =
       starts (O.LockSector (sectorOf (pageAt g (addressAt f 4)))) (other-ready r E.LockSector refl h) (locks-sector (addressAt f 4))
   row-registers lead E.ProgramSecurity h =
       let d = securityData f in
       either Q (r .used) (ignored r) (decided (withOperation r (O.ProgramSecurity d)) (A.LoadSecurity d) 0)
-      (λ e. same) (λ e. starts (O.ProgramSecurity d) (other-ready r E.ProgramSecurity refl h) (programs-security d e))
+      (λ e. same) (λ e. starts (O.ProgramSecurity d) (other-ready r E.ProgramSecurity refl h) (programs-security e))
   row-registers lead E.ReadProtection h = same
   row-registers lead E.ReadLockdown h = same
   row-registers lead E.ReadSecurity h = same
@@ -193,7 +177,7 @@ module _ (g : Geometry) (r : Registers) (f : List ℕ) (Q : Registers → Type 0
 
 -- what a frame leaves under way: what was under way, or what it starts on an idle, awake chip
 pub control-operation : (g : Geometry) (r : Registers) (f : List ℕ) (Q : Operation → Type 0) → Q (r .operation)
-    → ((o : Operation) → Ready r → Starts g r o → Q o) → Q (control g r f .registers .operation)
+    → ((o : Operation) → Ready r → Starts g r f o → Q o) → Q (control g r f .registers .operation)
 control-operation g r f Q u s = control-registers g r f (λ n. Q (n .operation)) u s (λ on y. u) (λ on y. u)
 
 -- no frame changes the bytes of a register, the used mark or the pin's level
@@ -229,23 +213,23 @@ page-few : (g : Geometry) (n address : ℕ) → Sized g n → pageAt g address <
 page-few g n address z = page-named g address (omega (arith, z .blocks))
 
 -- what a frame may start names nothing beyond the part
-pub starts-within : (g : Geometry) (n : ℕ) (r : Registers) (o : Operation) → Sized g n → Starts g r o → within g o ≡ true
+pub starts-within : (g : Geometry) (n : ℕ) (r : Registers) (f : List ℕ) (o : Operation) → Sized g n → Starts g r f o → within g o ≡ true
 unfolding within
-starts-within g n r o z (programs b a u) = lt-ltb (pageAt g a) (g .pages) (page-few g n a z)
-starts-within g n r o z (programs-over b a u) = lt-ltb (pageAt g a) (g .pages) (page-few g n a z)
-starts-within g n r o z (transfers b a) = lt-ltb (pageAt g a) (g .pages) (page-few g n a z)
-starts-within g n r o z (compares b a) = lt-ltb (pageAt g a) (g .pages) (page-few g n a z)
-starts-within g n r o z (rewrites b a u) = lt-ltb (pageAt g a) (g .pages) (page-few g n a z)
-starts-within g n r o z (erases-page a u) = lt-ltb (pageAt g a) (g .pages) (page-few g n a z)
-starts-within g n r o z (erases-block a u) = lt-ltb (pageAt g a / 8) (g .pages / 8) (block-few g n (pageAt g a) z (page-few g n a z))
-starts-within g n r o z (erases-sector a u) = lt-ltb (sectorOf (pageAt g a)) (sectorCount g) (sector-few g (pageAt g a) (page-few g n a z))
-starts-within g n r o z erases-chip = lt-ltb (unsealedSet g r) (2 ^ sectorCount g) (unsealed-small g r)
-starts-within g n r o z (erases-protection u) = refl
-starts-within g n r o z (programs-protection d u) = refl
-starts-within g n r o z (locks-sector a) = lt-ltb (sectorOf (pageAt g a)) (sectorCount g) (sector-few g (pageAt g a) (page-few g n a z))
-starts-within g n r o z (programs-security d u) = refl
+starts-within g n r f o z (programs b a u) = lt-ltb (pageAt g a) (g .pages) (page-few g n a z)
+starts-within g n r f o z (programs-over b a u) = lt-ltb (pageAt g a) (g .pages) (page-few g n a z)
+starts-within g n r f o z (transfers b a) = lt-ltb (pageAt g a) (g .pages) (page-few g n a z)
+starts-within g n r f o z (compares b a) = lt-ltb (pageAt g a) (g .pages) (page-few g n a z)
+starts-within g n r f o z (rewrites b a u) = lt-ltb (pageAt g a) (g .pages) (page-few g n a z)
+starts-within g n r f o z (erases-page a u) = lt-ltb (pageAt g a) (g .pages) (page-few g n a z)
+starts-within g n r f o z (erases-block a u) = lt-ltb (pageAt g a / 8) (g .pages / 8) (block-few g n (pageAt g a) z (page-few g n a z))
+starts-within g n r f o z (erases-sector a u) = lt-ltb (sectorOf (pageAt g a)) (sectorCount g) (sector-few g (pageAt g a) (page-few g n a z))
+starts-within g n r f o z erases-chip = lt-ltb (unsealedSet g r) (2 ^ sectorCount g) (unsealed-small g r)
+starts-within g n r f o z (erases-protection u) = refl
+starts-within g n r f o z (programs-protection u) = refl
+starts-within g n r f o z (locks-sector a) = lt-ltb (sectorOf (pageAt g a)) (sectorCount g) (sector-few g (pageAt g a) (page-few g n a z))
+starts-within g n r f o z (programs-security u) = refl
 
 -- a frame never leaves an operation that names something beyond the part
 pub control-within : (g : Geometry) (n : ℕ) (r : Registers) (f : List ℕ) → Sized g n → within g (r .operation) ≡ true
     → within g (control g r f .registers .operation) ≡ true
-control-within g n r f z h = control-operation g r f (λ o. within g o ≡ true) h (λ o y s. starts-within g n r o z s)
+control-within g n r f z h = control-operation g r f (λ o. within g o ≡ true) h (λ o y s. starts-within g n r f o z s)

@@ -8,13 +8,12 @@ use native.Mathlib.Nat.{add-zero}
 use native.Mathlib.Omega.{arith}
 use lib.ListN.{length, getD, take, drop, length-take, length-drop}
 use lib.Seq.{getD-drop}
-use lib.Dec.{eqb}
-use borrow.Author.Tests.{ltb-true, le-leb, lt-leb}
+use borrow.Author.Tests.{le-leb, lt-leb}
 use Rattle.slices.specs.Lists.{over}
 use Rattle.slices.proofs.Laws.{over-whole}
 use Rattle.geometry.specs.declared.Geometry.{Geometry}
 use Rattle.geometry.specs.Parts.{Sized}
-use Rattle.geometry.specs.Sectors.{sectorOf, sectorCount}
+use Rattle.geometry.specs.Sectors.{sectorOf}
 use Rattle.geometry.proofs.Sectors.{sector-most}
 use Rattle.commands.specs.declared.Buffer.{Buffer}
 use Rattle.commands.specs.declared.Effect.{Effect}
@@ -24,16 +23,22 @@ use Rattle.commands.specs.Room.{room, takes}
 use Rattle.commands.proofs.Rules.{decode-lead, decode-room, decode-data}
 use Rattle.registers.specs.declared.Data16.{Data16}
 use Rattle.registers.specs.declared.Data64.{Data64}
+use Rattle.registers.specs.declared.Operation.{Operation}
 use Rattle.registers.specs.declared.Operation.the-variants as O
 use Rattle.registers.specs.declared.Registers.{Registers}
+use Rattle.registers.specs.declared.Update.{Update}
+use Rattle.registers.specs.declared.Update.the-variants.{Lock}
+use Rattle.registers.specs.Facts.{factsOf, updateOf}
 use Rattle.registers.specs.Fields.{withLockdown, withOperation, withProtect}
 use Rattle.registers.specs.Operations.{within}
 use Rattle.registers.specs.Protection.{sealed, lockedBytes}
+use Rattle.registers.proofs.Operations.{lock-names, named-sector}
 use Rattle.control.specs.Obeyed.{classOf, usageOf, allowed, isWake, obeyed}
 use Rattle.control.specs.declared.Action.the-variants as A
 use Rattle.control.specs.declared.Decision.{Decision}
 use Rattle.control.specs.Control.{decided, ignored, started, programmedThrough, protectOff, protectionErased, protectionData, protectionProgrammed, securityData, securityProgrammed, rowOf, decodedControl, control}
-use Rattle.control.specs.PowerLoss.{afterBuffers, reaching, lostBy}
+use Rattle.control.specs.Completion.{updated, completedBy}
+use Rattle.control.specs.PowerLoss.{afterBuffers, reached, reaching, spoilt, lostBy}
 
 -- ---- obeyed or not
 
@@ -64,9 +69,9 @@ pub tested : (r : Registers) (page : ℕ) {s : ℕ} {b v : Bool} → s ≡ secto
 tested r page e h k = ap (sealed r) (sym e) ∙ sym h ∙ k
 
 -- a lock under way names one of the 17 sectors
-pub lock-small : (g : Geometry) (n s : ℕ) → Sized g n → within g (O.LockSector s) ≡ true → s < 17
+pub lock-small : (g : Geometry) (n s : ℕ) (o : Operation) {u : Update} → Sized g n → within g o ≡ true → u ≡ updateOf o → u ≡ Lock s → s < 17
 unfolding within
-lock-small g n s z h = let k = ltb-true s (sectorCount g) h in let m = sector-most g (z .few) in omega arith
+lock-small g n s o z h e k = omega (arith, named-sector g (factsOf o .names) h s (lock-names o s (sym e ∙ k)), sector-most g (z .few))
 
 -- ---- what WP, the used mark and sealed-ness decide
 
@@ -159,17 +164,17 @@ first-after : (g : Geometry) (junk : List ℕ) → getD (afterBuffers g junk) 0 
 first-after g junk = getD-drop (2 * g .size) junk 0 0 ∙ ap (λ (n : ℕ). getD junk n 0) (add-zero (2 * g .size))
 
 lost-lock : Registers → ℕ → Bool → Registers
-lost-lock r s b = cond (eqb (getD (cond b (1 ∷ []) (0 ∷ [])) 0 0) 1) (withLockdown r (lockedBytes (r .lockdown) s)) r
+lost-lock r s b = spoilt (Lock s) (cond b (1 ∷ []) (0 ∷ [])) r
 
 -- a lock cut short locks its sector if the first junk byte after the buffers' is at least 80h
 pub lock-cut : (g : Geometry) (r : Registers) (s : ℕ) (junk : List ℕ) → 128 ≤ getD junk (2 * g .size) 0
-    → withLockdown r (lockedBytes (r .lockdown) s) ≡ lostBy (O.LockSector s) (reaching g (O.LockSector s) junk) r
-unfolding reaching lostBy lost-lock
+    → withLockdown r (lockedBytes (r .lockdown) s) ≡ spoilt (Lock s) (reached (Lock s) (afterBuffers g junk)) r
+unfolding lost-lock
 lock-cut g r s junk h = ap (lost-lock r s) (sym (le-leb 128 (getD (afterBuffers g junk) 0 0) (rw (first-after g junk) h)))
 
 pub lock-kept : (g : Geometry) (r : Registers) (s : ℕ) (junk : List ℕ) → getD junk (2 * g .size) 0 < 128
-    → r ≡ lostBy (O.LockSector s) (reaching g (O.LockSector s) junk) r
-unfolding reaching lostBy lost-lock
+    → r ≡ spoilt (Lock s) (reached (Lock s) (afterBuffers g junk)) r
+unfolding lost-lock
 lock-kept g r s junk h = ap (lost-lock r s) (sym (lt-leb 128 (getD (afterBuffers g junk) 0 0) (rw (first-after g junk) h)))
 
 -- junk as long as the register takes the register's place
@@ -179,3 +184,14 @@ junk-over junk bytes a k l n =
     let m : length (take k (drop a junk)) ≡ length bytes = simp (length-take, length-drop) (omega arith) in
     let e : a + k - a ≡ k = omega arith in
     ap (λ (j : ℕ). take j (drop a junk)) e ∙ sym (over-whole (take k (drop a junk)) bytes m)
+
+-- ---- an arm of a busy end or a cut, by the operation's update
+
+pub update-ends : (o : Operation) (r : Registers) {u v : Update} {n : Registers} → u ≡ updateOf o → u ≡ v → n ≡ updated v r → n ≡ completedBy o r
+unfolding completedBy
+update-ends o r e k h = h ∙ ap (λ (x : Update). updated x r) (sym k ∙ e)
+
+pub update-lost : (g : Geometry) (o : Operation) (r : Registers) (junk : List ℕ) {u v : Update} {n : Registers} → u ≡ updateOf o → u ≡ v
+    → n ≡ spoilt v (reached v (afterBuffers g junk)) r → n ≡ lostBy o (reaching g o junk) r
+unfolding lostBy reaching
+update-lost g o r junk e k h = h ∙ ap (λ (x : Update). spoilt x (reached x (afterBuffers g junk)) r) (sym k ∙ e)

@@ -1,4 +1,4 @@
--- An action names pages of the part and bytes of a page alone: what the memory's functions ask of it.
+-- Aid: an action names pages of the part and bytes of a page alone, which is what the memory's functions ask of it; no rule of the chip.
 -- Assumes nothing.
 use Prim.Native.Nat.{ℕ, _*_, _<_}
 use Rattle.geometry.specs.declared.Geometry.{Geometry}

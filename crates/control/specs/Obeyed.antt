@@ -8,11 +8,11 @@ use Rattle.commands.specs.declared.Effect.{Effect}
 use Rattle.commands.specs.declared.Effect.the-variants as E
 use Rattle.control.specs.declared.Class.{Class}
 use Rattle.control.specs.declared.Class.the-variants.{Status, Id, Wake, OfBuffer, Other}
-use Rattle.control.specs.declared.Usage.{Usage}
-use Rattle.control.specs.declared.Usage.the-variants.{Free, NoBuffer, Uses, Exclusive}
 use Rattle.registers.specs.declared.Operation.{Operation}
-use Rattle.registers.specs.declared.Operation.the-variants.{Idle, Program, ProgramOver, Transfer, Compare, Rewrite, ErasePage, EraseBlock, EraseSector, EraseChip, EraseProtection, ProgramProtection, LockSector, ProgramSecurity}
 use Rattle.registers.specs.declared.Registers.{Registers}
+use Rattle.registers.specs.declared.Usage.{Usage}
+use Rattle.registers.specs.declared.Usage.the-variants.{Free, NoBuffer, Uses, Exclusive}
+use Rattle.registers.specs.Facts.{factsOf}
 
 -- what matters of a command for whether it is obeyed
 unfoldable pub classOf : Effect → Class
@@ -46,23 +46,10 @@ classOf E.Resume = Wake
 classOf E.Unlisted = Other
 
 -- what matters of the operation under way
-unfoldable pub usageOf : Operation → Usage
-usageOf Idle = Free
-usageOf (Program b page) = Uses b
-usageOf (ProgramOver b page) = Uses b
-usageOf (Transfer b page) = Uses b
-usageOf (Compare b page) = Uses b
-usageOf (Rewrite b page) = Uses b
-usageOf (ErasePage page) = NoBuffer
-usageOf (EraseBlock block) = NoBuffer
-usageOf (EraseSector s) = NoBuffer
-usageOf (EraseChip sectors) = NoBuffer
-usageOf EraseProtection = Exclusive
-usageOf (ProgramProtection d) = Exclusive
-usageOf (LockSector s) = Exclusive
-usageOf (ProgramSecurity d) = Exclusive
+abbrev pub usageOf : Operation → Usage
+usageOf o = factsOf o .usage
 
-unfoldable pub sameBuffer : Buffer → Buffer → Bool
+abbrev pub sameBuffer : Buffer → Buffer → Bool
 sameBuffer One One = true
 sameBuffer One Two = false
 sameBuffer Two One = false
@@ -86,7 +73,7 @@ allowed Exclusive Wake = false
 allowed Exclusive (OfBuffer b) = false
 allowed Exclusive Other = false
 
-unfoldable pub isWake : Class → Bool
+abbrev pub isWake : Class → Bool
 isWake Status = false
 isWake Id = false
 isWake Wake = true

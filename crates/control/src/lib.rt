@@ -15,7 +15,7 @@ ghost use Rattle.control.specs.Obeyed.{classOf, usageOf, sameBuffer, all
 ghost use Rattle.control.specs.Control.{startedOn, rowOf, protectOff, protectionErased, protectionProgrammed, sectorLocked, securityProgrammed, control};
 ghost use Rattle.control.specs.Rulings.{marksOf, changed, ruled, WithMarks, Applies};
 ghost use Rattle.control.specs.Completion.{completedBy, completed};
-ghost use Rattle.control.specs.PowerLoss.{afterBuffers, reaching, lostBy, lost};
+ghost use Rattle.control.specs.PowerLoss.{afterBuffers, reached, reaching, spoilt, lostBy, lost};
 use commands::Buffer;
 use commands::Effect;
 use geometry::Geometry;
@@ -24,6 +24,8 @@ use registers::Data64;
 use registers::Operation;
 use registers::Registers;
 use registers::Seals;
+use registers::Update;
+use registers::Usage;
 
 // What matters of a command for whether it is obeyed.
 pub enum Class {
@@ -32,15 +34,6 @@ pub enum Class {
     Wake,
     OfBuffer { buffer: Buffer },
     Other,
-}
-
-// What matters of the operation under way for what is obeyed: none; one that uses no buffer; one that uses a buffer; one
-// during which only the status is told.
-pub enum Usage {
-    Free,
-    NoBuffer,
-    Uses { buffer: Buffer },
-    Exclusive,
 }
 
 // What a frame asks of the memory.
@@ -168,22 +161,8 @@ fn class_of(e: Effect) -> Class
 pub fn usage_of(o: Operation) -> Usage
     ensures { λ r. ⌜ r ≡ usageOf o ⌝ }
 {
-    match o {
-        Operation::Idle => Usage::Free,
-        Operation::Program { buffer, page: _ } => Usage::Uses { buffer: buffer },
-        Operation::ProgramOver { buffer, page: _ } => Usage::Uses { buffer: buffer },
-        Operation::Transfer { buffer, page: _ } => Usage::Uses { buffer: buffer },
-        Operation::Compare { buffer, page: _ } => Usage::Uses { buffer: buffer },
-        Operation::Rewrite { buffer, page: _ } => Usage::Uses { buffer: buffer },
-        Operation::ErasePage { page: _ } => Usage::NoBuffer,
-        Operation::EraseBlock { block: _ } => Usage::NoBuffer,
-        Operation::EraseSector { sector: _ } => Usage::NoBuffer,
-        Operation::EraseChip { sectors: _ } => Usage::NoBuffer,
-        Operation::EraseProtection => Usage::Exclusive,
-        Operation::ProgramProtection { data: _ } => Usage::Exclusive,
-        Operation::LockSector { sector: _ } => Usage::Exclusive,
-        Operation::ProgramSecurity { data: _ } => Usage::Exclusive,
-    }
+    let f = registers::facts_of(o);
+    f.usage
 }
 
 fn is_same(a: Buffer, b: Buffer) -> bool
@@ -654,21 +633,13 @@ fn finish(g: Geometry, r: Registers, o: Operation) -> Registers
     requires { ⌜ (Sized g (g .pages * g .size)) × (within g o ≡ true) ⌝ }
     ensures { λ n. ⌜ n ≡ completedBy o r ⌝ }
 {
-    match o {
-        Operation::Idle => r,
-        Operation::Program { buffer: _, page: _ } => r,
-        Operation::ProgramOver { buffer: _, page: _ } => r,
-        Operation::Transfer { buffer: _, page: _ } => r,
-        Operation::Compare { buffer: _, page: _ } => r,
-        Operation::Rewrite { buffer: _, page: _ } => r,
-        Operation::ErasePage { page: _ } => r,
-        Operation::EraseBlock { block: _ } => r,
-        Operation::EraseSector { sector: _ } => r,
-        Operation::EraseChip { sectors: _ } => r,
-        Operation::EraseProtection => registers::with_protection(r, [255u8; 16]),
-        Operation::ProgramProtection { data } => finish_protection(r, data),
-        Operation::LockSector { sector } => lock(r, sector),
-        Operation::ProgramSecurity { data } => registers::with_user(r, registers::unpacked64(data)),
+    let u = registers::update_of(o);
+    match u {
+        Update::Keep => r,
+        Update::FillProtection => registers::with_protection(r, [255u8; 16]),
+        Update::MaskProtection { data } => finish_protection(r, data),
+        Update::Lock { sector } => lock(r, sector),
+        Update::WriteUser { data } => registers::with_user(r, registers::unpacked64(data)),
     }
 }
 
@@ -708,7 +679,7 @@ fn lose_security(g: Geometry, r: Registers, junk: &[u8]) -> Registers
 // A cut during a lock: the sector locks if the first junk byte after the buffers' is at least 80h.
 fn lose_lock(g: Geometry, r: Registers, junk: &[u8], sector: usize) -> Registers
     requires { ⌜ (2 * g .size + 64 ≤ length (now junk)) × (sector < 17) ⌝ }
-    ensures { λ n. ⌜ n ≡ lostBy (Operation.LockSector sector) (reaching g (Operation.LockSector sector) (now (junk .entry))) r ⌝ }
+    ensures { λ n. ⌜ n ≡ spoilt (Update.Lock sector) (reached (Update.Lock sector) (afterBuffers g (now (junk .entry)))) r ⌝ }
 {
     let a = 2 * g.size;
     if 128 <= junk[a] {
@@ -722,21 +693,13 @@ fn lose_operation(g: Geometry, r: Registers, o: Operation, junk: &[u8]) -> Regis
     requires { ⌜ (Sized g (g .pages * g .size)) × (within g o ≡ true) × (2 * g .size + 64 ≤ length (now junk)) ⌝ }
     ensures { λ n. ⌜ n ≡ lostBy o (reaching g o (now (junk .entry))) r ⌝ }
 {
-    match o {
-        Operation::Idle => r,
-        Operation::Program { buffer: _, page: _ } => r,
-        Operation::ProgramOver { buffer: _, page: _ } => r,
-        Operation::Transfer { buffer: _, page: _ } => r,
-        Operation::Compare { buffer: _, page: _ } => r,
-        Operation::Rewrite { buffer: _, page: _ } => r,
-        Operation::ErasePage { page: _ } => r,
-        Operation::EraseBlock { block: _ } => r,
-        Operation::EraseSector { sector: _ } => r,
-        Operation::EraseChip { sectors: _ } => r,
-        Operation::EraseProtection => lose_protection(g, r, junk),
-        Operation::ProgramProtection { data: _ } => lose_protection(g, r, junk),
-        Operation::LockSector { sector } => lose_lock(g, r, junk, sector),
-        Operation::ProgramSecurity { data: _ } => lose_security(g, r, junk),
+    let u = registers::update_of(o);
+    match u {
+        Update::Keep => r,
+        Update::FillProtection => lose_protection(g, r, junk),
+        Update::MaskProtection { data: _ } => lose_protection(g, r, junk),
+        Update::Lock { sector } => lose_lock(g, r, junk, sector),
+        Update::WriteUser { data: _ } => lose_security(g, r, junk),
     }
 }
 

@@ -1,185 +1,100 @@
--- Frames: four bytes of opcode and address, and then either zeros or, in an 84, a page.
+-- The frame of a state that counts as going is its step's, which is no longer than the buffer; any other state has none.
 -- Assumes nothing.
-use Prim.Native.Nat.{ℕ, zero, suc, _+_, _-_, _*_, _<_, _≤_, min}
-use native.Mathlib.Nat.{mul-le-mul}
+use Prim.Native.Nat.{ℕ, _≤_}
 use native.Mathlib.Omega.{arith}
 use mathlib.Core.Path.{_≡_, refl, sym, ap, _∙_}
-use mathlib.Core.Bool.{Bool, true, false, cond, true≢false}
-use mathlib.Core.List.{List, [], _++_}
-use lib.ListN.{length, take, drop, replicate, length-replicate}
-use lib.Seq.{take-at, length-take-le}
-use borrow.Author.Tests.{ne-eqb}
-use Rattle.slices.specs.Lists.{tabulate, over}
-use Rattle.slices.proofs.Laws.{length-tabulate, tabulate-same, tabulate-append, over-nil, over-append}
-use Rattle.slices.proofs.Loops.{Stored}
+use mathlib.Core.Bool.{Bool, true, false}
+use mathlib.Core.List.{List, []}
+use lib.ListN.{length, take, drop}
+use lib.Seq.{take-at}
+use Rattle.slices.specs.Lists.{over}
+use Rattle.slices.proofs.Laws.{length-tabulate, over-nil, over-append}
 use Rattle.geometry.specs.declared.Geometry.{Geometry}
-use Rattle.slots.specs.declared.Course.{Course}
-use Rattle.slots.specs.declared.Phase.{Phase}
-use Rattle.slots.specs.declared.Phase.the-variants.{Opening, AskProtection, AskLockdown, Reading, Loading, Programming, Between, Erasing, Closing, Ended}
-use Rattle.slots.specs.declared.Shape.{Shape}
-use Rattle.slots.specs.Driver.{Asked, Holding, shapeOf, frameByte, loaded, frameOf, isEnded}
-use Rattle.driver.proofs.Bytes.{zeros-after, two-parts, rest-long}
+use Rattle.geometry.specs.declared.Part.{Part}
+use Rattle.geometry.specs.declared.Part.the-variants.{Known}
+use Rattle.geometry.specs.Parts.{partOf}
+use Rattle.slots.specs.declared.Driver.{Driver}
+use Rattle.slots.specs.declared.Step.{Step}
+use Rattle.slots.specs.declared.Step.the-variants.{Wait, Protection, Lockdown, Read, Load, Send, End}
+use Rattle.slots.specs.Driver.{shapeOf, frameByte, loaded, frameOf, isEnded}
+use Rattle.slots.proofs.Accepted.{picked}
+use Rattle.slots.proofs.Driven.{other}
+use Rattle.records.specs.Held.{Pages}
+use Rattle.turns.proofs.Turns.{part-pages}
+use Rattle.worlds.specs.Turns.{holdingOf, stepIn}
+use Rattle.worlds.specs.Step.{stageBy, frameBy, frameIn, tookIn, stagedIn, nextIn}
 
--- ---- shapes
+-- ---- what is written
 
--- every frame fits the buffer
-pub shape-fits : (g : Geometry) (p : Phase) (slot page : ℕ) → g .size ≤ 264 → shapeOf g p slot page .length ≤ 272
-unfolding shapeOf
-shape-fits g Opening slot page h = omega arith
-shape-fits g AskProtection slot page h = omega arith
-shape-fits g AskLockdown slot page h = omega arith
-shape-fits g Reading slot page h = omega arith
-shape-fits g Loading slot page h = omega arith
-shape-fits g Programming slot page h = omega arith
-shape-fits g Between slot page h = omega arith
-shape-fits g Erasing slot page h = omega arith
-shape-fits g Closing slot page h = omega arith
-shape-fits g (Ended n) slot page h = omega arith
-
--- before the end there is a frame
-pub shape-some : (g : Geometry) (p : Phase) (slot page : ℕ) → isEnded p ≡ false → 1 ≤ shapeOf g p slot page .length
-unfolding shapeOf isEnded
-shape-some g Opening slot page e = omega arith
-shape-some g AskProtection slot page e = omega arith
-shape-some g AskLockdown slot page e = omega arith
-shape-some g Reading slot page e = omega arith
-shape-some g Loading slot page e = omega arith
-shape-some g Programming slot page e = omega arith
-shape-some g Between slot page e = omega arith
-shape-some g Erasing slot page e = omega arith
-shape-some g Closing slot page e = omega arith
-shape-some g (Ended n) slot page e = absurd (true≢false e)
-
--- an 84 carries a page
-pub load-length : (g : Geometry) (p : Phase) (slot page : ℕ) → shapeOf g p slot page .loads ≡ true → shapeOf g p slot page .length ≡ 4 + g .size
-unfolding shapeOf
-load-length g Opening slot page e = absurd (true≢false (sym e))
-load-length g AskProtection slot page e = absurd (true≢false (sym e))
-load-length g AskLockdown slot page e = absurd (true≢false (sym e))
-load-length g Reading slot page e = absurd (true≢false (sym e))
-load-length g Loading slot page e = refl
-load-length g Programming slot page e = absurd (true≢false (sym e))
-load-length g Between slot page e = absurd (true≢false (sym e))
-load-length g Erasing slot page e = absurd (true≢false (sym e))
-load-length g Closing slot page e = absurd (true≢false (sym e))
-load-length g (Ended n) slot page e = absurd (true≢false (sym e))
-
-pub length-frame : (g : Geometry) (a : Asked) (c : Course) (h : Holding) → length (frameOf g a c h) ≡ shapeOf g (c .phase) (a .slot) (c .page) .length
-unfolding frameOf
-length-frame g a c h =
-    length-tabulate (shapeOf g (c .phase) (a .slot) (c .page) .length)
-    (frameByte (shapeOf g (c .phase) (a .slot) (c .page)) (loaded g (a .kind) (h .verdict) h (c .page)))
-
--- a page's address is no longer than it may be
-pub address-fits : (field slot page : ℕ) → field ≤ 512 → slot < 512 → page < 8 → field * (8 * slot + page) ≤ 512 * 4096
-address-fits field slot page h l p =
-    let n : 8 * slot + page ≤ 4096 = omega arith in
-    mul-le-mul h n
-
--- ---- bytes
-
-pub header-byte : (s : Shape) (f h : ℕ → ℕ) (i : ℕ) → i < 4 → frameByte s f i ≡ frameByte s h i
-unfolding frameByte
-header-byte s f h zero l = refl
-header-byte s f h (suc zero) l = refl
-header-byte s f h (suc (suc zero)) l = refl
-header-byte s f h (suc (suc (suc zero))) l = refl
-header-byte s f h (suc (suc (suc (suc i)))) l = absurd (omega arith)
-
-pub header-low : (s : Shape) (i : ℕ) → 3 ≤ i → i < 4 → s .low ≡ frameByte s (λ _. 0) i
-unfolding frameByte
-header-low s i h l =
-    let e : i ≡ 3 = omega arith in
-    sym (ap (λ (j : ℕ). frameByte s (λ _. 0) j) e)
-
-body-byte : (s : Shape) (f : ℕ → ℕ) (i : ℕ) → 4 ≤ i → frameByte s f i ≡ cond (s .loads) (f (i - 4)) 0
-unfolding frameByte
-body-byte s f i l =
-    simp (ne-eqb i 0 (λ e. omega arith), ne-eqb i 1 (λ e. omega arith), ne-eqb i 2 (λ e. omega arith), ne-eqb i 3 (λ e. omega arith))
-
-no-data : (b : Bool) → _≡_ {A = ℕ} (cond b 0 0) 0
-no-data true = refl
-no-data false = refl
-
--- the first four bytes, and then zeros
-pub header-zeros : (s : Shape) (n : ℕ) → over (tabulate (min n 4) (frameByte s (λ _. 0))) (replicate n 0) ≡ tabulate n (frameByte s (λ _. 0))
-header-zeros s n =
-    zeros-after (frameByte s (λ _. 0)) (min n 4) n (omega arith)
-    (λ i l h. body-byte s (λ _. 0) i (omega arith) ∙ no-data (s .loads))
-
--- as a loop over the first four bytes of zeros leaves it
-pub header-done : (s : Shape) (m n i : ℕ) (zeros frame : List ℕ) → zeros ≡ replicate m 0 → n ≡ min (length zeros) 4 → n ≤ i → i ≤ n
-    → Stored (frameByte s (λ _. 0)) zeros i frame → frame ≡ tabulate m (frameByte s (λ _. 0))
-header-done s m n i zeros frame z e h l d =
-    let k : length zeros ≡ m = ap length z ∙ length-replicate {A = ℕ} m 0 in
-    let f : i ≡ min m 4 = omega arith in
-    let t : length (tabulate (min m 4) (frameByte s (λ _. 0))) ≡ min m 4 = length-tabulate (min m 4) (frameByte s (λ _. 0)) in
-    d .made ∙ (λ j. tabulate (f j) (frameByte s (λ _. 0)) ++ drop (f j) (z j))
-    ∙ ap (λ (j : ℕ). tabulate (min m 4) (frameByte s (λ _. 0)) ++ drop j (replicate m 0)) (sym t)
-    ∙ sym (over-append (tabulate (min m 4) (frameByte s (λ _. 0))) (replicate m 0) (omega (arith, length-replicate {A = ℕ} m 0)))
-    ∙ header-zeros s m
-
--- a frame that carries nothing
-pub plain-frame : (s : Shape) (f : ℕ → ℕ) (n : ℕ) → s .loads ≡ false → tabulate n (frameByte s (λ _. 0)) ≡ tabulate n (frameByte s f)
-unfolding frameByte
-plain-frame s f n e = tabulate-same n (frameByte s (λ _. 0)) (frameByte s f) (λ i h. simp e)
-
--- one that carries a page
-pub load-frame : (s : Shape) (f : ℕ → ℕ) (n : ℕ) → s .loads ≡ true → tabulate 4 (frameByte s (λ _. 0)) ++ tabulate n f ≡ tabulate (4 + n) (frameByte s f)
-load-frame s f n e =
-    (λ i. tabulate-same 4 (frameByte s (λ _. 0)) (frameByte s f) (header-byte s (λ _. 0) f) i
-    ++ tabulate-same n f (λ k. frameByte s f (4 + k)) (λ k h. body k) i)
-    ∙ sym (tabulate-append 4 n (frameByte s f))
-  where
-    body : (k : ℕ) → f k ≡ frameByte s f (4 + k)
-    body k =
-        let m : 4 + k - 4 ≡ k = omega arith in
-        sym (body-byte s f (4 + k) (omega arith) ∙ ap (λ (b : Bool). cond b (f (4 + k - 4)) 0) e ∙ ap f m)
-
--- ---- the frame of a state, in a slice of its length
-
-module _ (g : Geometry) (a : Asked) (c : Course) (h : Holding) (s : Shape) (xs : List ℕ)
-    (shaped : s ≡ shapeOf g (c .phase) (a .slot) (c .page)) (long : length xs ≡ s .length) where
-  abbrev page : ℕ → ℕ
-  page = loaded g (a .kind) (h .verdict) h (c .page)
-
-  made : tabulate (s .length) (frameByte s page) ≡ frameOf g a c h
-  unfolding frameOf
-  made = ap (λ (z : Shape). tabulate (z .length) (frameByte z page)) shaped
-
-  pub plain-made : (ys : List ℕ) → s .loads ≡ false → ys ≡ tabulate (length xs) (frameByte s (λ _. 0)) → ys ≡ frameOf g a c h
-  plain-made ys e q = q ∙ plain-frame s page (length xs) e ∙ ap (λ (k : ℕ). tabulate k (frameByte s page)) long ∙ made
-
-  -- an 84's slice has room for the header and the page
-  pub load-long : s .loads ≡ true → length xs ≡ 4 + g .size
-  load-long e = long ∙ ap (λ (z : Shape). z .length) shaped ∙ load-length g (c .phase) (a .slot) (c .page) (sym (ap (λ (z : Shape). z .loads) shaped) ∙ e)
-
-  -- the header came back as ys
-  module _ (e : s .loads ≡ true) (ys : List ℕ) (q : ys ≡ tabulate (length (take 4 xs)) (frameByte s (λ _. 0))) where
-    four : 4 ≤ length xs
-    four = omega (arith, load-long e)
-
-    header : ys ≡ tabulate 4 (frameByte s (λ _. 0))
-    header = q ∙ ap (λ (n : ℕ). tabulate n (frameByte s (λ _. 0))) (length-take-le 4 xs four)
-
-    pub header-long : length ys ≡ 4
-    header-long = ap length header ∙ length-tabulate 4 (frameByte s (λ _. 0))
-
-    -- what is left is a page
-    pub page-long : length (take (length (ys ++ drop 4 xs) - 4) (drop 4 (ys ++ drop 4 xs))) ≡ g .size
-    page-long = omega (arith, rest-long 4 xs ys four header-long, load-long e)
-
-    pub load-made : (zs : List ℕ) → zs ≡ tabulate (g .size) page
-        → take 4 (ys ++ drop 4 xs) ++ (zs ++ drop (length (ys ++ drop 4 xs) - 4) (drop 4 (ys ++ drop 4 xs))) ≡ frameOf g a c h
-    load-made zs r =
-        two-parts 4 xs ys zs four header-long ∙ (λ i. header i ++ r i) ∙ load-frame s page (g .size) e
-        ∙ ap (λ (n : ℕ). tabulate n (frameByte s page)) (sym (load-long e) ∙ long) ∙ made
-
--- no frame: the buffer keeps its bytes
 pub nothing : (f xs : List ℕ) → f ≡ [] → (0 ≡ length f) × (xs ≡ over f xs)
 nothing f xs e = (ap length (sym e), sym (over-nil xs) ∙ ap (λ (l : List ℕ). over l xs) (sym e))
 
 -- the beginning of the buffer is the frame
-pub front : (f xs ys : List ℕ) (n : ℕ) → n ≡ length f → length f ≤ length xs → ys ≡ over f xs → take n ys ≡ f
+front : (f xs ys : List ℕ) (n : ℕ) → n ≡ length f → length f ≤ length xs → ys ≡ over f xs → take n ys ≡ f
 front f xs ys n e h q =
     (λ i. take (e i) (q i)) ∙ ap (λ (l : List ℕ). take (length f) l) (over-append f xs h) ∙ take-at f (drop (length f) xs) (length f) refl
+
+shape-fits : (g : Geometry) (x : Step) → Pages g → shapeOf g x .length ≤ 272
+unfolding shapeOf
+shape-fits g Wait z = omega arith
+shape-fits g Protection z = omega arith
+shape-fits g Lockdown z = omega arith
+shape-fits g (Read p) z = omega (arith, z .most)
+shape-fits g (Load p) z = omega (arith, z .most)
+shape-fits g (Send c p) z = omega arith
+shape-fits g End z = omega arith
+
+module _ (d : Driver) (payload staged : List ℕ) where
+  -- ---- the frame by the stage as it counts
+
+  pub ended-frame : (g : Geometry) → isEnded (stageBy (Known g) d) ≡ true → frameBy (Known g) d payload staged ≡ []
+  unfolding frameBy
+  ended-frame g e = picked (isEnded (stageBy (Known g) d)) [] _ e
+
+  going-frame : (g : Geometry) → isEnded (stageBy (Known g) d) ≡ false → frameBy (Known g) d payload staged ≡ frameOf g (d .kind) (holdingOf d payload staged) (stepIn g d)
+  unfolding frameBy
+  going-frame g e = other (isEnded (stageBy (Known g) d)) [] _ e
+
+  step-length : (g : Geometry) (x : Step) → length (frameOf g (d .kind) (holdingOf d payload staged) x) ≡ shapeOf g x .length
+  step-length g x = length-tabulate (shapeOf g x .length) (frameByte (shapeOf g x) (loaded g (d .kind) (holdingOf d payload staged) x))
+
+  -- what was written for the step at the place is the state's frame
+  pub written : (g : Geometry) (xs : List ℕ) {x : Step} {n : ℕ} {ys : List ℕ} → isEnded (stageBy (Known g) d) ≡ false → x ≡ stepIn g d
+      → (n ≡ shapeOf g x .length) × (ys ≡ over (frameOf g (d .kind) (holdingOf d payload staged) x) xs)
+      → (n ≡ length (frameBy (Known g) d payload staged)) × (ys ≡ over (frameBy (Known g) d payload staged) xs)
+  written g xs {x} e s w =
+      let f : frameOf g (d .kind) (holdingOf d payload staged) x ≡ frameBy (Known g) d payload staged =
+      ap (λ (y : Step). frameOf g (d .kind) (holdingOf d payload staged) y) s ∙ sym (going-frame g e) in
+      (w .0 ∙ sym (step-length g x) ∙ ap (λ (l : List ℕ). length l) f, w .1 ∙ ap (λ (l : List ℕ). over l xs) f)
+
+  -- ---- the frame's length
+
+  pub frame-fits : (g : Geometry) → partOf (d .array) ≡ Known g → length (frameBy (Known g) d payload staged) ≤ 272
+  frame-fits g p = go (isEnded (stageBy (Known g) d)) refl
+    where
+      go : (b : Bool) → isEnded (stageBy (Known g) d) ≡ b → length (frameBy (Known g) d payload staged) ≤ 272
+      go true e = omega (arith, ap (λ (l : List ℕ). length l) (ended-frame g e))
+      go false e =
+          omega (arith, ap (λ (l : List ℕ). length l) (going-frame g e), step-length g (stepIn g d), shape-fits g (stepIn g d) (part-pages (d .array) g p))
+
+  -- the buffer after a frame by the array's part
+  pub framed : (xs : List ℕ) {p : Part} {n : ℕ} {ys : List ℕ} → p ≡ partOf (d .array) → length (frameBy p d payload staged) ≤ length xs
+      → (n ≡ length (frameBy p d payload staged)) × (ys ≡ over (frameBy p d payload staged) xs)
+      → (n ≡ length (frameIn d payload staged)) × (take n ys ≡ frameIn d payload staged) × (ys ≡ over (frameIn d payload staged) xs)
+  unfolding frameIn
+  framed xs {p} {n} {ys} e h w =
+      let f : frameBy p d payload staged ≡ frameIn d payload staged = ap (λ (q : Part). frameBy q d payload staged) e in (
+        w .0 ∙ ap (λ (z : List ℕ). length z) f,
+        front (frameBy p d payload staged) xs ys n (w .0) h (w .1) ∙ f,
+        w .1 ∙ ap (λ (z : List ℕ). over z xs) f,
+      )
+
+-- the frame after a reply is that of the state and the bytes that were taken in
+pub next-framed : (d : Driver) (payload staged reply frame : List ℕ) {e : Driver} {n : ℕ} {xs ys : List ℕ}
+    → (e ≡ tookIn d payload staged reply) × (xs ≡ stagedIn d payload staged reply)
+    → (n ≡ length (frameIn e payload xs)) × (take n ys ≡ frameIn e payload xs) × (ys ≡ over (frameIn e payload xs) frame)
+    → (e ≡ tookIn d payload staged reply) × (n ≡ length (nextIn d payload staged reply)) × (xs ≡ stagedIn d payload staged reply)
+    × (ys ≡ over (nextIn d payload staged reply) frame)
+unfolding nextIn
+next-framed d payload staged reply frame t w =
+    (t .0, w .0 ∙ (λ i. length (frameIn (t .0 i) payload (t .1 i))), t .1, w .2 ∙ (λ i. over (frameIn (t .0 i) payload (t .1 i)) frame))

@@ -1,7 +1,3 @@
-pub mod Bytes
+pub mod States
 pub mod Frames
-pub mod Pages
-pub mod Sound
-pub mod Ends
-pub mod Starts
-pub mod Example
+pub mod Counts

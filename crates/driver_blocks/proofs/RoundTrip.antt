@@ -1,9 +1,11 @@
--- What is stored is read back: each byte and each word of the block lies where its offset says, a page below 256 is its byte, and a
+-- What is stored is read back: each byte and each word of the block lies where its offset says, a place below 256 is its byte, and a
 -- number below 2 ^ 64 is the number that its eight bytes make.
 -- Assumes nothing.
-use mathlib.Core.Path.{_≡_, refl, ap}
-use mathlib.Core.Bool.{Bool, true, false}
+use mathlib.Core.Path.{_≡_, refl, ap, _∙_}
+use mathlib.Core.Bool.{Bool, true, false, _&&_}
 use native.Mathlib.Nat.{mod-eq-of-lt}
+use lib.Dec.{leb}
+use borrow.Author.Tests.{le-leb}
 use Rattle.slices.specs.Words.{wordAt, wordBytes}
 use Rattle.slices.proofs.Words.{wordAt-wordBytes}
 use Rattle.state.specs.declared.Answer.{Answer}
@@ -11,12 +13,13 @@ use Rattle.state.specs.declared.Answer.the-variants as Answers
 use Rattle.state.specs.Answers.{numberOf}
 use Rattle.slots.specs.declared.Kind.{Kind}
 use Rattle.slots.specs.declared.Kind.the-variants.{Put, Patch, Get, Wipe}
-use Rattle.slots.specs.declared.Phase.{Phase}
-use Rattle.slots.specs.declared.Phase.the-variants.{Opening, AskProtection, AskLockdown, Reading, Loading, Programming, Between, Erasing, Closing, Ended}
+use Rattle.slots.specs.declared.Stage.{Stage}
+use Rattle.slots.specs.declared.Stage.the-variants.{Going, Ended}
 use Rattle.slots.specs.declared.Verdict.{Verdict}
 use Rattle.slots.specs.declared.Verdict.the-variants.{Good, Blank, Beyond}
-use Rattle.driver.specs.declared.Driver.{Driver}
-use Rattle.driver_blocks.specs.Block.{kindOf, verdictOf, answerAt, phaseOf, flag, kindNumber, verdictNumber, phaseNumber, endNumber, flagByte, decodeCourse, decodeDriver, headBytes, encodeDriver, Fits}
+use Rattle.slots.specs.declared.Driver.{Driver}
+use Rattle.slots.proofs.Refused.{in-table}
+use Rattle.driver_blocks.specs.Block.{kindOf, verdictOf, answerAt, isKind, isOurs, stageOf, flag, kindNumber, verdictNumber, stageNumber, endNumber, flagByte, decodeCourse, decodeDriver, headBytes, encodeDriver, Fits}
 
 -- ---- bytes
 kind-back : (k : Kind) → kindOf (kindNumber k) ≡ k
@@ -32,7 +35,7 @@ verdict-back Good = refl
 verdict-back Blank = refl
 verdict-back Beyond = refl
 
-answer-back : (a : Answer) → answerAt (numberOf a) ≡ a
+pub answer-back : (a : Answer) → answerAt (numberOf a) ≡ a
 unfolding answerAt numberOf
 answer-back Answers.Done = refl
 answer-back Answers.Part = refl
@@ -49,24 +52,41 @@ answer-back Answers.Cut = refl
 answer-back Answers.Blank = refl
 answer-back Answers.End = refl
 
-phase-back : (p : Phase) → phaseOf (phaseNumber p) (endNumber p) ≡ p
-unfolding phaseOf phaseNumber endNumber
-phase-back Opening = refl
-phase-back AskProtection = refl
-phase-back AskLockdown = refl
-phase-back Reading = refl
-phase-back Loading = refl
-phase-back Programming = refl
-phase-back Between = refl
-phase-back Erasing = refl
-phase-back Closing = refl
-phase-back (Ended a) = ap Ended (answer-back a)
+-- what is written is ours
+stage-ours : (st : Stage) → (leb (stageNumber st) 1 && leb (endNumber st) 13) ≡ true
+unfolding stageNumber endNumber
+stage-ours Going = refl
+stage-ours (Ended a) = le-leb (numberOf a) 13 (in-table a)
+
+head-ours : (k : Kind) (v : Verdict) → (isKind (kindNumber k) && leb (verdictNumber v) 2) ≡ true
+unfolding isKind kindNumber verdictNumber
+head-ours Put Good = refl
+head-ours Put Blank = refl
+head-ours Put Beyond = refl
+head-ours Patch Good = refl
+head-ours Patch Blank = refl
+head-ours Patch Beyond = refl
+head-ours Get Good = refl
+head-ours Get Blank = refl
+head-ours Get Beyond = refl
+head-ours Wipe Good = refl
+head-ours Wipe Blank = refl
+head-ours Wipe Beyond = refl
+
+stage-back : (st : Stage) → stageOf true (stageNumber st) (endNumber st) ≡ st
+unfolding stageOf stageNumber endNumber
+stage-back Going = refl
+stage-back (Ended a) = ap Ended (answer-back a)
 
 flag-back : (b : Bool) → flag (flagByte b) ≡ b
 flag-back true = refl
 flag-back false = refl
 
 -- ---- the state
+ours : (d : Driver) → isOurs (encodeDriver d) ≡ true
+unfolding isOurs encodeDriver headBytes
+ours d = λ i. head-ours (d .kind) (d .verdict) i && stage-ours (d .course .stage) i
+
 pub decode-encode : (d : Driver) → Fits d → decodeDriver (encodeDriver d) ≡ d
 unfolding decodeDriver decodeCourse encodeDriver headBytes wordAt wordBytes
 decode-encode d h = λ i.
@@ -79,9 +99,9 @@ decode-encode d h = λ i.
       verdict = verdict-back (d .verdict) i;
       course =
           record {
-            phase = phase-back (d .course .phase) i;
-            page = mod-eq-of-lt (h .page) i;
+            place = mod-eq-of-lt (h .step) i;
             left = wordAt-wordBytes (d .course .left) (h .left) i;
+            stage = ((λ j. stageOf (ours d j) (stageNumber (d .course .stage)) (endNumber (d .course .stage))) ∙ stage-back (d .course .stage)) i;
             listed = flag-back (d .course .listed) i;
             guarded = flag-back (d .course .guarded) i;
           };

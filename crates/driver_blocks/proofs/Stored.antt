@@ -4,21 +4,17 @@
 use mathlib.Core.Path.{_≡_, refl, sym, ap, _∙_}
 use mathlib.Core.List.{List, _++_}
 use Prim.Native.Nat.{ℕ}
-use native.Mathlib.Nat.{zero-add}
 use lib.ListN.{length}
 use Rattle.slices.specs.Lists.{over, splice}
 use Rattle.slices.specs.Words.{wordBytes}
-use Rattle.slices.proofs.Laws.{over-whole, splice-append}
-use Rattle.driver.specs.declared.Driver.{Driver}
+use Rattle.slices.proofs.Laws.{over-whole, over-two}
+use Rattle.slots.specs.declared.Driver.{Driver}
 use Rattle.driver_blocks.specs.Block.{headBytes, encodeDriver}
 
 -- one part more
 more : (front part xs : List ℕ) (n : ℕ) {block next : List ℕ} → length front ≡ n → block ≡ over front xs → next ≡ splice n part block
     → next ≡ over (front ++ part) xs
-unfolding splice
-more front part xs n l b e =
-    e ∙ ap (λ (t : List ℕ). splice n part t) b ∙ ap (λ (m : ℕ). splice m part (over front xs)) (sym l ∙ sym (zero-add (length front)))
-    ∙ sym (splice-append 0 front part xs)
+more front part xs n l b e = e ∙ (λ i. splice (sym l i) part (b i)) ∙ sym (over-two front part xs)
 
 pub all-stored : (d : Driver) (xs : List ℕ) {b₀ b₁ b₂ b₃ b₄ b₅ : List ℕ} → length xs ≡ 48
     → b₀ ≡ over (headBytes (d .kind) (d .verdict) (d .course)) xs

@@ -1,36 +1,68 @@
--- The slot driver's state in the C interface: a block of 48 bytes. `decodeDriver` reads a block of any content, `encodeDriver` writes
--- one. Offsets: kind 0, verdict 1, phase 2, answer 3, page 4, listed 5, guarded 6, zero 7, then numbers of eight bytes, high byte
--- first: array's length 8, slot 16, poll limit 24, place 32, polls left 40.
+-- The slot driver's state in the C interface: a block of 48 bytes. `decodeDriver` reads a block of any content, `encodeDriver` writes one.
+-- Offsets: call 0, verdict 1, stage 2, answer 3, place in the plan 4, listed 5, guarded 6, zero 7, then numbers of eight bytes, high byte first:
+-- array's length 8, slot 16, poll limit 24, patch's place 32, polls left 40.
 -- Assumes nothing.
 use Prim.Native.Nat.{ℕ, _%_, _^_, _<_}
-use mathlib.Core.Bool.{Bool, cond, not}
+use mathlib.Core.Bool.{Bool, cond, not, _&&_, _||_}
 use mathlib.Core.List.{List, [], _∷_, _++_}
 use lib.ListN.{getD}
-use lib.Dec.{eqb}
+use lib.Dec.{eqb, leb}
 use Rattle.slices.specs.Words.{wordAt, wordBytes}
 use Rattle.state.specs.declared.Answer.{Answer}
 use Rattle.state.specs.declared.Answer.the-variants as Answers
 use Rattle.state.specs.Answers.{numberOf}
 use Rattle.slots.specs.declared.Course.{Course}
+use Rattle.slots.specs.declared.Driver.{Driver}
 use Rattle.slots.specs.declared.Kind.{Kind}
 use Rattle.slots.specs.declared.Kind.the-variants.{Put, Patch, Get, Wipe}
-use Rattle.slots.specs.declared.Phase.{Phase}
-use Rattle.slots.specs.declared.Phase.the-variants.{Opening, AskProtection, AskLockdown, Reading, Loading, Programming, Between, Erasing, Closing, Ended}
+use Rattle.slots.specs.declared.Stage.{Stage}
+use Rattle.slots.specs.declared.Stage.the-variants.{Going, Ended}
+use Rattle.slots.specs.declared.Told.{Told}
+use Rattle.slots.specs.declared.Told.the-variants.{Running, Answered}
 use Rattle.slots.specs.declared.Verdict.{Verdict}
 use Rattle.slots.specs.declared.Verdict.the-variants.{Good, Blank, Beyond}
-use Rattle.driver.specs.declared.Driver.{Driver}
+
+-- ---- what is written
+
+-- the calls' bytes lie four bits apart, so that no flipped bit makes one call another
+unfoldable pub kindNumber : Kind → ℕ
+kindNumber Put = 0x0F
+kindNumber Patch = 0x33
+kindNumber Get = 0x55
+kindNumber Wipe = 0xF0
+
+unfoldable pub verdictNumber : Verdict → ℕ
+verdictNumber Good = 0
+verdictNumber Blank = 1
+verdictNumber Beyond = 2
+
+unfoldable pub stageNumber : Stage → ℕ
+stageNumber Going = 0
+stageNumber (Ended a) = 1
+
+-- the answer's number at the end, 0 before it
+unfoldable pub endNumber : Stage → ℕ
+endNumber Going = 0
+endNumber (Ended a) = numberOf a
+
+abbrev pub flagByte : Bool → ℕ
+flagByte b = cond b 1 0
+
+-- what is told of a driver: the answer's number; 255 while it is running
+unfoldable pub toldNumber : Told → ℕ
+toldNumber Running = 255
+toldNumber (Answered a) = numberOf a
 
 -- ---- what a byte reads as
 
--- 0 put, 1 patch, 2 get; 3, and any other byte, wipe
+-- a byte that is no call's reads as a get, which changes nothing
 unfoldable pub kindOf : ℕ → Kind
-kindOf n = cond (eqb n 0) Put (cond (eqb n 1) Patch (cond (eqb n 2) Get Wipe))
+kindOf n = cond (eqb n 0x0F) Put (cond (eqb n 0x33) Patch (cond (eqb n 0xF0) Wipe Get))
 
--- 0 good, 1 blank; 2, and any other byte, beyond
 unfoldable pub verdictOf : ℕ → Verdict
 verdictOf n = cond (eqb n 0) Good (cond (eqb n 1) Blank Beyond)
 
--- the answer of a number of the table; 13, and any other byte, End
+-- the answer of a number of the table
 unfoldable pub answerAt : ℕ → Answer
 answerAt n =
     cond (eqb n 0) Answers.Done
@@ -48,73 +80,29 @@ answerAt n =
     (cond (eqb n 12) Answers.Blank
     Answers.End))))))))))))
 
--- the phase of a number, 0 to 8 in the order of the type; 9, and any other byte, the end, with the answer of a number
-unfoldable pub phaseOf : ℕ → ℕ → Phase
-phaseOf n a =
-    cond (eqb n 0) Opening
-    (cond (eqb n 1) AskProtection
-    (cond (eqb n 2) AskLockdown
-    (cond (eqb n 3) Reading
-    (cond (eqb n 4) Loading
-    (cond (eqb n 5) Programming
-    (cond (eqb n 6) Between
-    (cond (eqb n 7) Erasing
-    (cond (eqb n 8) Closing
-    (Ended (answerAt a))))))))))
-
 -- 0 or 1; anything else reads as 1
 abbrev pub flag : ℕ → Bool
 flag x = not (eqb x 0)
 
--- ---- what is written for it
-
-unfoldable pub kindNumber : Kind → ℕ
-kindNumber Put = 0
-kindNumber Patch = 1
-kindNumber Get = 2
-kindNumber Wipe = 3
-
-unfoldable pub verdictNumber : Verdict → ℕ
-verdictNumber Good = 0
-verdictNumber Blank = 1
-verdictNumber Beyond = 2
-
-unfoldable pub phaseNumber : Phase → ℕ
-phaseNumber Opening = 0
-phaseNumber AskProtection = 1
-phaseNumber AskLockdown = 2
-phaseNumber Reading = 3
-phaseNumber Loading = 4
-phaseNumber Programming = 5
-phaseNumber Between = 6
-phaseNumber Erasing = 7
-phaseNumber Closing = 8
-phaseNumber (Ended a) = 9
-
--- the answer's number at the end, 0 elsewhere
-unfoldable pub endNumber : Phase → ℕ
-endNumber Opening = 0
-endNumber AskProtection = 0
-endNumber AskLockdown = 0
-endNumber Reading = 0
-endNumber Loading = 0
-endNumber Programming = 0
-endNumber Between = 0
-endNumber Erasing = 0
-endNumber Closing = 0
-endNumber (Ended a) = numberOf a
-
-abbrev pub flagByte : Bool → ℕ
-flagByte b = cond b 1 0
-
 -- ---- the block
+
+-- its first four bytes are such as a state is written with: a call, a verdict, a stage and an answer
+unfoldable pub isKind : ℕ → Bool
+isKind n = (eqb n 0x0F || eqb n 0x33) || (eqb n 0x55 || eqb n 0xF0)
+
+unfoldable pub isOurs : List ℕ → Bool
+isOurs block = (isKind (getD block 0 0) && leb (getD block 1 0) 2) && (leb (getD block 2 0) 1 && leb (getD block 3 0) 13)
+
+-- going, or ended with an answer; a block that is not ours has ended with 1
+unfoldable pub stageOf : Bool → ℕ → ℕ → Stage
+stageOf ours n a = cond ours (cond (eqb n 0) Going (Ended (answerAt a))) (Ended Answers.Part)
 
 unfoldable pub decodeCourse : List ℕ → Course
 decodeCourse block =
     record {
-      phase = phaseOf (getD block 2 0) (getD block 3 0);
-      page = getD block 4 0;
+      place = getD block 4 0;
       left = wordAt block 40;
+      stage = stageOf (isOurs block) (getD block 2 0) (getD block 3 0);
       listed = flag (getD block 5 0);
       guarded = flag (getD block 6 0);
     }
@@ -123,26 +111,26 @@ unfoldable pub decodeDriver : List ℕ → Driver
 decodeDriver block =
     record {
       array = wordAt block 8;
-      kind = kindOf (getD block 0 0);
       slot = wordAt block 16;
       limit = wordAt block 24;
       place = wordAt block 32;
+      kind = kindOf (getD block 0 0);
       verdict = verdictOf (getD block 1 0);
       course = decodeCourse block;
     }
 
--- the first eight bytes; the page modulo 256
+-- the first eight bytes; the place modulo 256
 unfoldable pub headBytes : Kind → Verdict → Course → List ℕ
 headBytes k v c =
-    kindNumber k ∷ verdictNumber v ∷ phaseNumber (c .phase) ∷ endNumber (c .phase) ∷
-    c .page % 256 ∷ flagByte (c .listed) ∷ flagByte (c .guarded) ∷ 0 ∷ []
+    kindNumber k ∷ verdictNumber v ∷ stageNumber (c .stage) ∷ endNumber (c .stage) ∷
+    c .place % 256 ∷ flagByte (c .listed) ∷ flagByte (c .guarded) ∷ 0 ∷ []
 
 unfoldable pub encodeDriver : Driver → List ℕ
 encodeDriver d =
     headBytes (d .kind) (d .verdict) (d .course)
     ++ (wordBytes (d .array) ++ (wordBytes (d .slot) ++ (wordBytes (d .limit) ++ (wordBytes (d .place) ++ wordBytes (d .course .left)))))
 
--- ---- the states that a block can hold: the page in one byte, the numbers in eight
+-- ---- the states that a block can hold: the place in the plan in one byte, the numbers in eight
 
 pub record Fits (d : Driver) : Type 0 where
   pub array : d .array < 2 ^ 64
@@ -150,4 +138,4 @@ pub record Fits (d : Driver) : Type 0 where
   pub limit : d .limit < 2 ^ 64
   pub place : d .place < 2 ^ 64
   pub left : d .course .left < 2 ^ 64
-  pub page : d .course .page < 256
+  pub step : d .course .place < 256

@@ -5,11 +5,12 @@ ghost use Prim.Native.Nat.{_+_, _≤_};
 ghost use lib.ListN.{length};
 ghost use Rattle.slices.specs.Lists.{over, splice};
 ghost use Rattle.slices.specs.Words.{wordAt, wordBytes};
-ghost use Rattle.driver_blocks.specs.Block.{kindOf, verdictOf, answerAt, phaseOf, flag, kindNumber, verdictNumber, phaseNumber, endNumber, flagByte, decodeCourse, decodeDriver, headBytes, encodeDriver};
-use driver::Driver;
+ghost use Rattle.driver_blocks.specs.Block.{kindOf, verdictOf, answerAt, isKind, isOurs, stageOf, flag, kindNumber, verdictNumber, stageNumber, endNumber, flagByte, decodeCourse, decodeDriver, headBytes, encodeDriver, toldNumber};
 use slots::Course;
+use slots::Driver;
 use slots::Kind;
-use slots::Phase;
+use slots::Stage;
+use slots::Told;
 use slots::Verdict;
 use state::Answer;
 
@@ -19,10 +20,10 @@ fn kind(n: u8) -> Kind
     ensures { λ r. ⌜ r ≡ kindOf n ⌝ }
 {
     match n {
-        0 => Kind::Put,
-        1 => Kind::Patch,
-        2 => Kind::Get,
-        _ => Kind::Wipe,
+        0x0F => Kind::Put,
+        0x33 => Kind::Patch,
+        0xF0 => Kind::Wipe,
+        _ => Kind::Get,
     }
 }
 
@@ -58,23 +59,47 @@ fn answer_at(n: u8) -> Answer
     }
 }
 
-// The phase of a number; at the end with the answer of a number.
-fn phase(n: u8, a: u8) -> Phase
-    ensures { λ r. ⌜ r ≡ phaseOf n a ⌝ }
+fn is_kind(n: u8) -> bool
+    ensures { λ r. ⌜ r ≡ isKind n ⌝ }
 {
     match n {
-        0 => Phase::Opening,
-        1 => Phase::AskProtection,
-        2 => Phase::AskLockdown,
-        3 => Phase::Reading,
-        4 => Phase::Loading,
-        5 => Phase::Programming,
-        6 => Phase::Between,
-        7 => Phase::Erasing,
-        8 => Phase::Closing,
-        _ => Phase::Ended {
-            answer: answer_at(a),
-        },
+        0x0F => true,
+        0x33 => true,
+        0x55 => true,
+        0xF0 => true,
+        _ => false,
+    }
+}
+
+// Whether the first four bytes are such as a state is written with.
+fn is_ours(block: &[u8; 48]) -> bool
+    ensures { λ r. ⌜ r ≡ isOurs (now (block .entry)) ⌝ }
+{
+    if !is_kind(block[0]) {
+        return false;
+    }
+    if 2 < block[1] {
+        return false;
+    }
+    if 1 < block[2] {
+        return false;
+    }
+    block[3] <= 13
+}
+
+fn stage(ours: bool, n: u8, a: u8) -> Stage
+    ensures { λ r. ⌜ r ≡ stageOf ours n a ⌝ }
+{
+    if !ours {
+        return Stage::Ended {
+            answer: Answer::Part,
+        };
+    }
+    if n == 0 {
+        return Stage::Going;
+    }
+    Stage::Ended {
+        answer: answer_at(a),
     }
 }
 
@@ -96,9 +121,9 @@ fn decode_course(block: &[u8; 48]) -> Course
     ensures { λ r. ⌜ r ≡ decodeCourse (now (block .entry)) ⌝ }
 {
     Course {
-        phase: phase(block[2], block[3]),
-        page: numbers::wide(block[4]),
+        place: numbers::wide(block[4]),
         left: number_at(block, 40),
+        stage: stage(is_ours(block), block[2], block[3]),
         listed: is_set(block[5]),
         guarded: is_set(block[6]),
     }
@@ -110,10 +135,10 @@ pub fn decode(block: &[u8; 48]) -> Driver
 {
     Driver {
         array: number_at(block, 8),
-        kind: kind(block[0]),
         slot: number_at(block, 16),
         limit: number_at(block, 24),
         place: number_at(block, 32),
+        kind: kind(block[0]),
         verdict: verdict(block[1]),
         course: decode_course(block),
     }
@@ -125,10 +150,10 @@ fn kind_number(k: Kind) -> u8
     ensures { λ r. ⌜ r ≡ kindNumber k ⌝ }
 {
     match k {
-        Kind::Put => 0,
-        Kind::Patch => 1,
-        Kind::Get => 2,
-        Kind::Wipe => 3,
+        Kind::Put => 0x0F,
+        Kind::Patch => 0x33,
+        Kind::Get => 0x55,
+        Kind::Wipe => 0xF0,
     }
 }
 
@@ -142,38 +167,22 @@ fn verdict_number(v: Verdict) -> u8
     }
 }
 
-fn phase_number(p: Phase) -> u8
-    ensures { λ r. ⌜ r ≡ phaseNumber p ⌝ }
+fn stage_number(s: Stage) -> u8
+    ensures { λ r. ⌜ r ≡ stageNumber s ⌝ }
 {
-    match p {
-        Phase::Opening => 0,
-        Phase::AskProtection => 1,
-        Phase::AskLockdown => 2,
-        Phase::Reading => 3,
-        Phase::Loading => 4,
-        Phase::Programming => 5,
-        Phase::Between => 6,
-        Phase::Erasing => 7,
-        Phase::Closing => 8,
-        Phase::Ended { answer: _ } => 9,
+    match s {
+        Stage::Going => 0,
+        Stage::Ended { answer: _ } => 1,
     }
 }
 
-// The answer's number at the end, 0 elsewhere.
-fn end_number(p: Phase) -> u8
-    ensures { λ r. ⌜ r ≡ endNumber p ⌝ }
+// The answer's number at the end, 0 before it.
+fn end_number(s: Stage) -> u8
+    ensures { λ r. ⌜ r ≡ endNumber s ⌝ }
 {
-    match p {
-        Phase::Opening => 0,
-        Phase::AskProtection => 0,
-        Phase::AskLockdown => 0,
-        Phase::Reading => 0,
-        Phase::Loading => 0,
-        Phase::Programming => 0,
-        Phase::Between => 0,
-        Phase::Erasing => 0,
-        Phase::Closing => 0,
-        Phase::Ended { answer: a } => state::number(a),
+    match s {
+        Stage::Going => 0,
+        Stage::Ended { answer: a } => state::number(a),
     }
 }
 
@@ -186,13 +195,13 @@ fn flag_byte(b: bool) -> u8
 fn head_bytes(k: Kind, v: Verdict, c: Course) -> [u8; 8]
     ensures { λ r. ⌜ r ≡ headBytes k v c ⌝ }
 {
-    let p = c.phase;
+    let s = c.stage;
     [
         kind_number(k),
         verdict_number(v),
-        phase_number(p),
-        end_number(p),
-        (c.page % 256) as u8,
+        stage_number(s),
+        end_number(s),
+        (c.place % 256) as u8,
         flag_byte(c.listed),
         flag_byte(c.guarded),
         0,
@@ -229,4 +238,14 @@ pub fn encode(block: &mut [u8; 48], d: Driver)
     put_number(block, 24, d.limit);
     put_number(block, 32, d.place);
     put_number(block, 40, c.left);
+}
+
+// What a caller of the C interface is told: the answer's number, or 255 while the call is running.
+pub fn told_number(t: Told) -> u8
+    ensures { λ r. ⌜ r ≡ toldNumber t ⌝ }
+{
+    match t {
+        Told::Running => 255,
+        Told::Answered { answer: a } => state::number(a),
+    }
 }

@@ -11,17 +11,18 @@ ghost use Rattle.registers.specs.Protection.{guarded};
 ghost use Rattle.control.specs.Names.{Names};
 ghost use Rattle.control.specs.Rulings.{WithMarks};
 ghost use Rattle.memory.specs.Replies.{replied, onceData, ringData};
-ghost use Rattle.state.specs.Memory.{memoryIn, bufferStart, lent};
-ghost use Rattle.state.specs.Frames.{isIdle, isFree, statusOf, identity, dataOf, actedOn};
-ghost use Rattle.state.specs.Outcomes.{framed, sentTo, repliedBy};
+ghost use Rattle.state.specs.Lent.{memoryIn, bufferStart, lent, actedOn};
+ghost use Rattle.state.specs.Frames.{isIdle, isFree, statusOf, identity, dataOf};
+ghost use Rattle.state.specs.Memory.{stateOf};
+ghost use Rattle.state.specs.Outcomes.{Leaves, framed, sentBy};
 use commands::Buffer;
 use control::Action;
 use control::Marks;
-use control::Usage;
 use geometry::Geometry;
 use geometry::Part;
 use registers::Data16;
 use registers::Data64;
+use registers::Usage;
 use state::Answer;
 use state::Chip;
 use state::Outcome;
@@ -31,8 +32,8 @@ fn is_free(u: Usage) -> bool
 {
     match u {
         Usage::Free => true,
-        Usage::NoBuffer => false,
         Usage::Uses { buffer: _ } => false,
+        Usage::NoBuffer => false,
         Usage::Exclusive => false,
     }
 }
@@ -210,7 +211,7 @@ pub fn is_framed(frame: usize, reply: usize) -> bool
 // The frame sent to a chip by value.
 pub fn send_to(g: Geometry, c: Chip, array: &[u8], frame: &[u8], reply: &mut [u8]) -> Outcome
     requires { ⌜ Sized g (length (now array)) ⌝ }
-    ensures { λ r. ⌜ (r ≡ sentTo (Part.Known g) c (now (array .entry)) (now (frame .entry)) (length (now (reply .entry)))) × (now (reply .exit) ≡ repliedBy (Part.Known g) c (now (array .entry)) (now (frame .entry)) (now (reply .entry))) ⌝ }
+    ensures { λ r. ⌜ Leaves (sentBy (Part.Known g) (stateOf c (now (array .entry))) (now (frame .entry)) (now (reply .entry))) r (now (array .entry)) (now (reply .exit)) ⌝ }
 {
     if !is_framed(frame.len(), reply.len()) {
         return Outcome {

@@ -18,16 +18,6 @@ partOf n =
     cond (eqb n 1081344) (Known (record { size = 264; pages = 4096; field = 512 }))
     (cond (eqb n 33792) (Known (record { size = 264; pages = 128; field = 512 })) Unknown)
 
--- What every known part's geometry g says of an array of n bytes: all that the code and the laws go by.
-pub record Sized (g : Geometry) (n : ℕ) : Type 0 where
-  pub some : 64 ≤ g .size
-  pub most : g .size ≤ 264
-  pub addressed : 0 < g .field
-  pub blocks : 8 ≤ g .pages
-  pub eights : g .pages % 8 ≡ 0
-  pub few : g .pages ≤ 4096
-  pub whole : n ≡ g .pages * g .size
-
 -- "The three address bytes make a 24-bit number N, first byte highest": those from index a of a frame
 unfoldable pub addressAt : List ℕ → ℕ → ℕ
 addressAt f a = getD f a 0 * 65536 + getD f (a + 1) 0 * 256 + getD f (a + 2) 0
@@ -55,3 +45,14 @@ run first count = record { first = first; count = count }
 -- the page is in the run
 unfoldable pub inRun : Run → ℕ → Bool
 inRun r page = leb (r .first) page && ltb page (r .first + r .count)
+
+-- ---- Aid: what every known part's geometry g says of an array of n bytes; all that the code and the laws go by
+
+pub record Sized (g : Geometry) (n : ℕ) : Type 0 where
+  pub some : 64 ≤ g .size
+  pub most : g .size ≤ 264
+  pub addressed : 0 < g .field
+  pub blocks : 8 ≤ g .pages
+  pub eights : g .pages % 8 ≡ 0
+  pub few : g .pages ≤ 4096
+  pub whole : n ≡ g .pages * g .size

@@ -1,55 +1,53 @@
--- What a frame or a busy end leaves in a block is read back as it is: the chip stays one that a block can hold. Its arrays keep their
--- lengths; an operation that a frame starts names a page, block or sector of the part, or has data made of the frame's bytes; a busy end
--- leaves none.
+-- What an entry point leaves in a block is read back as it is: the chip stays one that a block can hold. Registers and buffers keep their
+-- lengths; an operation that a frame starts names something of the part, or has data made of the frame's bytes; any other entry point leaves
+-- the operation or none.
 -- Assumes nothing.
-use mathlib.Core.Path.{_≡_, refl, ap, subst⁻¹, _∙_}
-use mathlib.Core.Bool.{Bool, true, false, cond}
+use mathlib.Core.Path.{_≡_, refl, sym, ap, subst, subst⁻¹, _∙_}
+use mathlib.Core.Bool.{Bool, true}
 use mathlib.Core.List.{List, [], _∷_}
-use Prim.Native.Nat.{ℕ, zero, suc, _+_, _%_, _/_, _^_, _<_}
+use Prim.Native.Nat.{ℕ, zero, suc, _+_, _*_, _%_, _/_, _^_, _<_}
 use native.Mathlib.Omega.{arith}
 use lib.ListN.{length, set, drop, getD, replicate}
 use lib.Seq.{getD-drop}
 use lib.Dec.{lit<}
 use lib.Pow.{pow-mono}
-use borrow.Author.Tests.{eq-eqb}
+use borrow.Author.Tests.{ltb-true}
 use Rattle.slices.specs.Lists.{ringWrite}
 use Rattle.slices.proofs.Words.{wordAt-small}
 use Rattle.geometry.specs.declared.Geometry.{Geometry}
 use Rattle.geometry.specs.declared.Part.{Part}
 use Rattle.geometry.specs.declared.Part.the-variants.{Known, Unknown}
-use Rattle.geometry.specs.Parts as Parts
-use Rattle.geometry.specs.Sectors.{sectorOf, sectorCount}
-use Rattle.geometry.proofs.Addresses.{page-named}
-use Rattle.geometry.proofs.Sectors.{sector-few, sector-most}
-use Rattle.commands.specs.declared.Effect.{Effect}
-use Rattle.commands.specs.declared.Effect.the-variants as E
-use Rattle.commands.specs.Decode.{decodeOf}
+use Rattle.geometry.specs.Parts.{partOf, Sized}
+use Rattle.geometry.specs.Sectors.{sectorCount}
+use Rattle.geometry.proofs.Sectors.{sector-most}
+use Rattle.registers.specs.declared.Named.{Named}
+use Rattle.registers.specs.declared.Named.the-variants.{Nothing, Page, Block, Sector, Sectors}
 use Rattle.registers.specs.declared.Operation.{Operation}
-use Rattle.registers.specs.declared.Operation.the-variants as O
 use Rattle.registers.specs.declared.Registers.{Registers}
 use Rattle.registers.specs.Data.{padded, pack16, pack64}
-use Rattle.registers.specs.Fields.{withOperation, withProtect}
-use Rattle.registers.specs.Protection.{sealed, unsealedSet}
+use Rattle.registers.specs.Facts.{factsOf, updateOf}
+use Rattle.registers.specs.Operations.{has, within}
 use Rattle.registers.proofs.Places.{placed-sized}
-use Rattle.registers.proofs.Sets.{unsealed-small}
-use Rattle.control.specs.declared.Action.the-variants as A
-use Rattle.control.specs.declared.Decision.{Decision}
-use Rattle.control.specs.Control.{decided, ignored, started, startedOn, programmedThrough, protectOff, protectionErased, protectionData, protectionProgrammed, sectorLocked, securityData, securityProgrammed, rowDecided, rowOf, control}
-use Rattle.control.specs.Completion.{completed}
-use Rattle.control.specs.Starts.{Lengths}
-use Rattle.control.proofs.Rows.{control-cases, control-lengths}
-use Rattle.control.proofs.Ends.{completed-operation, completed-lengths}
+use Rattle.control.specs.Control.{protectionData, securityData, control}
+use Rattle.control.specs.PowerLoss.{reaching}
+use Rattle.control.specs.Starts.{Starts, programs, programs-over, transfers, compares, rewrites, erases-page, erases-block, erases-sector, erases-chip, erases-protection, programs-protection, locks-sector, programs-security}
+use Rattle.control.proofs.Rows.{control-operation, starts-within}
+use Rattle.control.proofs.Ends.{completed-operation, lost-operation}
+use Rattle.state.specs.declared.Answer.{Answer}
+use Rattle.state.specs.declared.Answer.the-variants as Answers
 use Rattle.state.specs.declared.Chip.{Chip}
 use Rattle.state.specs.declared.Outcome.{Outcome}
-use Rattle.state.specs.Memory.{memoryOf}
-use Rattle.state.specs.Outcomes.{partFor, framed, sendOutcome, endOutcome}
-use Rattle.state.proofs.Accepted.{sent-part, sent-frame, sent-done, end-part, end-done}
-use Rattle.state.proofs.Lengths.{sent-first-length, sent-second-length, completed-first-length, completed-second-length}
+use Rattle.state.specs.Answers.{numberOf}
+use Rattle.state.specs.Memory.{State, stateOf, chipIn}
+use Rattle.state.specs.Outcomes.{Left, left, Leaves, partIn, freshRegisters, freshState, freshBy, freshOutcome, sentState, endedState, endOutcome, pinnedState, pinOutcome, cutState, cutOutcome}
+use Rattle.state.proofs.Accepted.{end-cases, cut-cases}
+use Rattle.state.specs.Whole.{Whole}
+use Rattle.state.proofs.Whole.{sent-whole, ended-whole, cut-whole}
 use Rattle.blocks.specs.Block.{decodeChip, encodeChip}
-use Rattle.blocks.specs.Holds.{Arrays, Words16, Words64, Fitting, Holds}
-use Rattle.blocks.specs.Promises.{answered, storedIn}
-use Rattle.blocks.proofs.Decoded.{holds-decode}
+use Rattle.blocks.specs.Holds.{Words16, Words64, Numbered, Worded, Fitting, Holds}
+use Rattle.blocks.specs.Promises.{heldIn, storedBy, storedIn, Met, MetFresh, pinMoved, MetPin}
 use Rattle.blocks.proofs.RoundTrip.{decode-encode}
+use Rattle.blocks.proofs.Stores.{stored-done, stored-same, pin-moved}
 
 -- ---- bytes
 abbrev pub Bytes : List ℕ → Type 0
@@ -92,141 +90,114 @@ words64 f h =
     record { a = w 0; b = w 8; c = w 16; d = w 24; e = w 32; f = w 40; g = w 48; h = w 56 }
 
 -- ---- a frame: what is under way behind it fits a block
+module _ (g : Geometry) (n : ℕ) (z : Sized g n) where
+  numbered : (x : Named) → has g x ≡ true → Numbered x
+  numbered Nothing h = tt
+  numbered (Page page) h = omega (arith, ltb-true page (g .pages) h, z .few)
+  numbered (Block block) h = omega (arith, ltb-true block (g .pages / 8) h, z .few)
+  numbered (Sector s) h = omega (arith, ltb-true s (sectorCount g) h, sector-most g (z .few))
+  numbered (Sectors sectors) h =
+      omega (arith, ltb-true sectors (2 ^ sectorCount g) h, pow-mono {i = sectorCount g} {j = 17} (sector-most g (z .few)))
 
--- whichever of two decisions
-either : (b : Bool) (x y : Decision) → Fitting (x .registers .operation) → Fitting (y .registers .operation) → Fitting (cond b x y .registers .operation)
-either true x y h k = h
-either false x y h k = k
+  module _ (r : Registers) (f : List ℕ) (b : Bytes f) where
+    worded : (o : Operation) → Starts g r f o → Worded (updateOf o)
+    worded o (programs x a u) = tt
+    worded o (programs-over x a u) = tt
+    worded o (transfers x a) = tt
+    worded o (compares x a) = tt
+    worded o (rewrites x a u) = tt
+    worded o (erases-page a u) = tt
+    worded o (erases-block a u) = tt
+    worded o (erases-sector a u) = tt
+    worded o erases-chip = tt
+    worded o (erases-protection u) = tt
+    worded o (programs-protection u) = words16 f b
+    worded o (locks-sector a) = tt
+    worded o (programs-security u) = words64 f b
 
-module _ (g : Geometry) (n : ℕ) (z : Parts.Sized g n) (r : Registers) (f : List ℕ) (u : Fitting (r .operation)) (b : Bytes f) where
-  page : (a : ℕ) → Parts.pageAt g a < 65536
-  page a = omega (arith, page-named g a (omega (arith, z .blocks)), z .few)
+    control-fits : Fitting (r .operation) → Fitting (control g r f .registers .operation)
+    unfolding within
+    control-fits u = control-operation g r f Fitting u (λ o y s. (numbered (factsOf o .names) (starts-within g n r f o z s), worded o s))
 
-  block : (a : ℕ) → Parts.pageAt g a / 8 < 65536
-  block a = omega (arith, page a)
+-- ---- the chip that is left
+module _ (s : State) (h : Holds (chipIn s)) (g : Geometry) where
+  pub sent-holds : (f : List ℕ) → Bytes f → partIn s ≡ Known g → Holds (chipIn (sentState g f s))
+  unfolding sentState
+  sent-holds f b p =
+      record {
+        whole = sent-whole s (h .whole) g f;
+        operation = control-fits g _ (placed-sized (length (s .memory .array)) (s .registers .operation) g p) (s .registers) f b (h .operation);
+      }
 
-  sector : (a : ℕ) → sectorOf (Parts.pageAt g a) < 65536
-  sector a = omega (arith, sector-few g (Parts.pageAt g a) (page-named g a (omega (arith, z .blocks))), sector-most g (z .few))
+  pub ended-holds : Holds (chipIn (endedState g s))
+  unfolding endedState
+  ended-holds = record { whole = ended-whole s (h .whole) g; operation = subst⁻¹ Fitting (completed-operation (s .registers)) (tt, tt) }
 
-  sectors : unsealedSet g r < 2 ^ 32
-  sectors = omega (arith, unsealed-small g r, pow-mono {i = sectorCount g} {j = 17} (sector-most g (z .few)))
+  pub cut-holds : (junk : List ℕ) → Holds (chipIn (cutState g junk s))
+  unfolding cutState
+  cut-holds junk =
+      record {
+        whole = cut-whole s (h .whole) g junk;
+        operation = subst⁻¹ Fitting (lost-operation (s .registers) (reaching g (s .registers .operation) junk)) (tt, tt);
+      }
 
-  on-page : (p : ℕ) (o : Operation) → Fitting o → Fitting (startedOn r p o .registers .operation)
-  unfolding startedOn
-  on-page p o h = either (sealed r (sectorOf p)) (ignored r) (started r o) u h
+-- ---- the block that is left
 
-  row-fits : (lead : ℕ) (e : Effect) → Fitting (rowOf g r f lead e .registers .operation)
-  unfolding rowDecided programmedThrough protectOff protectionErased protectionProgrammed sectorLocked securityProgrammed Fitting
-  row-fits lead E.ReadPage = u
-  row-fits lead E.ReadArray = u
-  row-fits lead (E.ReadBuffer x) = u
-  row-fits lead (E.WriteBuffer x) = u
-  row-fits lead (E.Program x) = on-page (Parts.pageAt g (Parts.addressAt f 1)) (O.Program x (Parts.pageAt g (Parts.addressAt f 1))) (page (Parts.addressAt f 1))
-  row-fits lead (E.ProgramOver x) = on-page (Parts.pageAt g (Parts.addressAt f 1)) (O.ProgramOver x (Parts.pageAt g (Parts.addressAt f 1))) (page (Parts.addressAt f 1))
-  row-fits lead (E.ProgramThrough x) =
-      let p = Parts.pageAt g (Parts.addressAt f 1) in
-      either (sealed r (sectorOf p)) (ignored r) (decided (withOperation r (O.Program x p)) (A.WriteBuffer x (Parts.byteAt g (Parts.addressAt f 1))) lead) u (page (Parts.addressAt f 1))
-  row-fits lead E.ErasePage = on-page (Parts.pageAt g (Parts.addressAt f 1)) (O.ErasePage (Parts.pageAt g (Parts.addressAt f 1))) (page (Parts.addressAt f 1))
-  row-fits lead E.EraseBlock = on-page (Parts.pageAt g (Parts.addressAt f 1)) (O.EraseBlock (Parts.pageAt g (Parts.addressAt f 1) / 8)) (block (Parts.addressAt f 1))
-  row-fits lead E.EraseSector =
-      on-page (Parts.pageAt g (Parts.addressAt f 1)) (O.EraseSector (sectorOf (Parts.pageAt g (Parts.addressAt f 1)))) (sector (Parts.addressAt f 1))
-  row-fits lead E.EraseChip = sectors
-  row-fits lead (E.Transfer x) = page (Parts.addressAt f 1)
-  row-fits lead (E.Compare x) = page (Parts.addressAt f 1)
-  row-fits lead (E.Rewrite x) = on-page (Parts.pageAt g (Parts.addressAt f 1)) (O.Rewrite x (Parts.pageAt g (Parts.addressAt f 1))) (page (Parts.addressAt f 1))
-  row-fits lead E.ProtectOn = u
-  row-fits lead E.ProtectOff = either (r .wp) (decided (withProtect r false) A.Silent 0) (ignored r) u u
-  row-fits lead E.EraseProtection = either (r .wp) (started r O.EraseProtection) (ignored r) tt u
-  row-fits lead E.ProgramProtection =
-      let d = protectionData f in either (r .wp) (decided (withOperation r (O.ProgramProtection d)) (A.LoadProtection d) 0) (ignored r) (words16 f b) u
-  row-fits lead E.LockSector = sector (Parts.addressAt f 4)
-  row-fits lead E.ProgramSecurity =
-      let d = securityData f in either (r .used) (ignored r) (decided (withOperation r (O.ProgramSecurity d)) (A.LoadSecurity d) 0) u (words64 f b)
-  row-fits lead E.ReadProtection = u
-  row-fits lead E.ReadLockdown = u
-  row-fits lead E.ReadSecurity = u
-  row-fits lead E.ReadStatus = u
-  row-fits lead E.ReadId = u
-  row-fits lead E.PowerDown = u
-  row-fits lead E.Resume = u
-  row-fits lead E.Unlisted = u
+-- what it holds is what is left
+abbrev pub Back : List ℕ → Left → Type 0
+Back held o = heldIn (storedIn held o) (o .state .memory .array) ≡ o .state
 
-  control-fits : Fitting (control g r f .registers .operation)
-  control-fits = control-cases g r f (λ d. Fitting (d .registers .operation)) u (λ e. row-fits (decodeOf f .lead) (decodeOf f .effect))
+done-back : (held : List ℕ) (t : State) (reply : List ℕ) → Holds (chipIn t) → Back held (left Answers.Done t reply)
+done-back held t reply h = λ i. stateOf (stored-done held (chipIn t) h i) (t .memory .array)
 
--- ---- lengths, as the two crates name them
-lengths : (r : Registers) → Arrays r → Lengths r
-lengths r a = record { protection = a .protection; lockdown = a .lockdown; user = a .user; factory = a .factory }
+module _ (held xs : List ℕ) (h : Holds (decodeChip held)) where
+  same-back : (reply : List ℕ) (a : Answer) → Back held (left a (heldIn held xs) reply)
+  same-back reply a = λ i. stateOf (stored-same held a h i) xs
 
-arrays : (r : Registers) → Lengths r → Arrays r
-arrays r a = record { protection = a .protection; lockdown = a .lockdown; user = a .user; factory = a .factory }
+  pub ended-back : Back held (endOutcome (heldIn held xs))
+  ended-back = end-cases (heldIn held xs) (Back held) (same-back []) (λ g p. done-back held (endedState g (heldIn held xs)) [] (ended-holds (heldIn held xs) h g))
 
--- ---- the chip
-module _ (c : Chip) (xs : List ℕ) (h : Holds c) where
-  pub holds-sent : (f : List ℕ) (n : ℕ) → Bytes f → Holds (sendOutcome c xs f n .chip)
-  holds-sent f n b = part (partFor c xs) refl
-    where
-      is : (o : Outcome) → sendOutcome c xs f n ≡ o → Holds (o .chip) → Holds (sendOutcome c xs f n .chip)
-      is o e = subst⁻¹ (λ (k : Outcome). Holds (k .chip)) e
+  pub cut-back : (junk : List ℕ) → Back held (cutOutcome junk (heldIn held xs))
+  cut-back junk = cut-cases (heldIn held xs) (Back held) junk (same-back []) (λ g p. done-back held (cutState g junk (heldIn held xs)) [] (cut-holds (heldIn held xs) h g junk))
 
-      tested : (g : Geometry) → partFor c xs ≡ Known g → (t : Bool) → framed (length f) n ≡ t → Holds (sendOutcome c xs f n .chip)
-      tested g p false t = is _ (sent-frame c xs f n g p t) h
-      tested g p true t =
-          let r = c .registers in
-          is _ (sent-done c xs f n g p t)
-          (record {
-            sized =
-                record {
-                  registers = arrays (control g r f .registers) (control-lengths g r f (lengths r (h .sized .registers)));
-                  buffer1 = sent-first-length g r f (memoryOf c xs) ∙ h .sized .buffer1;
-                  buffer2 = sent-second-length g r f (memoryOf c xs) ∙ h .sized .buffer2;
-                };
-            operation = control-fits g (length xs) (placed-sized (length xs) (r .operation) g p) r f (h .operation) b;
-          })
+-- ---- promises met
 
-      part : (q : Part) → partFor c xs ≡ q → Holds (sendOutcome c xs f n .chip)
-      part Unknown p = is _ (sent-part c xs f n p) h
-      part (Known g) p = tested g p (framed (length f) n) refl
+pub met-done : {o : Left} {kept xs ys reply : List ℕ} (held : List ℕ) (t : State) → o ≡ left Answers.Done t reply → Holds (chipIn t) → kept ≡ encodeChip (chipIn t)
+    → xs ≡ t .memory .array → ys ≡ reply → Met held o 0 kept xs ys
+unfolding numberOf storedBy
+met-done {kept = kept} {xs = xs} {ys = ys} held t e h b x y =
+    subst⁻¹ (λ (k : Left). Met held k 0 kept xs ys) e
+    (record { answer = refl; block = b; array = x; reply = y; holds = λ i. stateOf ((ap decodeChip b ∙ decode-encode (chipIn t) h) i) (x i) })
 
-  pub holds-ended : Holds (endOutcome c xs .chip)
-  unfolding Fitting
-  holds-ended = part (partFor c xs) refl
-    where
-      part : (q : Part) → partFor c xs ≡ q → Holds (endOutcome c xs .chip)
-      part Unknown p = subst⁻¹ (λ (k : Outcome). Holds (k .chip)) (end-part c xs p) h
-      part (Known g) p =
-          let r = c .registers in
-          subst⁻¹ (λ (k : Outcome). Holds (k .chip)) (end-done c xs g p)
-          (record {
-            sized =
-                record {
-                  registers = arrays (completed r) (completed-lengths r (lengths r (h .sized .registers)));
-                  buffer1 = completed-first-length g (r .operation) (memoryOf c xs) ∙ h .sized .buffer1;
-                  buffer2 = completed-second-length g (r .operation) (memoryOf c xs) ∙ h .sized .buffer2;
-                };
-            operation = subst⁻¹ Fitting (completed-operation r) tt;
-          })
+pub met-refused : {o : Left} {n : ℕ} (a : Answer) (held xs ys : List ℕ) → o ≡ left a (heldIn held xs) ys → n ≡ numberOf a → held ≡ storedBy held a (decodeChip held)
+    → Met held o n held xs ys
+met-refused {n = n} a held xs ys e q b = subst⁻¹ (λ (k : Left). Met held k n held xs ys) e (record { answer = q; block = b; array = refl; reply = refl; holds = refl })
 
--- ---- the block
+-- what a function of crate chip leaves of the chip that was read
+pub leaves-read : {c d : Chip} {r : Outcome} {xs ys : List ℕ} (o : Chip → Left) → c ≡ d → Leaves (o c) r xs ys → Leaves (o d) r xs ys
+leaves-read {r = r} {xs = xs} {ys = ys} o e = subst (λ (k : Chip). Leaves (o k) r xs ys) e
 
--- an accepted call's chip is stored, and read back
-pub stored : (block : List ℕ) (o : Outcome) → answered o ≡ 0 → storedIn block o ≡ encodeChip (o .chip)
-unfolding storedIn
-stored block o e = simp (eq-eqb (answered o) 0 e)
+-- .. stored
+pub met-stored : {kept xs ys : List ℕ} {o : Left} {c : Outcome} {r : ℕ} (held : List ℕ) → Leaves o c xs ys → r ≡ numberOf (c .answer) → kept ≡ storedBy held (c .answer) (c .chip)
+    → Back held o → Met held o r kept xs ys
+met-stored held l a b h =
+    let k = b ∙ (λ i. storedBy held (l .answer i) (l .chip i)) in
+    record { answer = a ∙ ap numberOf (l .answer); block = k; array = l .array; reply = l .reply; holds = (λ i. heldIn (k i) (l .array i)) ∙ h }
 
--- every block of 765 bytes holds such a chip
-pub held : (block : List ℕ) → length block ≡ 765 → Bytes block → Holds (decodeChip block)
-held block l h = holds-decode block l (λ k _. h k)
+-- a fresh chip
+pub met-fresh : {kept xs : List ℕ} {c : Outcome} {r : ℕ} (held factory array : List ℕ) → Whole (c .chip) → Leaves (freshOutcome factory array) c xs [] → r ≡ numberOf (c .answer)
+    → kept ≡ storedBy held (c .answer) (c .chip) → MetFresh held (freshOutcome factory array) r kept xs
+unfolding freshOutcome freshBy freshState freshRegisters numberOf
+met-fresh held factory array w l a b =
+    let k = b ∙ (λ i. storedBy held (l .answer i) (l .chip i)) in
+    let e = a ∙ ap numberOf (l .answer) in
+    record { answer = e; block = k; array = l .array; holds = λ z. (λ i. heldIn (k i) (l .array i)) ∙ go (partOf (length array)) (subst Whole (l .chip) w) (sym e ∙ z) }
+  where
+    go : (p : Part) → Whole (chipIn (freshBy p factory array .state)) → numberOf (freshBy p factory array .answer) ≡ 0 → Back held (freshBy p factory array)
+    go Unknown v z = absurd (omega arith)
+    go (Known g) v z = done-back held (freshState factory (replicate (length array) 255)) [] (record { whole = v; operation = (tt, tt) })
 
-module _ (block xs : List ℕ) (h : Holds (decodeChip block)) where
-  pub kept-sent : (f : List ℕ) (n : ℕ) → Bytes f → answered (sendOutcome (decodeChip block) xs f n) ≡ 0
-      → decodeChip (storedIn block (sendOutcome (decodeChip block) xs f n)) ≡ sendOutcome (decodeChip block) xs f n .chip
-  kept-sent f n b a =
-      let o = sendOutcome (decodeChip block) xs f n in
-      ap decodeChip (stored block o a) ∙ decode-encode (o .chip) (holds-sent (decodeChip block) xs h f n b)
-
-  pub kept-ended : answered (endOutcome (decodeChip block) xs) ≡ 0
-      → decodeChip (storedIn block (endOutcome (decodeChip block) xs)) ≡ endOutcome (decodeChip block) xs .chip
-  kept-ended a =
-      let o = endOutcome (decodeChip block) xs in
-      ap decodeChip (stored block o a) ∙ decode-encode (o .chip) (holds-ended (decodeChip block) xs h)
+-- a pin move
+pub met-pin : {kept : List ℕ} (held : List ℕ) (high : Bool) → length held ≡ 765 → kept ≡ pinMoved held high → MetPin held high 0 kept
+unfolding pinOutcome pinnedState
+met-pin held high l e = record { answer = refl; block = e; holds = λ xs. (λ i. stateOf ((ap decodeChip e ∙ pin-moved held high l) i) xs) }

@@ -1,9 +1,17 @@
--- Operations whose busy end changes no register but the operation.
+-- Aid: the operations whose busy end keeps every register, so that it can be made in place.
 -- Assumes nothing.
-use mathlib.Core.Path.{_≡_}
+use mathlib.Core.Bool.{Bool, true, false}
 use Rattle.registers.specs.declared.Operation.{Operation}
-use Rattle.registers.specs.declared.Registers.{Registers}
-use Rattle.control.specs.Completion.{completedBy}
+use Rattle.registers.specs.declared.Update.{Update}
+use Rattle.registers.specs.declared.Update.the-variants.{Keep, FillProtection, MaskProtection, Lock, WriteUser}
+use Rattle.registers.specs.Facts.{updateOf}
 
-abbrev pub Plain : Operation → Type 0
-Plain o = (r : Registers) → completedBy o r ≡ r
+abbrev pub isKeep : Update → Bool
+isKeep Keep = true
+isKeep FillProtection = false
+isKeep (MaskProtection d) = false
+isKeep (Lock s) = false
+isKeep (WriteUser d) = false
+
+abbrev pub isPlain : Operation → Bool
+isPlain o = isKeep (updateOf o)

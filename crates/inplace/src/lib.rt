@@ -1,19 +1,17 @@
-// Frames and busy ends on a chip that a record block holds, in place: no more of the block is written than can change.
-// `send` and `end_busy` promise what the functions of the C interface promise; none of the two has a `requires`.
+// The five entry points on a chip that a record block holds. Frames and busy ends are made in place: no more of the block is written than can
+// change. What each of the five promises is what the C interface promises; none has a `requires`.
 ghost use mathlib.Core.Path.{_≡_};
 ghost use mathlib.Core.Bool.{true};
+ghost use mathlib.Core.List.{[]};
 ghost use lib.ListN.{length};
 ghost use Rattle.geometry.specs.Parts.{Sized};
 ghost use Rattle.registers.specs.Operations.{within};
-ghost use Rattle.control.specs.Control.{control};
-ghost use Rattle.control.specs.Completion.{completed};
-ghost use Rattle.state.specs.Memory.{memoryOf, chipOf};
-ghost use Rattle.state.specs.Frames.{replyOf, sentMemory};
-ghost use Rattle.state.specs.Completion.{completedMemory};
-ghost use Rattle.state.specs.Outcomes.{sendOutcome, sendReply, endOutcome, endArray};
+ghost use Rattle.state.specs.Frames.{replyOf};
+ghost use Rattle.state.specs.Memory.{memoryOf, chipIn};
+ghost use Rattle.state.specs.Outcomes.{freshOutcome, sentState, sendOutcome, endedState, endOutcome, cutOutcome};
 ghost use Rattle.blocks.specs.Block.{decodeOperation, decodeRegisters, decodeChip, encodeChip};
-ghost use Rattle.blocks.specs.Promises.{answered, storedIn};
-ghost use Rattle.inplace.specs.Plain.{Plain};
+ghost use Rattle.blocks.specs.Promises.{heldIn, Met, MetFresh, MetPin};
+ghost use Rattle.inplace.specs.Plain.{isPlain};
 use geometry::Geometry;
 use geometry::Part;
 use registers::Operation;
@@ -30,7 +28,7 @@ fn send_in(
     reply: &mut [u8],
 )
     requires { ⌜ (Sized g (length (now array))) × (length (now block) ≡ 765) × (o ≡ decodeOperation (now block)) × (length (now frame) ≡ length (now reply)) ⌝ }
-    ensures { λ _. ⌜ (now (block .exit) ≡ encodeChip (chipOf (control g (decodeRegisters (now (block .entry))) (now (frame .entry)) .registers) (sentMemory g (decodeRegisters (now (block .entry))) (now (frame .entry)) (memoryOf (decodeChip (now (block .entry))) (now (array .entry)))))) × (now (reply .exit) ≡ replyOf g (decodeRegisters (now (block .entry))) (memoryOf (decodeChip (now (block .entry))) (now (array .entry))) (now (frame .entry))) ⌝ }
+    ensures { λ _. ⌜ (now (block .exit) ≡ encodeChip (chipIn (sentState g (now (frame .entry)) (heldIn (now (block .entry)) (now (array .entry)))))) × (now (reply .exit) ≡ replyOf g (decodeRegisters (now (block .entry))) (memoryOf (decodeChip (now (block .entry))) (now (array .entry))) (now (frame .entry))) ⌝ }
 {
     let compare = blocks::is_set(block[764]);
     let m = blocks::marks_at(block, o);
@@ -55,7 +53,7 @@ fn send_in(
 
 // A frame sent straight to the chip; the reply is as long. Answers 0, 1, 2.
 pub fn send(block: &mut [u8; 765], array: &[u8], frame: &[u8], reply: &mut [u8]) -> u8
-    ensures { λ r. ⌜ (r ≡ answered (sendOutcome (decodeChip (now (block .entry))) (now (array .entry)) (now (frame .entry)) (length (now (reply .entry))))) × (now (block .exit) ≡ storedIn (now (block .entry)) (sendOutcome (decodeChip (now (block .entry))) (now (array .entry)) (now (frame .entry)) (length (now (reply .entry))))) × (now (reply .exit) ≡ sendReply (decodeChip (now (block .entry))) (now (array .entry)) (now (frame .entry)) (now (reply .entry))) ⌝ }
+    ensures { λ r. ⌜ Met (now (block .entry)) (sendOutcome (heldIn (now (block .entry)) (now (array .entry))) (now (frame .entry)) (now (reply .entry))) r (now (block .exit)) (now (array .entry)) (now (reply .exit)) ⌝ }
 {
     let o = blocks::operation(block);
     let p = registers::place(array.len(), o);
@@ -73,9 +71,9 @@ pub fn send(block: &mut [u8; 765], array: &[u8], frame: &[u8], reply: &mut [u8])
 
 // ---- busy ends
 
-// The operation's end changes no register but the operation.
+// The operation's end keeps every register.
 fn is_plain(o: Operation) -> bool
-    ensures { λ b. ⌜ (b ≡ true → Plain o) ⌝ }
+    ensures { λ b. ⌜ b ≡ isPlain o ⌝ }
 {
     match o {
         Operation::Idle => true,
@@ -97,8 +95,8 @@ fn is_plain(o: Operation) -> bool
 
 // Such an end.
 fn end_in(g: Geometry, block: &mut [u8], o: Operation, array: &mut [u8])
-    requires { ⌜ (Sized g (length (now array))) × (length (now block) ≡ 765) × (o ≡ decodeOperation (now block)) × (within g o ≡ true) × (Plain o) ⌝ }
-    ensures { λ _. ⌜ (now (block .exit) ≡ encodeChip (chipOf (completed (decodeRegisters (now (block .entry)))) (completedMemory g (decodeOperation (now (block .entry))) (memoryOf (decodeChip (now (block .entry))) (now (array .entry)))))) × (now (array .exit) ≡ completedMemory g (decodeOperation (now (block .entry))) (memoryOf (decodeChip (now (block .entry))) (now (array .entry))) .array) ⌝ }
+    requires { ⌜ (Sized g (length (now array))) × (length (now block) ≡ 765) × (o ≡ decodeOperation (now block)) × (within g o ≡ true) × (isPlain o ≡ true) ⌝ }
+    ensures { λ _. ⌜ (now (block .exit) ≡ encodeChip (chipIn (endedState g (heldIn (now (block .entry)) (now (array .entry)))))) × (now (array .exit) ≡ endedState g (heldIn (now (block .entry)) (now (array .entry))) .memory .array) ⌝ }
 {
     let compare = blocks::is_set(block[764]);
     blocks::rest(block);
@@ -108,7 +106,7 @@ fn end_in(g: Geometry, block: &mut [u8], o: Operation, array: &mut [u8])
 
 // The operation under way ends and takes effect. Answers 0, 1.
 pub fn end_busy(block: &mut [u8; 765], array: &mut [u8]) -> u8
-    ensures { λ r. ⌜ (r ≡ answered (endOutcome (decodeChip (now (block .entry))) (now (array .entry)))) × (now (block .exit) ≡ storedIn (now (block .entry)) (endOutcome (decodeChip (now (block .entry))) (now (array .entry)))) × (now (array .exit) ≡ endArray (decodeChip (now (block .entry))) (now (array .entry))) ⌝ }
+    ensures { λ r. ⌜ Met (now (block .entry)) (endOutcome (heldIn (now (block .entry)) (now (array .entry)))) r (now (block .exit)) (now (array .exit)) [] ⌝ }
 {
     let o = blocks::operation(block);
     if !is_plain(o) {
@@ -124,4 +122,32 @@ pub fn end_busy(block: &mut [u8; 765], array: &mut [u8]) -> u8
         }
         Part::Unknown => 1,
     }
+}
+
+// ---- the others
+
+// A fresh chip with these factory bytes; the array becomes FFh. Answers 0, 1.
+pub fn fresh(block: &mut [u8; 765], factory: &[u8; 64], array: &mut [u8]) -> u8
+    ensures { λ r. ⌜ MetFresh (now (block .entry)) (freshOutcome (now (factory .entry)) (now (array .entry))) r (now (block .exit)) (now (array .exit)) ⌝ }
+{
+    let bytes = *factory;
+    let o = chip::fresh(bytes, array);
+    blocks::store(block, o)
+}
+
+// The WP pin is moved. Answer 0.
+pub fn move_pin(block: &mut [u8; 765], high: bool) -> u8
+    ensures { λ r. ⌜ MetPin (now (block .entry)) high r (now (block .exit)) ⌝ }
+{
+    blocks::move_pin(block, high);
+    0
+}
+
+// The supply is cut, with junk. Answers 0, 1, 7.
+pub fn cut(block: &mut [u8; 765], array: &mut [u8], junk: &[u8]) -> u8
+    ensures { λ r. ⌜ Met (now (block .entry)) (cutOutcome (now (junk .entry)) (heldIn (now (block .entry)) (now (array .entry)))) r (now (block .exit)) (now (array .exit)) [] ⌝ }
+{
+    let c = blocks::decode(block);
+    let o = chip::cut(c, array, junk);
+    blocks::store(block, o)
 }

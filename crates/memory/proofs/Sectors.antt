@@ -36,6 +36,11 @@ module _ (f : Run → List ℕ → List ℕ) (long : (r : Run) (xs : List ℕ) �
   unfolding inSectors
   length-inSectors sectors xs = length-each 17 0 sectors xs
 
+-- f done to no sector
+pub inSectors-none : (f : Run → List ℕ → List ℕ) (g : Geometry) (xs : List ℕ) → inSectors f g 0 xs ≡ xs
+unfolding inSectors eachSector
+inSectors-none f g xs = refl
+
 -- what is seen of the array, as a byte of the page or the page, is left by f at every run that the page is not in
 module _ {A : Type 0} (see : List ℕ → A) (f : Run → List ℕ → List ℕ) (g : Geometry) (page : ℕ) (few : page < g .pages)
     (leaves : (r : Run) (xs : List ℕ) → inRun r page ≡ false → see (f r xs) ≡ see xs) where

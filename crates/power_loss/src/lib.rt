@@ -1,13 +1,15 @@
 // A cut on a chip whose part is known.
 ghost use mathlib.Core.Path.{_≡_};
 ghost use mathlib.Core.Bool.{true, false};
+ghost use mathlib.Core.List.{[]};
 ghost use Prim.Native.Nat.{_+_, _*_, _≤_};
 ghost use lib.ListN.{length};
 ghost use Rattle.geometry.specs.Parts.{Sized};
 ghost use Rattle.registers.specs.Operations.{within};
 ghost use Rattle.memory.specs.Pages.{junkBuffer};
 ghost use Rattle.state.specs.PowerLoss.{arrayLost};
-ghost use Rattle.state.specs.Outcomes.{cutIn, cutArrayIn};
+ghost use Rattle.state.specs.Memory.{stateOf};
+ghost use Rattle.state.specs.Outcomes.{Leaves, cutBy};
 use geometry::Geometry;
 use geometry::Part;
 use registers::Operation;
@@ -20,8 +22,9 @@ fn spoil_array(g: Geometry, array: &mut [u8], junk: &[u8], o: Operation)
     requires { ⌜ (Sized g (length (now array))) × (within g o ≡ true) × (length (now junk) ≡ 2 * g .size + length (now array)) ⌝ }
     ensures { λ _. ⌜ now (array .exit) ≡ arrayLost g o (now (junk .entry)) (now (array .entry)) ⌝ }
 {
-    memory::spoil(g, array, junk, registers::run_of(g, o));
-    memory::spoil_sectors(g, array, junk, registers::sectors_of(o));
+    let n = registers::target_of(o);
+    memory::spoil(g, array, junk, registers::run_named(g, n));
+    memory::spoil_sectors(g, array, junk, registers::set_named(n));
 }
 
 // Both buffers become junk, and the compare bit 0.
@@ -42,7 +45,7 @@ fn spoil_buffers(g: Geometry, c: Chip, junk: &[u8]) -> Chip
 
 pub fn cut_in(g: Geometry, c: Chip, array: &mut [u8], junk: &[u8]) -> Outcome
     requires { ⌜ (Sized g (length (now array))) × (within g (c .registers .operation) ≡ true) ⌝ }
-    ensures { λ r. ⌜ (r ≡ cutIn (Part.Known g) c (now (array .entry)) (now (junk .entry))) × (now (array .exit) ≡ cutArrayIn (Part.Known g) c (now (array .entry)) (now (junk .entry))) ⌝ }
+    ensures { λ r. ⌜ Leaves (cutBy (Part.Known g) (now (junk .entry)) (stateOf c (now (array .entry)))) r (now (array .exit)) [] ⌝ }
 {
     if junk.len() != 2 * g.size + array.len() {
         return Outcome {

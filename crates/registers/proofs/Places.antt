@@ -1,6 +1,6 @@
 -- The part that an array and an operation are of: the array's length is a part's, and the operation names nothing beyond it.
 -- Assumes nothing.
-use mathlib.Core.Path.{_≡_, refl, ap, _∙_, subst}
+use mathlib.Core.Path.{_≡_, refl, sym, ap, _∙_, subst}
 use mathlib.Core.Bool.{Bool, true, false, cond}
 use Prim.Native.Nat.{ℕ}
 use native.Mathlib.Omega.{arith}
@@ -9,8 +9,10 @@ use Rattle.geometry.specs.declared.Part.{Part}
 use Rattle.geometry.specs.declared.Part.the-variants.{Known, Unknown}
 use Rattle.geometry.specs.Parts.{partOf, Sized}
 use Rattle.geometry.proofs.Pages.{sized}
+use Rattle.registers.specs.declared.Facts.{Facts}
 use Rattle.registers.specs.declared.Operation.{Operation}
-use Rattle.registers.specs.Operations.{within, placedIn, placed}
+use Rattle.registers.specs.Facts.{factsOf}
+use Rattle.registers.specs.Operations.{has, within, placedIn, placed}
 
 pub placed-known : (n : ℕ) (o : Operation) (g : Geometry) → placed n o ≡ Known g → (partOf n ≡ Known g) × (within g o ≡ true)
 unfolding placed placedIn
@@ -39,3 +41,8 @@ unknown-placed n o e = ap (λ (p : Part). placedIn p o) e
 
 pub placed-sized : (n : ℕ) (o : Operation) (g : Geometry) → placed n o ≡ Known g → Sized g n
 placed-sized n o g e = sized n g ((placed-known n o g e) .0)
+
+-- the test that the code makes of what the operation names
+pub within-tested : (g : Geometry) (o : Operation) {f : Facts} {b v : Bool} → f ≡ factsOf o → b ≡ has g (f .names) → b ≡ v → within g o ≡ v
+unfolding within
+within-tested g o e h k = ap (λ (x : Facts). has g (x .names)) (sym e) ∙ sym h ∙ k

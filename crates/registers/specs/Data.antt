@@ -1,4 +1,4 @@
--- The data of an FC (16 bytes) and of a 9B (64 bytes), held in the operation under way as 64-bit words, first byte highest.
+-- The data of an FC (16 bytes) and of a 9B (64 bytes).
 -- Assumes nothing.
 use Prim.Native.Nat.{ℕ}
 use mathlib.Core.List.{List, _++_}
@@ -11,6 +11,8 @@ use Rattle.registers.specs.declared.Data64.{Data64}
 -- "FC and 9B data wrap at 16 and 64, bytes not sent count as FFh": n bytes
 unfoldable pub padded : ℕ → List ℕ → List ℕ
 padded n bytes = ringWrite n 0 bytes (replicate n 255)
+
+-- ---- Aid: the data as the operation under way holds them, in 64-bit words, first byte highest
 
 unfoldable pub pack16 : List ℕ → Data16
 pack16 l = record { a = wordAt l 0; b = wordAt l 8 }

@@ -1,4 +1,4 @@
--- The registers with one field changed.
+-- Aid: the registers with one field changed; and, last, with all that a cut changes whatever is under way.
 -- Assumes nothing.
 use Prim.Native.Nat.{ℕ}
 use mathlib.Core.Bool.{Bool, true, false}

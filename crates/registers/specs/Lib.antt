@@ -1,4 +1,5 @@
 pub mod Data
 pub mod Fields
 pub mod Protection
+pub mod Facts
 pub mod Operations

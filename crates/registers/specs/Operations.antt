@@ -1,4 +1,4 @@
--- The operation under way: what it names, which pages it erases or programs, which buffer it uses.
+-- The operation under way: whether the part has what it names, which pages it erases or programs, which buffer it uses.
 -- Assumes nothing.
 use Prim.Native.Nat.{ℕ, _*_, _/_, _%_, _^_}
 use mathlib.Core.Bool.{Bool, true, cond, _||_}
@@ -11,67 +11,65 @@ use Rattle.geometry.specs.Parts.{partOf, run, inRun}
 use Rattle.geometry.specs.Sectors.{sectorOf, sectorRun, sectorCount}
 use Rattle.commands.specs.declared.Buffer.{Buffer}
 use Rattle.commands.specs.declared.Buffer.the-variants.{One}
+use Rattle.registers.specs.declared.Named.{Named}
+use Rattle.registers.specs.declared.Named.the-variants.{Nothing, Page, Block, Sector, Sectors}
 use Rattle.registers.specs.declared.Operation.{Operation}
-use Rattle.registers.specs.declared.Operation.the-variants.{Idle, Program, ProgramOver, Transfer, Compare, Rewrite, ErasePage, EraseBlock, EraseSector, EraseChip, EraseProtection, ProgramProtection, LockSector, ProgramSecurity}
+use Rattle.registers.specs.declared.Usage.{Usage}
+use Rattle.registers.specs.declared.Usage.the-variants.{Free, Uses, NoBuffer, Exclusive}
+use Rattle.registers.specs.Facts.{factsOf}
 
--- the operation names no page, block or sector beyond the part (answer 1)
+-- the part has what is named
+abbrev pub has : Geometry → Named → Bool
+has g Nothing = true
+has g (Page page) = ltb page (g .pages)
+has g (Block block) = ltb block (g .pages / 8)
+has g (Sector s) = ltb s (sectorCount g)
+has g (Sectors sectors) = ltb sectors (2 ^ sectorCount g)
+
+-- the operation names nothing beyond the part (answer 1)
 unfoldable pub within : Geometry → Operation → Bool
-within g Idle = true
-within g (Program b page) = ltb page (g .pages)
-within g (ProgramOver b page) = ltb page (g .pages)
-within g (Transfer b page) = ltb page (g .pages)
-within g (Compare b page) = ltb page (g .pages)
-within g (Rewrite b page) = ltb page (g .pages)
-within g (ErasePage page) = ltb page (g .pages)
-within g (EraseBlock block) = ltb block (g .pages / 8)
-within g (EraseSector s) = ltb s (sectorCount g)
-within g (EraseChip sectors) = ltb sectors (2 ^ sectorCount g)
-within g EraseProtection = true
-within g (ProgramProtection d) = true
-within g (LockSector s) = ltb s (sectorCount g)
-within g (ProgramSecurity d) = true
+within g o = has g (factsOf o .names)
 
 unfoldable pub placedIn : Part → Operation → Part
 placedIn (Known g) o = cond (within g o) (Known g) Unknown
 placedIn Unknown o = Unknown
 
--- answer 1, "array length not one of the two, or the operation under way names a page, block or sector beyond it": Unknown
+-- the part that an array of this length is of; Unknown, which is answer 1, where there is none or the operation names something beyond it
 unfoldable pub placed : ℕ → Operation → Part
 placed length o = placedIn (partOf length) o
 
--- the pages that an operation erases or programs: a run of them
-unfoldable pub runOf : Geometry → Operation → Run
-runOf g Idle = run 0 0
-runOf g (Program b page) = run page 1
-runOf g (ProgramOver b page) = run page 1
-runOf g (Transfer b page) = run 0 0
-runOf g (Compare b page) = run 0 0
-runOf g (Rewrite b page) = run page 1
-runOf g (ErasePage page) = run page 1
-runOf g (EraseBlock block) = run (8 * block) 8
-runOf g (EraseSector s) = sectorRun g s
-runOf g (EraseChip sectors) = run 0 0
-runOf g EraseProtection = run 0 0
-runOf g (ProgramProtection d) = run 0 0
-runOf g (LockSector s) = run 0 0
-runOf g (ProgramSecurity d) = run 0 0
+-- the page that is named; 0 where none is
+abbrev pub pageNamed : Named → ℕ
+pageNamed Nothing = 0
+pageNamed (Page page) = page
+pageNamed (Block block) = 0
+pageNamed (Sector s) = 0
+pageNamed (Sectors sectors) = 0
 
--- and, for a Chip Erase, the sectors that it found unsealed: bit i is sector i
+-- what is named, as a run of pages; and the sectors of a set: bit i is sector i
+abbrev pub runNamed : Geometry → Named → Run
+runNamed g Nothing = run 0 0
+runNamed g (Page page) = run page 1
+runNamed g (Block block) = run (8 * block) 8
+runNamed g (Sector s) = sectorRun g s
+runNamed g (Sectors sectors) = run 0 0
+
+abbrev pub setNamed : Named → ℕ
+setNamed Nothing = 0
+setNamed (Page page) = 0
+setNamed (Block block) = 0
+setNamed (Sector s) = 0
+setNamed (Sectors sectors) = sectors
+
+-- what an operation erases or programs
+abbrev pub targetOf : Operation → Named
+targetOf o = cond (factsOf o .writes) (factsOf o .names) Nothing
+
+unfoldable pub runOf : Geometry → Operation → Run
+runOf g o = runNamed g (targetOf o)
+
 unfoldable pub sectorsOf : Operation → ℕ
-sectorsOf Idle = 0
-sectorsOf (Program b page) = 0
-sectorsOf (ProgramOver b page) = 0
-sectorsOf (Transfer b page) = 0
-sectorsOf (Compare b page) = 0
-sectorsOf (Rewrite b page) = 0
-sectorsOf (ErasePage page) = 0
-sectorsOf (EraseBlock block) = 0
-sectorsOf (EraseSector s) = 0
-sectorsOf (EraseChip sectors) = sectors
-sectorsOf EraseProtection = 0
-sectorsOf (ProgramProtection d) = 0
-sectorsOf (LockSector s) = 0
-sectorsOf (ProgramSecurity d) = 0
+sectorsOf o = setNamed (targetOf o)
 
 -- the set has the sector
 unfoldable pub inSet : ℕ → ℕ → Bool
@@ -81,19 +79,12 @@ inSet sectors s = eqb (sectors / 2 ^ s % 2) 1
 unfoldable pub writes : Geometry → Operation → ℕ → Bool
 writes g o page = inRun (runOf g o) page || inSet (sectorsOf o) (sectorOf page)
 
--- the buffer that an operation uses; One where it uses none
+-- the buffer that is used; One where none is
+abbrev pub bufferOf : Usage → Buffer
+bufferOf Free = One
+bufferOf (Uses b) = b
+bufferOf NoBuffer = One
+bufferOf Exclusive = One
+
 unfoldable pub bufferUsed : Operation → Buffer
-bufferUsed Idle = One
-bufferUsed (Program b page) = b
-bufferUsed (ProgramOver b page) = b
-bufferUsed (Transfer b page) = b
-bufferUsed (Compare b page) = b
-bufferUsed (Rewrite b page) = b
-bufferUsed (ErasePage page) = One
-bufferUsed (EraseBlock block) = One
-bufferUsed (EraseSector s) = One
-bufferUsed (EraseChip sectors) = One
-bufferUsed EraseProtection = One
-bufferUsed (ProgramProtection d) = One
-bufferUsed (LockSector s) = One
-bufferUsed (ProgramSecurity d) = One
+bufferUsed o = bufferOf (factsOf o .usage)

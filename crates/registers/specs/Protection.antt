@@ -33,14 +33,6 @@ locked r s = hasBits (r .lockdown) s
 abbrev pub guarded : Registers → Bool
 guarded r = r .protect || not (r .wp)
 
--- what of the registers decides that
-abbrev pub sealsOf : Registers → Seals
-sealsOf r = record { protection = r .protection; lockdown = r .lockdown; protect = r .protect; wp = r .wp }
-
--- it holds of all registers that have these seals
-abbrev pub WithSeals : Seals → (Registers → Type 0) → Type 0
-WithSeals s P = (r : Registers) → sealsOf r ≡ s → P r
-
 -- "It is sealed if locked, or if listed while the mark is set or WP is low."
 unfoldable pub sealed : Registers → ℕ → Bool
 sealed r s = locked r s || (listed r s && guarded r)
@@ -63,3 +55,12 @@ maskOf (suc (suc j)) = 0xFF
 -- "Locking sets C0h (0a), 30h (0b) or FFh, over bits already set." 0a and 0b are both in byte 0
 unfoldable pub lockedBytes : List ℕ → ℕ → List ℕ
 lockedBytes bytes s = set bytes (s - 1) (bitOr (getD bytes (s - 1) 0) (maskOf s))
+
+-- ---- Aid: what of the registers decides whether a sector is sealed, so that the code copies no more
+
+abbrev pub sealsOf : Registers → Seals
+sealsOf r = record { protection = r .protection; lockdown = r .lockdown; protect = r .protect; wp = r .wp }
+
+-- it holds of all registers that have these seals
+abbrev pub WithSeals : Seals → (Registers → Type 0) → Type 0
+WithSeals s P = (r : Registers) → sealsOf r ≡ s → P r

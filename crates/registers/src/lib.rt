@@ -8,7 +8,8 @@ ghost use Rattle.geometry.specs.Parts.{Sized};
 ghost use Rattle.registers.specs.Data.{padded, pack16, pack64, bytes16, bytes64};
 ghost use Rattle.registers.specs.Fields.{withProtection, withLockdown, withUser, withProtect, withWp, withDeep, withOperation, restarted};
 ghost use Rattle.registers.specs.Protection.{bitsOf, hasBits, guarded, sealed, unsealedSet, WithSeals, maskOf, lockedBytes};
-ghost use Rattle.registers.specs.Operations.{within, placed, runOf, sectorsOf, bufferUsed};
+ghost use Rattle.registers.specs.Facts.{idling, paging, erasing, updating, factsOf, updateOf};
+ghost use Rattle.registers.specs.Operations.{has, placed, targetOf, pageNamed, runNamed, setNamed, bufferOf};
 use commands::Buffer;
 use geometry::Geometry;
 use geometry::Part;
@@ -56,6 +57,52 @@ pub enum Operation {
     ProgramProtection { data: Data16 },
     LockSector { sector: usize },
     ProgramSecurity { data: Data64 },
+}
+
+// What an operation names; in a set bit i is sector i.
+pub enum Named {
+    Nothing,
+    Page { page: usize },
+    Block { block: usize },
+    Sector { sector: usize },
+    Sectors { sectors: u32 },
+}
+
+// Which frames an operation lets through: every one, where there is none; those that do not concern its buffer; those that concern a buffer,
+// since it uses none; D7 alone.
+pub enum Usage {
+    Free,
+    Uses { buffer: Buffer },
+    NoBuffer,
+    Exclusive,
+}
+
+// What an operation does to array, buffers and compare bit at its busy end.
+pub enum Work {
+    Rest,
+    Program,
+    ProgramOver,
+    Transfer,
+    Compare,
+    Erase,
+}
+
+// What an operation does to a register at its busy end.
+pub enum Update {
+    Keep,
+    FillProtection,
+    MaskProtection { data: Data16 },
+    Lock { sector: usize },
+    WriteUser { data: Data64 },
+}
+
+// What is to be known of an operation, but for its update, which holds its data.
+pub struct Facts {
+    pub names: Named,
+    // It erases or programs what it names.
+    pub writes: bool,
+    pub usage: Usage,
+    pub work: Work,
 }
 
 pub struct Registers {
@@ -317,7 +364,98 @@ pub fn locked_bytes(bytes: [u8; 16], sector: usize) -> [u8; 16]
     l
 }
 
-// ---- the operation under way
+// ---- an operation's facts
+
+// An operation with a buffer and a page.
+fn paging(buffer: Buffer, page: usize, writes: bool, work: Work) -> Facts
+    ensures { λ r. ⌜ r ≡ paging buffer page writes work ⌝ }
+{
+    Facts {
+        names: Named::Page { page: page },
+        writes: writes,
+        usage: Usage::Uses { buffer: buffer },
+        work: work,
+    }
+}
+
+// An array erase.
+fn erasing(names: Named) -> Facts
+    ensures { λ r. ⌜ r ≡ erasing names ⌝ }
+{
+    Facts {
+        names: names,
+        writes: true,
+        usage: Usage::NoBuffer,
+        work: Work::Erase,
+    }
+}
+
+// CF, FC, 30, 9B.
+fn updating(names: Named) -> Facts
+    ensures { λ r. ⌜ r ≡ updating names ⌝ }
+{
+    Facts {
+        names: names,
+        writes: false,
+        usage: Usage::Exclusive,
+        work: Work::Rest,
+    }
+}
+
+fn idling() -> Facts
+    ensures { λ r. ⌜ r ≡ idling ⌝ }
+{
+    Facts {
+        names: Named::Nothing,
+        writes: false,
+        usage: Usage::Free,
+        work: Work::Rest,
+    }
+}
+
+pub fn facts_of(o: Operation) -> Facts
+    ensures { λ r. ⌜ r ≡ factsOf o ⌝ }
+{
+    match o {
+        Operation::Idle => idling(),
+        Operation::Program { buffer, page } => paging(buffer, page, true, Work::Program),
+        Operation::ProgramOver { buffer, page } => paging(buffer, page, true, Work::ProgramOver),
+        Operation::Transfer { buffer, page } => paging(buffer, page, false, Work::Transfer),
+        Operation::Compare { buffer, page } => paging(buffer, page, false, Work::Compare),
+        Operation::Rewrite { buffer, page } => paging(buffer, page, true, Work::Transfer),
+        Operation::ErasePage { page } => erasing(Named::Page { page: page }),
+        Operation::EraseBlock { block } => erasing(Named::Block { block: block }),
+        Operation::EraseSector { sector } => erasing(Named::Sector { sector: sector }),
+        Operation::EraseChip { sectors } => erasing(Named::Sectors { sectors: sectors }),
+        Operation::EraseProtection => updating(Named::Nothing),
+        Operation::ProgramProtection { data: _ } => updating(Named::Nothing),
+        Operation::LockSector { sector } => updating(Named::Sector { sector: sector }),
+        Operation::ProgramSecurity { data: _ } => updating(Named::Nothing),
+    }
+}
+
+pub fn update_of(o: Operation) -> Update
+    ensures { λ r. ⌜ r ≡ updateOf o ⌝ }
+{
+    match o {
+        Operation::Idle => Update::Keep,
+        Operation::Program { buffer: _, page: _ } => Update::Keep,
+        Operation::ProgramOver { buffer: _, page: _ } => Update::Keep,
+        Operation::Transfer { buffer: _, page: _ } => Update::Keep,
+        Operation::Compare { buffer: _, page: _ } => Update::Keep,
+        Operation::Rewrite { buffer: _, page: _ } => Update::Keep,
+        Operation::ErasePage { page: _ } => Update::Keep,
+        Operation::EraseBlock { block: _ } => Update::Keep,
+        Operation::EraseSector { sector: _ } => Update::Keep,
+        Operation::EraseChip { sectors: _ } => Update::Keep,
+        Operation::EraseProtection => Update::FillProtection,
+        Operation::ProgramProtection { data } => Update::MaskProtection { data: data },
+        Operation::LockSector { sector } => Update::Lock { sector: sector },
+        Operation::ProgramSecurity { data } => Update::WriteUser { data: data },
+    }
+}
+
+// ---- what follows from them
 
 // 2 to the n.
 fn power(n: usize) -> u32
@@ -333,26 +471,16 @@ fn power(n: usize) -> u32
     p
 }
 
-fn is_within(g: Geometry, o: Operation) -> bool
+fn is_within(g: Geometry, n: Named) -> bool
     requires { ⌜ Sized g (g .pages * g .size) ⌝ }
-    ensures { λ r. ⌜ r ≡ within g o ⌝ }
+    ensures { λ r. ⌜ r ≡ has g n ⌝ }
 {
-    let pages = g.pages;
-    match o {
-        Operation::Idle => true,
-        Operation::Program { buffer: _, page } => page < pages,
-        Operation::ProgramOver { buffer: _, page } => page < pages,
-        Operation::Transfer { buffer: _, page } => page < pages,
-        Operation::Compare { buffer: _, page } => page < pages,
-        Operation::Rewrite { buffer: _, page } => page < pages,
-        Operation::ErasePage { page } => page < pages,
-        Operation::EraseBlock { block } => block < pages / 8,
-        Operation::EraseSector { sector } => sector < geometry::sector_count(g),
-        Operation::EraseChip { sectors } => sectors < power(geometry::sector_count(g)),
-        Operation::EraseProtection => true,
-        Operation::ProgramProtection { data: _ } => true,
-        Operation::LockSector { sector } => sector < geometry::sector_count(g),
-        Operation::ProgramSecurity { data: _ } => true,
+    match n {
+        Named::Nothing => true,
+        Named::Page { page } => page < g.pages,
+        Named::Block { block } => block < g.pages / 8,
+        Named::Sector { sector } => sector < geometry::sector_count(g),
+        Named::Sectors { sectors } => sectors < power(geometry::sector_count(g)),
     }
 }
 
@@ -363,7 +491,9 @@ pub fn place(length: usize, o: Operation) -> Part
     let p = geometry::part_of(length);
     match p {
         Part::Known(g) => {
-            if is_within(g, o) {
+            let f = facts_of(o);
+            let n = f.names;
+            if is_within(g, n) {
                 Part::Known(g)
             } else {
                 Part::Unknown
@@ -373,84 +503,69 @@ pub fn place(length: usize, o: Operation) -> Part
     }
 }
 
-// The pages that the operation erases or programs, but for a Chip Erase.
-pub fn run_of(g: Geometry, o: Operation) -> Run
-    requires { ⌜ (Sized g (g .pages * g .size)) × (within g o ≡ true) ⌝ }
-    ensures { λ r. ⌜ (r ≡ runOf g o) × (r .first + r .count ≤ g .pages) ⌝ }
+// What the operation erases or programs.
+pub fn target_of(o: Operation) -> Named
+    ensures { λ r. ⌜ r ≡ targetOf o ⌝ }
 {
-    match o {
-        Operation::Idle => Run { first: 0, count: 0 },
-        Operation::Program { buffer: _, page } => Run {
+    let f = facts_of(o);
+    let n = f.names;
+    if f.writes { n } else { Named::Nothing }
+}
+
+// The page that is named; 0 where none is.
+pub fn page_named(n: Named) -> usize
+    ensures { λ r. ⌜ r ≡ pageNamed n ⌝ }
+{
+    match n {
+        Named::Nothing => 0,
+        Named::Page { page } => page,
+        Named::Block { block: _ } => 0,
+        Named::Sector { sector: _ } => 0,
+        Named::Sectors { sectors: _ } => 0,
+    }
+}
+
+// What is named, as a run of pages.
+pub fn run_named(g: Geometry, n: Named) -> Run
+    requires { ⌜ (Sized g (g .pages * g .size)) × (has g n ≡ true) ⌝ }
+    ensures { λ r. ⌜ (r ≡ runNamed g n) × (r .first + r .count ≤ g .pages) ⌝ }
+{
+    match n {
+        Named::Nothing => Run { first: 0, count: 0 },
+        Named::Page { page } => Run {
             first: page,
             count: 1,
         },
-        Operation::ProgramOver { buffer: _, page } => Run {
-            first: page,
-            count: 1,
-        },
-        Operation::Transfer { buffer: _, page: _ } => Run { first: 0, count: 0 },
-        Operation::Compare { buffer: _, page: _ } => Run { first: 0, count: 0 },
-        Operation::Rewrite { buffer: _, page } => Run {
-            first: page,
-            count: 1,
-        },
-        Operation::ErasePage { page } => Run {
-            first: page,
-            count: 1,
-        },
-        Operation::EraseBlock { block } => Run {
+        Named::Block { block } => Run {
             first: 8 * block,
             count: 8,
         },
-        Operation::EraseSector { sector } => geometry::sector_run(g, sector),
-        Operation::EraseChip { sectors: _ } => Run { first: 0, count: 0 },
-        Operation::EraseProtection => Run { first: 0, count: 0 },
-        Operation::ProgramProtection { data: _ } => Run { first: 0, count: 0 },
-        Operation::LockSector { sector: _ } => Run { first: 0, count: 0 },
-        Operation::ProgramSecurity { data: _ } => Run { first: 0, count: 0 },
+        Named::Sector { sector } => geometry::sector_run(g, sector),
+        Named::Sectors { sectors: _ } => Run { first: 0, count: 0 },
     }
 }
 
-// The sectors that a Chip Erase found unsealed; none for any other operation.
-pub fn sectors_of(o: Operation) -> u32
-    ensures { λ r. ⌜ r ≡ sectorsOf o ⌝ }
+// The sectors of a set.
+pub fn set_named(n: Named) -> u32
+    ensures { λ r. ⌜ r ≡ setNamed n ⌝ }
 {
-    match o {
-        Operation::Idle => 0,
-        Operation::Program { buffer: _, page: _ } => 0,
-        Operation::ProgramOver { buffer: _, page: _ } => 0,
-        Operation::Transfer { buffer: _, page: _ } => 0,
-        Operation::Compare { buffer: _, page: _ } => 0,
-        Operation::Rewrite { buffer: _, page: _ } => 0,
-        Operation::ErasePage { page: _ } => 0,
-        Operation::EraseBlock { block: _ } => 0,
-        Operation::EraseSector { sector: _ } => 0,
-        Operation::EraseChip { sectors } => sectors,
-        Operation::EraseProtection => 0,
-        Operation::ProgramProtection { data: _ } => 0,
-        Operation::LockSector { sector: _ } => 0,
-        Operation::ProgramSecurity { data: _ } => 0,
+    match n {
+        Named::Nothing => 0,
+        Named::Page { page: _ } => 0,
+        Named::Block { block: _ } => 0,
+        Named::Sector { sector: _ } => 0,
+        Named::Sectors { sectors } => sectors,
     }
 }
 
-// The buffer that the operation uses; buffer 1 where it uses none.
-pub fn buffer_used(o: Operation) -> Buffer
-    ensures { λ r. ⌜ r ≡ bufferUsed o ⌝ }
+// The buffer that is used; buffer 1 where none is.
+pub fn buffer_of(u: Usage) -> Buffer
+    ensures { λ r. ⌜ r ≡ bufferOf u ⌝ }
 {
-    match o {
-        Operation::Idle => Buffer::One,
-        Operation::Program { buffer, page: _ } => buffer,
-        Operation::ProgramOver { buffer, page: _ } => buffer,
-        Operation::Transfer { buffer, page: _ } => buffer,
-        Operation::Compare { buffer, page: _ } => buffer,
-        Operation::Rewrite { buffer, page: _ } => buffer,
-        Operation::ErasePage { page: _ } => Buffer::One,
-        Operation::EraseBlock { block: _ } => Buffer::One,
-        Operation::EraseSector { sector: _ } => Buffer::One,
-        Operation::EraseChip { sectors: _ } => Buffer::One,
-        Operation::EraseProtection => Buffer::One,
-        Operation::ProgramProtection { data: _ } => Buffer::One,
-        Operation::LockSector { sector: _ } => Buffer::One,
-        Operation::ProgramSecurity { data: _ } => Buffer::One,
+    match u {
+        Usage::Free => Buffer::One,
+        Usage::Uses { buffer } => buffer,
+        Usage::NoBuffer => Buffer::One,
+        Usage::Exclusive => Buffer::One,
     }
 }

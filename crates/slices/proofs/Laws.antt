@@ -14,6 +14,12 @@ use lib.Dec.{eqb}
 use borrow.Author.Tests.{eqb-true, eq-eqb}
 use Rattle.slices.specs.Lists.{tabulate, over, splice, andOver, same}
 
+-- a byte that is there is so whatever stands for one that is not
+pub getD-other : (xs : List ℕ) (i d e : ℕ) → i < length xs → getD xs i d ≡ getD xs i e
+getD-other [] i d e h = absurd (not-suc-le-zero h)
+getD-other (x ∷ xs) zero d e h = refl
+getD-other (x ∷ xs) (suc i) d e h = getD-other xs i d e (le-of-suc-le-suc h)
+
 -- ---- a list computed byte by byte
 pub length-tabulate : (n : ℕ) (f : ℕ → ℕ) → length (tabulate n f) ≡ n
 unfolding tabulate
@@ -195,7 +201,7 @@ splice-splice zero ys zs xs h = over-over ys zs xs h
 splice-splice (suc a) ys zs [] h = refl
 splice-splice (suc a) ys zs (x ∷ xs) h = ap (λ (l : List ℕ). x ∷ l) (splice-splice a ys zs xs h)
 
-over-two : (ys zs xs : List ℕ) → over (ys ++ zs) xs ≡ splice (length ys) zs (over ys xs)
+pub over-two : (ys zs xs : List ℕ) → over (ys ++ zs) xs ≡ splice (length ys) zs (over ys xs)
 unfolding over splice
 over-two [] zs xs = refl
 over-two (y ∷ ys) zs [] = refl

@@ -46,6 +46,16 @@ pub fn and_into(part: &mut [u8], mask: &[u8])
     }
 }
 
+// The byte at an index, or `other` where there is none.
+pub fn byte_or(bytes: &[u8], i: usize, other: u8) -> u8
+    ensures { λ r. ⌜ r ≡ getD (now (bytes .entry)) i other ⌝ }
+{
+    if bytes.len() <= i {
+        return other;
+    }
+    bytes[i]
+}
+
 // Whether the two differ, in length or in a byte.
 pub fn differs(a: &[u8], b: &[u8]) -> bool
     ensures { λ r. ⌜ r ≡ not (same (now (a .entry)) (now (b .entry))) ⌝ }

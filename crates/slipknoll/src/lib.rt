@@ -3,31 +3,25 @@
 // include/slipknoll.h documents it.
 // Each function on a chip returns the answer's number of document 01's table; no function has a `requires`.
 ghost use mathlib.Core.Path.{_≡_};
-ghost use Prim.Native.Nat.{_+_};
-ghost use mathlib.Core.Bool.{false};
+ghost use mathlib.Core.List.{[]};
+ghost use Prim.Native.Nat.{_≤_};
 ghost use lib.ListN.{length, take};
-ghost use lib.Dec.{ltb};
 ghost use Rattle.slices.specs.Lists.{over};
-ghost use Rattle.state.specs.Answers.{numberOf};
-ghost use Rattle.state.specs.Outcomes.{freshOutcome, freshArray, sendOutcome, sendReply, endOutcome, endArray, cutOutcome, cutArray};
-ghost use Rattle.blocks.specs.Block.{decodeChip};
-ghost use Rattle.blocks.specs.Promises.{answered, storedIn, pinMoved};
-ghost use Rattle.slots.specs.Driver.{answerOf};
-ghost use Rattle.slots.specs.Lists.{Op};
-ghost use Rattle.driver.specs.Start.{limitIn, startDriver};
-ghost use Rattle.driver.specs.Step.{frameIn, stagedIn, tookIn, nextIn};
-ghost use Rattle.driver_blocks.specs.Block.{decodeDriver, encodeDriver};
-ghost use Rattle.calls.specs.Promises.{Called, CalledLent};
+ghost use Rattle.state.specs.Outcomes.{freshOutcome, sendOutcome, endOutcome, cutOutcome};
+ghost use Rattle.blocks.specs.Promises.{heldIn, Met, MetFresh, MetPin};
+ghost use Rattle.slots.specs.Lists.{Op, asking, put, patch, get, wipe};
+ghost use Rattle.worlds.specs.Start.{startDriver};
+ghost use Rattle.worlds.specs.Step.{frameIn, stagedIn, tookIn, nextIn, toldIn, countIn};
+ghost use Rattle.driver_blocks.specs.Block.{toldNumber, decodeDriver, encodeDriver};
+ghost use Rattle.runs.specs.Promises.{Called};
 use slots::Kind;
 
 // A fresh chip with these factory bytes; the array becomes FFh. Answers 0, 1.
 #[no_mangle]
 pub extern "C" fn slipknoll_fresh(block: &mut [u8; 765], factory: &[u8; 64], array: &mut [u8]) -> u8
-    ensures { λ r. ⌜ (r ≡ answered (freshOutcome (now (factory .entry)) (now (array .entry)))) × (now (block .exit) ≡ storedIn (now (block .entry)) (freshOutcome (now (factory .entry)) (now (array .entry)))) × (now (array .exit) ≡ freshArray (now (array .entry))) ⌝ }
+    ensures { λ r. ⌜ MetFresh (now (block .entry)) (freshOutcome (now (factory .entry)) (now (array .entry))) r (now (block .exit)) (now (array .exit)) ⌝ }
 {
-    let bytes = *factory;
-    let o = chip::fresh(bytes, array);
-    blocks::store(block, o)
+    inplace::fresh(block, factory, array)
 }
 
 // A frame sent straight to the chip; the reply is as long. Answers 0, 1, 2.
@@ -38,7 +32,7 @@ pub extern "C" fn slipknoll_send(
     frame: &[u8],
     reply: &mut [u8],
 ) -> u8
-    ensures { λ r. ⌜ (r ≡ answered (sendOutcome (decodeChip (now (block .entry))) (now (array .entry)) (now (frame .entry)) (length (now (reply .entry))))) × (now (block .exit) ≡ storedIn (now (block .entry)) (sendOutcome (decodeChip (now (block .entry))) (now (array .entry)) (now (frame .entry)) (length (now (reply .entry))))) × (now (reply .exit) ≡ sendReply (decodeChip (now (block .entry))) (now (array .entry)) (now (frame .entry)) (now (reply .entry))) ⌝ }
+    ensures { λ r. ⌜ Met (now (block .entry)) (sendOutcome (heldIn (now (block .entry)) (now (array .entry))) (now (frame .entry)) (now (reply .entry))) r (now (block .exit)) (now (array .entry)) (now (reply .exit)) ⌝ }
 {
     inplace::send(block, array, frame, reply)
 }
@@ -46,7 +40,7 @@ pub extern "C" fn slipknoll_send(
 // The operation under way ends and takes effect. Answers 0, 1.
 #[no_mangle]
 pub extern "C" fn slipknoll_end_busy(block: &mut [u8; 765], array: &mut [u8]) -> u8
-    ensures { λ r. ⌜ (r ≡ answered (endOutcome (decodeChip (now (block .entry))) (now (array .entry)))) × (now (block .exit) ≡ storedIn (now (block .entry)) (endOutcome (decodeChip (now (block .entry))) (now (array .entry)))) × (now (array .exit) ≡ endArray (decodeChip (now (block .entry))) (now (array .entry))) ⌝ }
+    ensures { λ r. ⌜ Met (now (block .entry)) (endOutcome (heldIn (now (block .entry)) (now (array .entry)))) r (now (block .exit)) (now (array .exit)) [] ⌝ }
 {
     inplace::end_busy(block, array)
 }
@@ -54,20 +48,17 @@ pub extern "C" fn slipknoll_end_busy(block: &mut [u8; 765], array: &mut [u8]) ->
 // The WP pin is moved. Answer 0.
 #[no_mangle]
 pub extern "C" fn slipknoll_move_pin(block: &mut [u8; 765], high: bool) -> u8
-    ensures { λ r. ⌜ (r ≡ 0) × (now (block .exit) ≡ pinMoved (now (block .entry)) high) ⌝ }
+    ensures { λ r. ⌜ MetPin (now (block .entry)) high r (now (block .exit)) ⌝ }
 {
-    block[162] = blocks::flag_byte(high);
-    0
+    inplace::move_pin(block, high)
 }
 
 // The supply is cut, with junk. Answers 0, 1, 7.
 #[no_mangle]
 pub extern "C" fn slipknoll_cut(block: &mut [u8; 765], array: &mut [u8], junk: &[u8]) -> u8
-    ensures { λ r. ⌜ (r ≡ answered (cutOutcome (decodeChip (now (block .entry))) (now (array .entry)) (now (junk .entry)))) × (now (block .exit) ≡ storedIn (now (block .entry)) (cutOutcome (decodeChip (now (block .entry))) (now (array .entry)) (now (junk .entry)))) × (now (array .exit) ≡ cutArray (decodeChip (now (block .entry))) (now (array .entry)) (now (junk .entry))) ⌝ }
+    ensures { λ r. ⌜ Met (now (block .entry)) (cutOutcome (now (junk .entry)) (heldIn (now (block .entry)) (now (array .entry)))) r (now (block .exit)) (now (array .exit)) [] ⌝ }
 {
-    let c = blocks::decode(block);
-    let o = chip::cut(c, array, junk);
-    blocks::store(block, o)
+    inplace::cut(block, array, junk)
 }
 
 // ---- the calls. `counts` gets frames, polls and n. Answers 0 to 13.
@@ -85,7 +76,7 @@ pub extern "C" fn slipknoll_put(
     log: &mut [u8],
     counts: &mut [u64; 3],
 ) -> u8
-    ensures { λ r. ⌜ Called (Op.put slot limit (now (script .entry)) (now (recipe .entry)) (now (junk .entry)) (now (log .entry))) (now (block .entry)) (now (array .entry)) (now (log .entry)) r (now (block .exit)) (now (array .exit)) (now (log .exit)) (now (counts .exit)) ⌝ }
+    ensures { λ r. ⌜ Called (put slot limit (now (script .entry)) (now (recipe .entry)) (now (junk .entry)) (now (log .entry))) (now (block .entry)) (now (array .entry)) r (now (block .exit)) (now (array .exit)) (now (log .exit)) (now (counts .exit)) [] ⌝ }
 {
     let d = calls::put(block, array, slot, limit, recipe, script, junk, log);
     calls::tell(counts, d)
@@ -105,7 +96,7 @@ pub extern "C" fn slipknoll_patch(
     log: &mut [u8],
     counts: &mut [u64; 3],
 ) -> u8
-    ensures { λ r. ⌜ Called (Op.patch slot limit place (now (script .entry)) (now (bytes .entry)) (now (junk .entry)) (now (log .entry))) (now (block .entry)) (now (array .entry)) (now (log .entry)) r (now (block .exit)) (now (array .exit)) (now (log .exit)) (now (counts .exit)) ⌝ }
+    ensures { λ r. ⌜ Called (patch slot limit place (now (script .entry)) (now (bytes .entry)) (now (junk .entry)) (now (log .entry))) (now (block .entry)) (now (array .entry)) r (now (block .exit)) (now (array .exit)) (now (log .exit)) (now (counts .exit)) [] ⌝ }
 {
     let d = calls::patch(block, array, slot, limit, place, bytes, script, junk, log);
     calls::tell(counts, d)
@@ -124,7 +115,7 @@ pub extern "C" fn slipknoll_get(
     log: &mut [u8],
     counts: &mut [u64; 3],
 ) -> u8
-    ensures { λ r. ⌜ CalledLent (Op.get slot limit (now (script .entry)) (now (junk .entry)) (now (log .entry)) (now (buffer .entry))) (now (block .entry)) (now (array .entry)) (now (log .entry)) r (now (block .exit)) (now (array .exit)) (now (log .exit)) (now (counts .exit)) (now (buffer .exit)) ⌝ }
+    ensures { λ r. ⌜ Called (get slot limit (now (script .entry)) (now (junk .entry)) (now (log .entry)) (now (buffer .entry))) (now (block .entry)) (now (array .entry)) r (now (block .exit)) (now (array .exit)) (now (log .exit)) (now (counts .exit)) (now (buffer .exit)) ⌝ }
 {
     let d = calls::get(block, array, slot, limit, buffer, script, junk, log);
     calls::tell(counts, d)
@@ -142,7 +133,7 @@ pub extern "C" fn slipknoll_wipe(
     log: &mut [u8],
     counts: &mut [u64; 3],
 ) -> u8
-    ensures { λ r. ⌜ Called (Op.wipe slot limit (now (script .entry)) (now (junk .entry)) (now (log .entry))) (now (block .entry)) (now (array .entry)) (now (log .entry)) r (now (block .exit)) (now (array .exit)) (now (log .exit)) (now (counts .exit)) ⌝ }
+    ensures { λ r. ⌜ Called (wipe slot limit (now (script .entry)) (now (junk .entry)) (now (log .entry))) (now (block .entry)) (now (array .entry)) r (now (block .exit)) (now (array .exit)) (now (log .exit)) (now (counts .exit)) [] ⌝ }
 {
     let d = calls::wipe(block, array, slot, limit, script, junk, log);
     calls::tell(counts, d)
@@ -160,7 +151,7 @@ pub extern "C" fn slipknoll_raw(
     log: &mut [u8],
     counts: &mut [u64; 3],
 ) -> u8
-    ensures { λ r. ⌜ CalledLent (Op.raw (now (frame .entry)) (now (script .entry)) (now (junk .entry)) (now (log .entry)) (now (reply .entry))) (now (block .entry)) (now (array .entry)) (now (log .entry)) r (now (block .exit)) (now (array .exit)) (now (log .exit)) (now (counts .exit)) (now (reply .exit)) ⌝ }
+    ensures { λ r. ⌜ Called (Op.raw (now (frame .entry)) (now (script .entry)) (now (junk .entry)) (now (log .entry)) (now (reply .entry))) (now (block .entry)) (now (array .entry)) r (now (block .exit)) (now (array .exit)) (now (log .exit)) (now (counts .exit)) (now (reply .exit)) ⌝ }
 {
     let d = calls::raw(block, array, frame, reply, script, junk, log);
     calls::tell(counts, d)
@@ -177,7 +168,7 @@ pub extern "C" fn slipknoll_driver_start_put(
     limit: usize,
     recipe: &[u8],
 )
-    ensures { λ _. ⌜ now (state .exit) ≡ encodeDriver (startDriver array Kind.Put slot limit 0 (ltb (limitIn array) (length (now (recipe .entry))))) ⌝ }
+    ensures { λ _. ⌜ now (state .exit) ≡ encodeDriver (startDriver array (asking Kind.Put slot limit) 0 (length (now (recipe .entry))) 0) ⌝ }
 {
     let d = driver::start_put(array, slot, limit, recipe);
     driver_blocks::encode(state, d);
@@ -193,7 +184,7 @@ pub extern "C" fn slipknoll_driver_start_patch(
     place: usize,
     bytes: &[u8],
 )
-    ensures { λ _. ⌜ now (state .exit) ≡ encodeDriver (startDriver array Kind.Patch slot limit place (ltb (limitIn array) (place + length (now (bytes .entry))))) ⌝ }
+    ensures { λ _. ⌜ now (state .exit) ≡ encodeDriver (startDriver array (asking Kind.Patch slot limit) place (length (now (bytes .entry))) 0) ⌝ }
 {
     let d = driver::start_patch(array, slot, limit, place, bytes);
     driver_blocks::encode(state, d);
@@ -208,7 +199,7 @@ pub extern "C" fn slipknoll_driver_start_get(
     limit: usize,
     buffer: usize,
 )
-    ensures { λ _. ⌜ now (state .exit) ≡ encodeDriver (startDriver array Kind.Get slot limit 0 (ltb buffer (limitIn array))) ⌝ }
+    ensures { λ _. ⌜ now (state .exit) ≡ encodeDriver (startDriver array (asking Kind.Get slot limit) 0 0 buffer) ⌝ }
 {
     let d = driver::start_get(array, slot, limit, buffer);
     driver_blocks::encode(state, d);
@@ -222,7 +213,7 @@ pub extern "C" fn slipknoll_driver_start_wipe(
     slot: usize,
     limit: usize,
 )
-    ensures { λ _. ⌜ now (state .exit) ≡ encodeDriver (startDriver array Kind.Wipe slot limit 0 false) ⌝ }
+    ensures { λ _. ⌜ now (state .exit) ≡ encodeDriver (startDriver array (asking Kind.Wipe slot limit) 0 0 0) ⌝ }
 {
     let d = driver::start_wipe(array, slot, limit);
     driver_blocks::encode(state, d);
@@ -262,12 +253,21 @@ pub extern "C" fn slipknoll_driver_next(
     n.length
 }
 
-// The answer's number; 9 where the call has not ended.
+// The answer's number; 255 while the call is running.
 #[no_mangle]
 pub extern "C" fn slipknoll_driver_answer(state: &[u8; 48]) -> u8
-    ensures { λ r. ⌜ r ≡ numberOf (answerOf (decodeDriver (now (state .entry)) .course .phase) (decodeDriver (now (state .entry)) .verdict)) ⌝ }
+    ensures { λ r. ⌜ r ≡ toldNumber (toldIn (decodeDriver (now (state .entry)))) ⌝ }
 {
     let d = driver_blocks::decode(state);
-    let a = driver::answer(d);
-    state::number(a)
+    let t = driver::answer(d);
+    driver_blocks::told_number(t)
+}
+
+// Of a get that has ended with 0 the recipe's length, else 0; the recipe stands in `staged` behind the first three bytes.
+#[no_mangle]
+pub extern "C" fn slipknoll_driver_count(state: &[u8; 48], staged: &[u8; 2112]) -> usize
+    ensures { λ r. ⌜ (r ≡ countIn (decodeDriver (now (state .entry))) (now (staged .entry))) × (r ≤ 2109) ⌝ }
+{
+    let d = driver_blocks::decode(state);
+    driver::count(d, staged)
 }

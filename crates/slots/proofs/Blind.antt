@@ -23,19 +23,14 @@ use Rattle.memory.specs.Replies.{replied}
 use Rattle.state.specs.Memory.{Memory}
 use Rattle.state.specs.Frames.{isIdle, statusOf, dataOf, replyOf}
 use Rattle.state.proofs.Replies.{status-byte, reply-status-deep}
-use Rattle.slots.specs.declared.Heard.{Heard}
-use Rattle.slots.specs.declared.Phase.{Phase}
-use Rattle.slots.specs.declared.Phase.the-variants.{Opening, AskProtection, AskLockdown, Reading, Loading, Programming, Between, Erasing, Closing, Ended}
-use Rattle.slots.specs.declared.Shape.{Shape}
-use Rattle.slots.specs.Driver.{Asked, Holding, shapeOf, frameByte, loaded, frameOf, statusHeard, heardIn, isEnded}
+use Rattle.slots.specs.declared.Kind.{Kind}
+use Rattle.slots.specs.declared.Step.{Step}
+use Rattle.slots.specs.declared.Step.the-variants.{Wait, Protection, Lockdown, Read, Load, Send, End}
+use Rattle.slots.specs.Driver.{Heard, Shape, Holding, shapeOf, frameByte, loaded, frameOf, statusHeard, heard, stepOf, isEnded}
+use Rattle.slots.specs.Plans.{sectorFor}
 use Rattle.slots.specs.Calls.{Request, Open, Closed, outline, openAfter, stepOpen, stepClosed, run}
 
 -- ---- frames
-
--- the frame of a phase
-abbrev pub frameIn : Geometry → Phase → Asked → ℕ → Holding → List ℕ
-frameIn g p a page h =
-    tabulate (shapeOf g p (a .slot) page .length) (frameByte (shapeOf g p (a .slot) page) (loaded g (a .kind) (h .verdict) h page))
 
 tabulate-at : (n : ℕ) (f h : ℕ → ℕ) (i d : ℕ) → f i ≡ h i → getD (tabulate n f) i d ≡ getD (tabulate n h) i d
 unfolding tabulate
@@ -44,7 +39,7 @@ tabulate-at (suc n) f h zero d e = e
 tabulate-at (suc n) f h (suc i) d e = tabulate-at n (λ k. f (suc k)) (λ k. h (suc k)) i d e
 
 -- the outline shows the length and the first four bytes: no data
-outline-same : (s : Shape) (x y : ℕ → ℕ) → outline (tabulate (s .length) (frameByte s x)) ≡ outline (tabulate (s .length) (frameByte s y))
+pub outline-same : (s : Shape) (x y : ℕ → ℕ) → outline (tabulate (s .length) (frameByte s x)) ≡ outline (tabulate (s .length) (frameByte s y))
 unfolding outline frameByte
 outline-same s x y =
     let n = s .length in
@@ -72,26 +67,26 @@ plain-same s x y e = λ j. tabulate (s .length) (λ i. byte-same s x y i e j)
 -- ---- the registers
 
 -- an 84 leaves the registers, whatever its data
-load-registers : (g : Geometry) (r : Registers) (a : Asked) (page : ℕ) (h : Holding) → control g r (frameIn g Loading a page h) .registers ≡ r
+pub load-registers : (g : Geometry) (r : Registers) (k : Kind) (p : ℕ) (h : Holding) → control g r (frameOf g k h (Load p)) .registers ≡ r
 unfolding shapeOf frameByte tabulate
-load-registers g r a page h =
-    ap (λ (f : List ℕ). control g r f .registers)
-    (tabulate-append 4 (g .size) (frameByte (shapeOf g Loading (a .slot) page) (loaded g (a .kind) (h .verdict) h page)))
+load-registers g r k p h =
+    ap (λ (f : List ℕ). control g r f .registers) (tabulate-append 4 (g .size) (frameByte (shapeOf g (Load p)) (loaded g k h (Load p))))
     ∙ load-keeps g r 0 0 0 _
 
-control-blind : (g : Geometry) (r : Registers) (p : Phase) (a : Asked) (page : ℕ) (h k : Holding)
-    → control g r (frameIn g p a page h) .registers ≡ control g r (frameIn g p a page k) .registers
+-- any other frame is the same
+frame-same : (g : Geometry) (k : Kind) (h l : Holding) (x : Step) → shapeOf g x .loads ≡ false → frameOf g k h x ≡ frameOf g k l x
+frame-same g k h l x e = plain-same (shapeOf g x) (loaded g k h x) (loaded g k l x) e
+
+control-blind : (g : Geometry) (r : Registers) (k : Kind) (h l : Holding) (x : Step)
+    → control g r (frameOf g k h x) .registers ≡ control g r (frameOf g k l x) .registers
 unfolding shapeOf
-control-blind g r Opening a page h k = ap (λ (f : List ℕ). control g r f .registers) (plain-same (shapeOf g Opening (a .slot) page) _ _ refl)
-control-blind g r AskProtection a page h k = ap (λ (f : List ℕ). control g r f .registers) (plain-same (shapeOf g AskProtection (a .slot) page) _ _ refl)
-control-blind g r AskLockdown a page h k = ap (λ (f : List ℕ). control g r f .registers) (plain-same (shapeOf g AskLockdown (a .slot) page) _ _ refl)
-control-blind g r Reading a page h k = ap (λ (f : List ℕ). control g r f .registers) (plain-same (shapeOf g Reading (a .slot) page) _ _ refl)
-control-blind g r Loading a page h k = load-registers g r a page h ∙ sym (load-registers g r a page k)
-control-blind g r Programming a page h k = ap (λ (f : List ℕ). control g r f .registers) (plain-same (shapeOf g Programming (a .slot) page) _ _ refl)
-control-blind g r Between a page h k = ap (λ (f : List ℕ). control g r f .registers) (plain-same (shapeOf g Between (a .slot) page) _ _ refl)
-control-blind g r Erasing a page h k = ap (λ (f : List ℕ). control g r f .registers) (plain-same (shapeOf g Erasing (a .slot) page) _ _ refl)
-control-blind g r Closing a page h k = ap (λ (f : List ℕ). control g r f .registers) (plain-same (shapeOf g Closing (a .slot) page) _ _ refl)
-control-blind g r (Ended n) a page h k = ap (λ (f : List ℕ). control g r f .registers) (plain-same (shapeOf g (Ended n) (a .slot) page) _ _ refl)
+control-blind g r k h l Wait = ap (λ (f : List ℕ). control g r f .registers) (frame-same g k h l Wait refl)
+control-blind g r k h l Protection = ap (λ (f : List ℕ). control g r f .registers) (frame-same g k h l Protection refl)
+control-blind g r k h l Lockdown = ap (λ (f : List ℕ). control g r f .registers) (frame-same g k h l Lockdown refl)
+control-blind g r k h l (Read p) = ap (λ (f : List ℕ). control g r f .registers) (frame-same g k h l (Read p) refl)
+control-blind g r k h l (Load p) = load-registers g r k p h ∙ sym (load-registers g r k p l)
+control-blind g r k h l (Send c p) = ap (λ (f : List ℕ). control g r f .registers) (frame-same g k h l (Send c p) refl)
+control-blind g r k h l End = ap (λ (f : List ℕ). control g r f .registers) (frame-same g k h l End refl)
 
 -- ---- what is heard
 
@@ -136,32 +131,28 @@ lockdown-blind : (g : Geometry) (r : Registers) (m o : Memory) (t : List ℕ) �
 unfolding dataOf rowDecided
 lockdown-blind g r m o t = reply-blind g r m o (0x35 ∷ 0 ∷ 0 ∷ 0 ∷ t) _ (decode-lockdown 0 0 0 t) refl
 
-hear-blind : (g : Geometry) (r : Registers) (p : Phase) (a : Asked) (page : ℕ) (h k : Holding) (m o : Memory)
-    → heardIn p (a .slot) (replyOf g r m (frameIn g p a page h)) ≡ heardIn p (a .slot) (replyOf g r o (frameIn g p a page k))
-unfolding shapeOf frameByte tabulate heardIn
-hear-blind g r Opening a page h k m o = poll-blind g r m o
-hear-blind g r AskProtection a page h k m o = ap (heardIn AskProtection (a .slot)) (protection-blind g r m o (replicate 16 0))
-hear-blind g r AskLockdown a page h k m o = ap (heardIn AskLockdown (a .slot)) (lockdown-blind g r m o (replicate 16 0))
-hear-blind g r Reading a page h k m o = refl
-hear-blind g r Loading a page h k m o = refl
-hear-blind g r Programming a page h k m o = refl
-hear-blind g r Between a page h k m o = poll-blind g r m o
-hear-blind g r Erasing a page h k m o = refl
-hear-blind g r Closing a page h k m o = poll-blind g r m o
-hear-blind g r (Ended n) a page h k m o = refl
+hear-blind : (g : Geometry) (r : Registers) (k : Kind) (h l : Holding) (m o : Memory) (x : Step) (sector : ℕ)
+    → heard x sector (replyOf g r m (frameOf g k h x)) ≡ heard x sector (replyOf g r o (frameOf g k l x))
+unfolding shapeOf frameByte tabulate heard
+hear-blind g r k h l m o Wait sector = poll-blind g r m o
+hear-blind g r k h l m o Protection sector = ap (heard Protection sector) (protection-blind g r m o (replicate 16 0))
+hear-blind g r k h l m o Lockdown sector = ap (heard Lockdown sector) (lockdown-blind g r m o (replicate 16 0))
+hear-blind g r k h l m o (Read p) sector = refl
+hear-blind g r k h l m o (Load p) sector = refl
+hear-blind g r k h l m o (Send c p) sector = refl
+hear-blind g r k h l m o End sector = refl
 
 -- ---- one step, and any number of them
 
 pub step-blind : (g : Geometry) (v : Request) (p : Open) (q w : Closed) → stepOpen g v p q ≡ stepOpen g v p w
-unfolding stepOpen frameOf
+unfolding stepOpen
 step-blind g v p q w =
-    let a = v .asked in
-    let c = p .course in
-    let s = shapeOf g (c .phase) (a .slot) (c .page) in
-    let line = outline-same s (loaded g (a .kind) (q .holding .verdict) (q .holding) (c .page)) (loaded g (a .kind) (w .holding .verdict) (w .holding) (c .page)) in
-    let registers = control-blind g (p .registers) (c .phase) a (c .page) (q .holding) (w .holding) in
-    let heard = hear-blind g (p .registers) (c .phase) a (c .page) (q .holding) (w .holding) (q .memory) (w .memory) in
-    λ i. cond (isEnded (c .phase)) p (openAfter v p (line i) (registers i) (heard i))
+    let k = v .asked .kind in
+    let x = stepOf g (v .asked) (p .course) in
+    let line = outline-same (shapeOf g x) (loaded g k (q .holding) x) (loaded g k (w .holding) x) in
+    let registers = control-blind g (p .registers) k (q .holding) (w .holding) x in
+    let hears = hear-blind g (p .registers) k (q .holding) (w .holding) (q .memory) (w .memory) x (sectorFor (v .asked)) in
+    λ i. cond (isEnded (p .course .stage)) p (openAfter g v p (line i) (registers i) (hears i))
 
 pub run-blind : (n : ℕ) (g : Geometry) (v : Request) (p : Open) (q w : Closed) → run n g v p q .0 ≡ run n g v p w .0
 unfolding run

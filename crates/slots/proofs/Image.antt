@@ -89,7 +89,7 @@ body-patched place bytes recipe l i k = go (leb (headSize + place) i) (ltb i (he
     go true false e f = let y = ltb-false i (headSize + place + length bytes) f in sym (splice-after place bytes recipe (i - 3) 0 (omega (arith, y)))
     go false b e f = let x = leb-false (headSize + place) i e in sym (splice-before place bytes recipe (i - 3) 0 (omega (arith, x)))
 
--- "A patch puts bytes at a place counted from the recipe's first; its length stays"
+-- patching the record is storing the patched recipe; its length stays
 pub image-patched : (place : ℕ) (bytes recipe : List ℕ) → place + length bytes ≤ length recipe → (i : ℕ)
     → patched place bytes (image recipe i) i ≡ image (splice place bytes recipe) i
 unfolding image

@@ -1,79 +1,234 @@
--- DEMAND 2: a recipe whose put answered 0 comes back from every later get that is neither refused nor cut, until a frame programs or erases in
--- its slot. A put that answers 0 leaves the record in the slot (`put-holds`), what starts nothing in the slot leaves it there (`list-holds`),
--- a get of a slot that holds a record returns it (`get-returns`); and a patch that answers 0 leaves the patched recipe (`patch-holds`).
+-- DEMAND 2: a recipe whose put answered 0 comes back from every later get that is neither refused nor cut, until a frame programs or erases in its slot.
+-- A put that answers 0 leaves the record in the slot (`put-holds`), what starts nothing in the slot leaves it there (`list-holds`), a get of a slot that
+-- holds a record returns it (`get-returns`); and a patch that answers 0 leaves the patched recipe (`patch-holds`).
 -- Assumes nothing.
-use Prim.Native.Nat.{ℕ, zero, suc, _+_, _-_, _*_, _/_, _≤_, _<_}
+use Prim.Native.Nat.{ℕ, _+_, _*_, _/_, _%_, _<_, _≤_}
+use native.Mathlib.Omega.{arith}
 use mathlib.Core.Path.{_≡_, refl, sym, ap, subst, _∙_}
-use mathlib.Core.Bool.{Bool, true, false, cond, not, _&&_}
+use mathlib.Core.Bool.{Bool, true, false, cond, not, _&&_, _||_}
 use mathlib.Core.List.{List, [], _∷_}
 use mathlib.Core.Logic.{_⊎_, inl, inr}
-use native.Mathlib.Omega.{arith}
-use lib.ListN.{length, getD, take, drop, replicate, length-replicate}
+use lib.ListN.{length, getD, take, drop, length-replicate}
 use lib.Dec.{eqb, ltb, leb}
 use borrow.Author.Tests.{ltb-false}
-use Rattle.slices.specs.Lists.{tabulate, over, splice}
+use Rattle.slices.specs.Lists.{over, splice, tabulate}
 use Rattle.slices.proofs.Laws.{getD-tabulate, tabulate-same, length-splice, splice-zero, splice-part}
 use Rattle.geometry.specs.declared.Geometry.{Geometry}
 use Rattle.geometry.specs.declared.Part.{Part}
 use Rattle.geometry.specs.declared.Part.the-variants.{Known, Unknown}
-use Rattle.geometry.specs.Parts.{Sized, pageOf}
+use Rattle.geometry.specs.Parts.{partOf, Sized, pageOf}
+use Rattle.geometry.specs.Sectors.{sectorOf}
+use Rattle.geometry.proofs.Pages.{sized}
+use Rattle.registers.specs.declared.Operation.{Operation}
+use Rattle.registers.specs.declared.Operation.the-variants.{Idle}
 use Rattle.registers.specs.declared.Registers.{Registers}
-use Rattle.registers.specs.Operations.{placed}
-use Rattle.registers.proofs.Places.{placed-sized}
+use Rattle.registers.specs.Operations.{within, placed}
+use Rattle.registers.proofs.Places.{placed-known, known-placed, placed-sized}
+use Rattle.control.specs.Starts.{Ready}
 use Rattle.state.specs.declared.Answer.{Answer}
 use Rattle.state.specs.declared.Answer.the-variants as Answers
 use Rattle.state.specs.Answers.{numberOf}
-use Rattle.state.specs.Memory.{Memory}
-use Rattle.slots.specs.declared.Course.{Course}
-use Rattle.slots.specs.declared.Kind.the-variants.{Put, Patch, Get}
-use Rattle.slots.specs.declared.Phase.{Phase}
-use Rattle.slots.specs.declared.Phase.the-variants.{Opening, AskProtection, AskLockdown, Reading, Loading, Programming, Between, Erasing, Closing, Ended}
+use Rattle.state.specs.Memory.{Memory, State, chipIn}
+use Rattle.slots.specs.declared.Kind.{Kind}
+use Rattle.slots.specs.declared.Kind.the-variants.{Put, Patch, Get, Wipe}
+use Rattle.slots.specs.declared.Stage.{Stage}
+use Rattle.slots.specs.declared.Stage.the-variants.{Going, Ended}
 use Rattle.slots.specs.declared.Verdict.{Verdict}
 use Rattle.slots.specs.declared.Verdict.the-variants.{Good, Blank, Beyond}
-use Rattle.slots.specs.Records.{slotSize, headSize, limitOf, lengthIn, image, patched, getVerdict, patchVerdict}
-use Rattle.slots.specs.Driver.{Holding, verdictAnswer, weighed, answerOf}
-use Rattle.slots.specs.Refusals.{bound, badScript, callRefusal}
-use Rattle.slots.specs.Calls.{State, Out, Request, Secret, Open, Closed, refused, partIn, firstCourse, refusalOf, startOpen, startClosed, ran, isGet, countOf, outFrom, callOut, callNext}
-use Rattle.slots.specs.Lists.{Op, put, patch, get, request, secret, outOn, outOff, outBy, outOf, nextOn, nextBy, nextOf, leftBy}
-use Rattle.slots.specs.Quiet.{pageIn, Kept, Holds, QuietBy, Quiet, Refuses, slot, limit, size, log, script, device, busy, lost, Returns}
-use Rattle.slots.proofs.Size.{cases, by-buffer, list-buffer}
-use Rattle.slots.proofs.Answers.{refused-call}
-use Rattle.slots.proofs.Accepted.{accepted}
-use Rattle.slots.proofs.Kept.{KeptIn, op-kept, list-kept}
-use Rattle.slots.proofs.Written.{put-writes, patch-writes}
+use Rattle.state.specs.Outcomes.{partIn, cutState}
+use Rattle.state.specs.Whole.{Whole}
+use Rattle.slots.specs.Plans.{bound, isAsking, pageSteps, planBy}
+use Rattle.slots.specs.Records.{slotSize, headSize, limitOf, lengthIn, image, patched, changed, getVerdict, patchVerdict}
+use Rattle.slots.specs.Refusals.{isOver, isShort, badScript, earlyRefusal, lateRefusal, orElse, callRefusal}
+use Rattle.slots.specs.Driver.{Holding, verdictAnswer, weighed, toldBy}
+use Rattle.slots.specs.Calls.{Out, Request, Secret, Open, Closed, refusalOf, startClosed, ran, reached, countBy, countOf, delivered, outFrom, answerIn, answerAt, callOut, callNext}
+use Rattle.slots.specs.Lists.{Op, put, patch, get, call, asking, asks, secret, callBy, outOf, calledBy, nextOf, leftBy}
+use Rattle.slots.specs.Exchanges.{Result, finished, stopped, answerFor}
+use Rattle.slots.specs.Quiet.{pageIn, Kept, KeptSlot, Holds, Quiet, QuietIn, Refuses, part, frame, slot, limit, size, log, script, device, busy, lost, Returns}
+use Rattle.slots.proofs.Parts.{cases, out-at, next-at, outAt, nextAt}
+use Rattle.slots.proofs.Places.{never, every, every-plan}
+use Rattle.slots.proofs.Steady.{whole-op, whole-list}
+use Rattle.slots.proofs.Accepted.{early, accepted}
+use Rattle.slots.proofs.Refused.{refused-call, weighed-other}
+use Rattle.slots.proofs.Driven.{Ends}
+use Rattle.slots.proofs.Planned.{Came, comes, onChip, isFree, Halts, ResultHalts, free-halts}
+use Rattle.slots.proofs.Planned as H
+use Rattle.slots.proofs.Kept.{idle-spares, list-kept}
+use Rattle.slots.proofs.Stores.{Writer, Wrote, call-stores, slot-sector, cold}
+use Rattle.slots.proofs.Written.{putWriter, put-lawful, patchWriter, patch-lawful, Before, verdictOn}
+use Rattle.slots.proofs.Gets.{Got, call-reads}
 use Rattle.slots.proofs.Image.{length-told, get-good, patch-ends, recipe-told, image-patched}
-use Rattle.slots.proofs.GetReads.{Staged, Over, At, get-run}
+
+-- ---- what an answer tells of the end
+
+zero-done : (n : Answer) → eqb (numberOf n) 0 ≡ true → n ≡ Answers.Done
+unfolding numberOf
+zero-done Answers.Done e = refl
+zero-done Answers.Part e = never e
+zero-done Answers.Frame e = never e
+zero-done Answers.Slot e = never e
+zero-done Answers.Limit e = never e
+zero-done Answers.Size e = never e
+zero-done Answers.Log e = never e
+zero-done Answers.Script e = never e
+zero-done Answers.Device e = never e
+zero-done Answers.Busy e = never e
+zero-done Answers.Sealed e = never e
+zero-done Answers.Cut e = never e
+zero-done Answers.Blank e = never e
+zero-done Answers.End e = never e
+
+good-is : (v : Verdict) → verdictAnswer v ≡ Answers.Done → v ≡ Good
+unfolding verdictAnswer
+good-is Good e = refl
+good-is Blank e = let z : _≡_ {A = ℕ} 0 1 = cc in absurd (omega arith)
+good-is Beyond e = let z : _≡_ {A = ℕ} 0 1 = cc in absurd (omega arith)
+
+-- 0 is the plan's end, and a good verdict
+pub answer-done : (t : Stage) (v : Verdict) → answerIn (toldBy t v) ≡ Answers.Done → (t ≡ Ended Answers.Done) × (v ≡ Good)
+unfolding answerIn toldBy weighed numberOf
+answer-done Going v e = let z : _≡_ {A = ℕ} 0 1 = cc in absurd (omega arith)
+answer-done (Ended n) v e = go (eqb (numberOf n) 0) refl e
+  where
+    go : (b : Bool) → eqb (numberOf n) 0 ≡ b → cond b (verdictAnswer v) n ≡ Answers.Done → (Ended n ≡ Ended Answers.Done) × (v ≡ Good)
+    go true z h = (ap (λ (a : Answer). Ended a) (zero-done n z), good-is v h)
+    go false z h = never (sym z ∙ ap (λ (a : Answer). eqb (numberOf a) 0) h)
+
+module _ (g : Geometry) (v : Request) (x : Secret) (s : State) where
+  -- a call that answers 0 was not refused
+  pub done-accepted : callOut g v x s .answer ≡ Answers.Done → eqb (numberOf (refusalOf g (length (s .memory .array)) v)) 0 ≡ true
+  unfolding numberOf
+  done-accepted d = go (eqb (numberOf (refusalOf g (length (s .memory .array)) v)) 0) refl
+    where
+      go : (b : Bool) → eqb (numberOf (refusalOf g (length (s .memory .array)) v)) 0 ≡ b → eqb (numberOf (refusalOf g (length (s .memory .array)) v)) 0 ≡ true
+      go true e = e
+      go false e = ap (λ (a : Answer). eqb (numberOf a) 0) (sym (ap (λ (o : Out). o .answer) (refused-call g v x s e .out)) ∙ d)
+
+  -- and came to its end
+  pub done-stage : callOut g v x s .answer ≡ Answers.Done → (ran g v x s .0 .course .stage ≡ Ended Answers.Done) × (ran g v x s .1 .holding .verdict ≡ Good)
+  unfolding callOut outFrom
+  done-stage d = answer-done (ran g v x s .0 .course .stage) (ran g v x s .1 .holding .verdict) d
+
+-- a call that answers 0 has a known part
+known-part : (a : _) (place : ℕ) (sc payload junk lg lent : List ℕ) (s : State) → outOf (call a place sc payload junk lg lent) s .answer ≡ Answers.Done → (Q : Part → Type 0)
+    → ((g : Geometry) → partIn s ≡ Known g → callOut g (asks g a place sc payload junk lg lent) (secret payload place junk lent) s .answer ≡ Answers.Done → Q (Known g)) → Q (partIn s)
+unfolding outOf callBy
+known-part a place sc payload junk lg lent s d Q on = go (partIn s) refl d
+  where
+    go : (p : Part) → partIn s ≡ p → callBy p a place sc payload junk lg lent s .answer ≡ Answers.Done → Q p
+    go (Known g) e h = on g e h
+    go Unknown e h = let z : _≡_ {A = ℕ} 0 1 = cc in absurd (omega arith)
+
+-- ---- a written slot
+
+-- an idle chip has its part
+ready-placed : (n : ℕ) (o : Operation) (g : Geometry) → partOf n ≡ Known g → o ≡ Idle → placed n o ≡ Known g
+unfolding within
+ready-placed n o g e i = ap (λ (x : Operation). placed n x) i ∙ known-placed n Idle g e refl
+
+-- the state after a call that wrote its slot
+pub wrote-kept : (g : Geometry) (v : Request) (W : Writer g (v .asked .kind) (v .asked .slot)) (x : Secret) (s : State) → 8 * v .asked .slot + 8 ≤ g .pages
+    → Wrote g (v .asked .kind) (v .asked .slot) W (ran g v x s) → KeptSlot g (v .asked .slot) (W .bytes) (callNext g v x s)
+unfolding callNext
+wrote-kept g v W x s fits w =
+    let z = ran g v x s in
+    subst (λ (b : Bool). KeptSlot g (v .asked .slot) (W .bytes) (cond b (cutState g (x .junk) (reached z)) (reached z))) (sym (w .uncut))
+    (record {
+      part = ready-placed (length (z .1 .memory .array)) (z .0 .registers .operation) g (w .room .0) (w .ready .0);
+      fits = fits;
+      spares = idle-spares g (8 * v .asked .slot) (8 * v .asked .slot + 8) (z .0 .registers .operation) (w .ready .0);
+      bytes = w .pages;
+    })
+
+-- room for a page in buffer 1
+whole-room : (g : Geometry) (n : ℕ) (s : State) → Sized g n → Whole (chipIn s) → g .size ≤ length (s .memory .buffer1)
+whole-room g n s z w = omega (arith, z .most, w .buffer1)
+
+-- ---- a put
+
+pub put-holds : (sl lim : ℕ) (sc recipe junk lg : List ℕ) (s : State) → Whole (chipIn s)
+    → outOf (put sl lim sc recipe junk lg) s .answer ≡ Answers.Done → Holds sl recipe (nextOf (put sl lim sc recipe junk lg) s)
+unfolding nextOf calledBy isOver isShort putWriter startClosed
+put-holds sl lim sc recipe junk lg s w d =
+    known-part (asking Put sl lim) 0 sc recipe junk lg [] s d (λ p. Holds sl recipe (calledBy p (asking Put sl lim) 0 sc recipe junk lg [] s)) (λ g k h.
+    let v = asks g (asking Put sl lim) 0 sc recipe junk lg [] in
+    let x = secret recipe 0 junk [] in
+    let n = length (s .memory .array) in
+    let e = done-accepted g v x s h in
+    let a = accepted g n v e .asked in
+    let z = placed-sized n (s .registers .operation) g k in
+    let few = slot-sector g sl (z .few) (a .fits) in
+    record {
+      geometry = g;
+      limit = ltb-false (limitOf g) (length recipe) (or-left (ltb (limitOf g) (length recipe)) (a .size));
+      kept =
+          wrote-kept g v (putWriter g sl recipe) x s (a .fits)
+          (call-stores g v (putWriter g sl recipe) x s k (whole-room g n s z w) e (a .fits) few (put-lawful g sl recipe (a .fits) few) tt (refl, refl) (done-stage g v x s h .0));
+    })
+  where
+    or-left : (b : Bool) → (b || false) ≡ false → b ≡ false
+    or-left true e = e
+    or-left false e = e
+
+pub list-holds : (sl : ℕ) (recipe : List ℕ) (os : List Op) (s : State) → Holds sl recipe s → QuietIn sl os s → Holds sl recipe (leftBy os s)
+list-holds sl recipe os s u q =
+    record { geometry = u .geometry; limit = u .limit; kept = list-kept (u .geometry) (8 * sl) (8 * sl + 8) (pageIn (u .geometry) (image recipe)) os s (u .kept) q }
 
 -- ---- a get
 
 -- a refusal is one of 1 to 9
-refusal-refuses : (g : Geometry) (n : ℕ) (v : Request) → eqb (numberOf (refusalOf g n v)) 0 ≡ false → Refuses (refusalOf g n v)
-unfolding callRefusal numberOf
-refusal-refuses g n v =
+early-refuses : (g : Geometry) (v : Request) → (eqb (numberOf (earlyRefusal g (v .asked) (v .oversize))) 0 ≡ false) → Refuses (earlyRefusal g (v .asked) (v .oversize))
+unfolding earlyRefusal numberOf
+early-refuses g v =
     let Q : Answer → Type 0 = λ a. eqb (numberOf a) 0 ≡ false → Refuses a in
-    let done : Q Answers.Done = λ (e : true ≡ false). let z : _≡_ {A = ℕ} 0 1 = cc in absurd (omega arith) in
     cases Q (leb (g .pages / 8) (v .asked .slot)) (λ _. slot)
-    (cases Q (not (leb 1 (v .asked .limit) && leb (v .asked .limit) 1000)) (λ _. limit)
-    (cases Q (v .oversize) (λ _. size)
-    (cases Q (ltb (v .log) (6 * bound (v .asked .kind) (v .asked .limit))) (λ _. log) (cases Q (badScript g n (v .script) (v .junk)) (λ _. script) done))))
+    (cases Q (not (leb 1 (v .asked .limit) && leb (v .asked .limit) 1000)) (λ _. limit) (cases Q (v .oversize) (λ _. size) (λ (e : true ≡ false). never (sym e))))
 
-module _ (g : Geometry) (recipe : List ℕ) (fits : length recipe ≤ limitOf g) (few : 8 * g .size ≤ 2112) (some : 3 ≤ 8 * g .size) where
+late-refuses : (g : Geometry) (n lg least : ℕ) (sc : List ℕ) (junk : ℕ) → eqb (numberOf (lateRefusal g n lg least sc junk)) 0 ≡ false → Refuses (lateRefusal g n lg least sc junk)
+unfolding lateRefusal numberOf
+late-refuses g n lg least sc junk =
+    let Q : Answer → Type 0 = λ a. eqb (numberOf a) 0 ≡ false → Refuses a in
+    cases Q (ltb lg least) (λ _. log) (cases Q (badScript g n sc junk) (λ _. script) (λ (e : true ≡ false). never (sym e)))
+
+refusal-refuses : (g : Geometry) (n : ℕ) (v : Request) → eqb (numberOf (refusalOf g n v)) 0 ≡ false → Refuses (refusalOf g n v)
+unfolding callRefusal orElse
+refusal-refuses g n v = go (eqb (numberOf (earlyRefusal g (v .asked) (v .oversize))) 0) refl
+  where
+    b : Answer
+    b = lateRefusal g n (v .log) (6 * bound g (v .asked)) (v .script) (v .junk)
+
+    go : (d : Bool) → eqb (numberOf (earlyRefusal g (v .asked) (v .oversize))) 0 ≡ d → eqb (numberOf (cond d b (earlyRefusal g (v .asked) (v .oversize)))) 0 ≡ false
+        → Refuses (cond d b (earlyRefusal g (v .asked) (v .oversize)))
+    go true e h = late-refuses g n (v .log) (6 * bound g (v .asked)) (v .script) (v .junk) h
+    go false e h = early-refuses g v e
+
+halts-refuses : (n : Answer) → Halts n → Refuses n
+halts-refuses n H.device = device
+halts-refuses n H.busy = busy
+halts-refuses n H.lost = lost
+
+-- a get tests no seal
+get-free : (g : Geometry) (sl : ℕ) → every isFree (planBy Get g sl) ≡ true
+unfolding every isFree isAsking pageSteps
+get-free g sl = every-plan isFree Get g sl refl (λ p. refl)
+
+module _ (g : Geometry) (recipe : List ℕ) (fits : length recipe ≤ limitOf g) (few : 8 * g .size ≤ 2112) (some : 3 ≤ g .size) where
   short : 3 + length recipe ≤ 8 * g .size
   unfolding limitOf slotSize
   short = omega (arith, fits)
 
   -- page 0 of the record is judged good
-  first-good : 3 ≤ g .size → getVerdict g (pageIn g (image recipe) 0) ≡ Good
-  first-good l =
+  first-good : getVerdict g (pageIn g (image recipe) 0) ≡ Good
+  first-good =
       get-good recipe (pageIn g (image recipe) 0) (omega (arith, short))
       (λ i k. let e : g .size * 0 + i ≡ i = omega arith in getD-tabulate (g .size) (λ i. image recipe (g .size * 0 + i)) i 0 (omega arith) ∙ ap (image recipe) e)
       g fits
 
-  -- the outcome of a get that has staged the record
+  -- the outcome of a get that has read the record
   returned : (staged buffer lines : List ℕ) (frames polls : ℕ) (a : Answer) → limitOf g ≤ length buffer → length staged ≡ 8 * g .size
       → ((i : ℕ) → i < 8 * g .size → getD staged i 0 ≡ image recipe i) → a ≡ Answers.Done
-      → Returns recipe (record { answer = a; lines = lines; frames = frames; polls = polls; count = countOf Get a staged; lent = over (take (countOf Get a staged) (drop headSize staged)) buffer })
-  unfolding countOf isGet numberOf
+      → Returns recipe (record { answer = a; lines = lines; frames = frames; polls = polls; count = countOf Get a staged; lent = delivered (countOf Get a staged) staged buffer })
+  unfolding countOf countBy numberOf
   returned staged buffer lines frames polls a room l same e =
       let n : countOf Get a staged ≡ length recipe =
       ap (λ (x : Answer). countOf Get x staged) e ∙ length-told recipe staged (omega (arith, short)) (λ i k. same i (omega (arith, some))) in
@@ -82,46 +237,17 @@ module _ (g : Geometry) (recipe : List ℕ) (fits : length recipe ≤ limitOf g)
       inr (
         e,
         n,
-        ap (λ (k : ℕ). take k (over (take (countOf Get a staged) (drop headSize staged)) buffer)) n
+        ap (λ (k : ℕ). take k (delivered (countOf Get a staged) staged buffer)) n
             ∙ ap (λ (x : List ℕ). take (length recipe) (over x buffer)) body
             ∙ ap (take (length recipe)) (sym (splice-zero recipe buffer))
             ∙ splice-part 0 recipe buffer (omega (arith, fits, room)),
       )
 
--- the end of a get that has staged the record, whatever its phase
-module _ (g : Geometry) (sl lim : ℕ) (recipe buffer : List ℕ) where
-  abbrev Returned : Open → Closed → Answer → Type 0
-  Returned p q a = Returns recipe (record { answer = a; lines = p .lines; frames = p .frames; polls = p .polls; count = countOf Get a (q .holding .staged); lent = over (take (countOf Get a (q .holding .staged)) (drop headSize (q .holding .staged))) buffer })
-
-  at-end : (p : Open) (q : Closed) (ph : Phase) (page : ℕ) (r : Registers) (m : Memory) (n : ℕ) → length recipe ≤ limitOf g → Sized g n → limitOf g ≤ length buffer
-      → At g sl lim (image recipe) ph page r m (q .holding) → Returned p q (answerOf ph (q .holding .verdict))
-  unfolding At answerOf weighed verdictAnswer
-  at-end p q Opening page r m k fits z room u = inl busy
-  at-end p q Reading page r m k fits z room u = inl busy
-  at-end p q AskProtection page r m k fits z room u = absurd u
-  at-end p q AskLockdown page r m k fits z room u = absurd u
-  at-end p q Loading page r m k fits z room u = absurd u
-  at-end p q Programming page r m k fits z room u = absurd u
-  at-end p q Between page r m k fits z room u = absurd u
-  at-end p q Erasing page r m k fits z room u = absurd u
-  at-end p q Closing page r m k fits z room u = absurd u
-  at-end p q (Ended n) page r m k fits z room u = go u
-    where
-      go : Over g sl lim (image recipe) n (q .holding) → Returned p q (weighed n (q .holding .verdict))
-      go (inl (inl e)) = subst (λ (a : Answer). Returned p q (weighed a (q .holding .verdict))) (sym e) (inl device)
-      go (inl (inr (inl e))) = subst (λ (a : Answer). Returned p q (weighed a (q .holding .verdict))) (sym e) (inl busy)
-      go (inl (inr (inr e))) = subst (λ (a : Answer). Returned p q (weighed a (q .holding .verdict))) (sym e) (inl lost)
-      go (inr (e, s, w)) =
-          let some = z .some in
-          let most = z .most in
-          returned g recipe fits (omega (arith, most)) (omega (arith, some)) (q .holding .staged) buffer (p .lines) (p .frames) (p .polls) (weighed n (q .holding .verdict)) room (s .room) (s .bytes)
-          (λ i. weighed (e i) ((w ∙ first-good g recipe fits (omega (arith, most)) (omega (arith, some)) (omega (arith, some))) i))
-
 pub get-returns : (sl : ℕ) (s : State) (recipe : List ℕ) → Holds sl recipe s → (lim : ℕ) (sc junk lg buffer : List ℕ)
     → Returns recipe (outOf (get sl lim sc junk lg buffer) s)
-unfolding outOf outBy outOn callOut outFrom ran startOpen startClosed firstCourse slotSize At
+unfolding outOf callBy callOut outFrom isOver isShort verdictAnswer
 get-returns sl s recipe u lim sc junk lg buffer =
-    subst (λ (p : Part). Returns recipe (outBy p (get sl lim sc junk lg buffer) s)) (sym (u .kept .part)) (go (eqb (numberOf (refusalOf g n v)) 0) refl)
+    subst (λ (p : Part). Returns recipe (callBy p (asking Get sl lim) 0 sc [] junk lg buffer s)) (sym (u .kept .part)) (go (eqb (numberOf (refusalOf g n v)) 0) refl)
   where
     g : Geometry
     g = u .geometry
@@ -130,83 +256,64 @@ get-returns sl s recipe u lim sc junk lg buffer =
     n = length (s .memory .array)
 
     v : Request
-    v = request Get sl lim sc lg junk (ltb (length buffer) (limitOf g))
+    v = asks g (asking Get sl lim) 0 sc [] junk lg buffer
 
     x : Secret
     x = secret [] 0 junk buffer
 
+    z : Open × Closed
+    z = ran g v x s
+
+    sizes : Sized g n
+    sizes = placed-sized n (s .registers .operation) g (u .kept .part)
+
+    ended : (t : Result) → Ends (onChip g v) t (ran g v x s) → callOut g v x s .answer ≡ answerFor t → ResultHalts t → eqb (numberOf (refusalOf g n v)) 0 ≡ true
+        → Returns recipe (callOut g v x s)
+    ended (finished h) w a f e =
+        let some = sizes .some in
+        let most = sizes .most in
+        let got = call-reads g sl lim sc (length lg) (length junk) (v .oversize) (image recipe) x s (omega (arith, some)) (u .kept) e (w .0) in
+        let good : h .verdict ≡ Good = sym (ap (λ (k : Holding). k .verdict) (w .1)) ∙ got .verdict ∙ first-good g recipe (u .limit) (omega (arith, most)) (omega (arith, some)) in
+        returned g recipe (u .limit) (omega (arith, most)) (omega (arith, some)) (z .1 .holding .staged) buffer (z .0 .lines) (z .0 .frames) (z .0 .polls) (answerAt z)
+        (ltb-false (length buffer) (limitOf g) (accepted g n v e .asked .size)) (got .room) (got .bytes) (a ∙ ap verdictAnswer good)
+    ended (stopped k) w a f e = inl (subst Refuses (sym a) (halts-refuses k f))
+
     go : (b : Bool) → eqb (numberOf (refusalOf g n v)) 0 ≡ b → Returns recipe (callOut g v x s)
     go false e = inl (subst (λ (o : Out). Refuses (o .answer)) (sym (refused-call g v x s e .out)) (refusal-refuses g n v e))
     go true e =
-        let first : Course = record { phase = Opening; page = 0; left = lim; listed = false; guarded = false } in
-        let start : firstCourse (refusalOf g n v) lim ≡ first = λ i. record { phase = cond (e i) Opening (Ended (refusalOf g n v)); page = 0; left = lim; listed = false; guarded = false } in
-        let z = ran g v x s in
-        let k = get-run g sl lim (image recipe) sc (length lg) (length junk) (ltb (length buffer) (limitOf g)) (bound Get lim) (startOpen g n v (s .registers)) (startClosed g x (s .memory))
-        (subst (λ (c : Course). At g sl lim (image recipe) (c .phase) (c .page) (s .registers) (s .memory) (startClosed g x (s .memory) .holding)) (sym start)
-        (u .kept, record { room = length-replicate (8 * g .size) 0; bytes = λ i l. absurd (omega arith) })) in
-        at-end g sl lim recipe buffer (z .0) (z .1) (z .0 .course .phase) (z .0 .course .page) (z .0 .registers) (z .1 .memory) n (u .limit) (placed-sized n (s .registers .operation) g (u .kept .part)) (ltb-false (length buffer) (limitOf g) (accepted g n v e .size)) k
+        let c = comes g v x s e in
+        ended (c .planned .result) (c .ends) (c .planned .answer) (free-halts (c .planned .follows) (get-free g sl)) e
 
--- ---- a put, a patch, and what starts nothing in the slot
-
--- a put or patch that answers 0 was not refused
-module _ (g : Geometry) (v : Request) (x : Secret) (s : State) where
-  done-accepted : callOut g v x s .answer ≡ Answers.Done → eqb (numberOf (refusalOf g (length (s .memory .array)) v)) 0 ≡ true
-  unfolding numberOf
-  done-accepted d = go (eqb (numberOf (refusalOf g (length (s .memory .array)) v)) 0) refl
-    where
-      go : (b : Bool) → eqb (numberOf (refusalOf g (length (s .memory .array)) v)) 0 ≡ b → eqb (numberOf (refusalOf g (length (s .memory .array)) v)) 0 ≡ true
-      go true e = e
-      go false e = ap (λ (a : Answer). eqb (numberOf a) 0) (sym (ap (λ (o : Out). o .answer) (refused-call g v x s e .out)) ∙ d)
-
--- a call that answers 0 has a known part
-known : (o : Op) (s : State) → (outOff o .answer ≡ Answers.Done → ⊥) → outOf o s .answer ≡ Answers.Done → (Q : Part → Type 0)
-    → ((g : Geometry) → partIn s ≡ Known g → outOn g o s .answer ≡ Answers.Done → Q (Known g)) → Q (partIn s)
-unfolding outOf outBy
-known o s off d Q on = go (partIn s) refl d
-  where
-    go : (p : Part) → partIn s ≡ p → outBy p o s .answer ≡ Answers.Done → Q p
-    go (Known g) e h = on g e h
-    go Unknown e h = absurd (off h)
-
-part-not-done : Answers.Part ≡ Answers.Done → ⊥
-part-not-done e = let z : _≡_ {A = ℕ} 0 1 = cc in absurd (omega arith)
-
-pub put-holds : (sl lim : ℕ) (sc recipe junk lg : List ℕ) (s : State) → 264 ≤ length (s .memory .buffer1)
-    → outOf (put sl lim sc recipe junk lg) s .answer ≡ Answers.Done → Holds sl recipe (nextOf (put sl lim sc recipe junk lg) s)
-unfolding outOff outOn nextOf nextBy nextOn
-put-holds sl lim sc recipe junk lg s b d =
-    known (put sl lim sc recipe junk lg) s part-not-done d (λ p. Holds sl recipe (nextBy p (put sl lim sc recipe junk lg) s)) (λ g k h.
-    let v = request Put sl lim sc lg junk (ltb (limitOf g) (length recipe)) in
-    let x = secret recipe 0 junk [] in
-    let e = done-accepted g v x s h in
-    let z = placed-sized (length (s .memory .array)) (s .registers .operation) g k in
-    let over = ltb (limitOf g) (length recipe) in
-    record { geometry = g; limit = ltb-false (limitOf g) (length recipe) (accepted g (length (s .memory .array)) v e .size); kept = put-writes g sl lim sc recipe junk (length lg) over s e k (omega (arith, b, z .most)) h })
-
-pub list-holds : (sl : ℕ) (recipe : List ℕ) (os : List Op) (s : State) → Holds sl recipe s → Quiet sl os s → Holds sl recipe (leftBy os s)
-list-holds sl recipe os s u q = record { geometry = u .geometry; limit = u .limit; kept = list-kept (u .geometry) sl (image recipe) os s (u .kept) q }
+-- ---- a patch
 
 -- a patch that answers 0 in a slot that holds a recipe leaves that recipe with the bytes in their place
-pub patch-holds : (sl lim place : ℕ) (sc bytes junk lg recipe : List ℕ) (s : State) → 264 ≤ length (s .memory .buffer1) → Holds sl recipe s
+pub patch-holds : (sl lim place : ℕ) (sc bytes junk lg recipe : List ℕ) (s : State) → Whole (chipIn s) → Holds sl recipe s
     → outOf (patch sl lim place sc bytes junk lg) s .answer ≡ Answers.Done
     → (place + length bytes ≤ length recipe) × Holds sl (splice place bytes recipe) (nextOf (patch sl lim place sc bytes junk lg) s)
-unfolding outOf outBy outOn nextOf nextBy nextOn limitOf slotSize
-patch-holds sl lim place sc bytes junk lg recipe s b u d =
-    subst (λ (p : Part). (place + length bytes ≤ length recipe) × Holds sl (splice place bytes recipe) (nextBy p (patch sl lim place sc bytes junk lg) s)) (sym (u .kept .part))
+unfolding outOf callBy nextOf calledBy patchWriter startClosed limitOf slotSize changed
+patch-holds sl lim place sc bytes junk lg recipe s w u d =
+    subst (λ (p : Part). (place + length bytes ≤ length recipe) × Holds sl (splice place bytes recipe) (calledBy p (asking Patch sl lim) place sc bytes junk lg [] s)) (sym (u .kept .part))
     (let g = u .geometry in
-    let over = ltb (limitOf g) (place + length bytes) in
-    let h = subst (λ (p : Part). outBy p (patch sl lim place sc bytes junk lg) s .answer ≡ Answers.Done) (u .kept .part) d in
-    let e = done-accepted g (request Patch sl lim sc lg junk over) (secret bytes place junk []) s h in
-    let z = placed-sized (length (s .memory .array)) (s .registers .operation) g (u .kept .part) in
+    let n = length (s .memory .array) in
+    let v = asks g (asking Patch sl lim) place sc bytes junk lg [] in
+    let x = secret bytes place junk [] in
+    let h = subst (λ (p : Part). callBy p (asking Patch sl lim) place sc bytes junk lg [] s .answer ≡ Answers.Done) (u .kept .part) d in
+    let e = done-accepted g v x s h in
+    let a = accepted g n v e .asked in
+    let z = placed-sized n (s .registers .operation) g (u .kept .part) in
     let some = z .some in
     let most = z .most in
     let room = u .limit in
-    let w = patch-writes g sl lim place sc bytes junk (length lg) over (image recipe) s e (u .kept) (omega (arith, b, most)) h in
+    let few = slot-sector g sl (z .few) (a .fits) in
+    let W = patchWriter g sl place bytes (image recipe) in
+    let k = call-stores g v W x s (u .kept .part) (whole-room g n s z w) e (a .fits) few (patch-lawful g sl place bytes (image recipe) (a .fits) few) (u .kept)
+    (record { payload = refl; places = refl; verdict = λ f. absurd (f refl); room = length-replicate (8 * g .size) 0 }) (done-stage g v x s h .0) in
+    let good : patchVerdict g (place + length bytes) (pageIn g (image recipe) 0) ≡ Good = sym (k .fresh .verdict (λ f. absurd (omega (arith, f)))) ∙ done-stage g v x s h .1 in
     let within : place + length bytes ≤ length recipe =
     patch-ends recipe (pageIn g (image recipe) 0) (omega (arith, room, most))
     (λ i k. let e : g .size * 0 + i ≡ i = omega arith in getD-tabulate (g .size) (λ i. image recipe (g .size * 0 + i)) i 0 (omega (arith, some)) ∙ ap (image recipe) e)
-    g (place + length bytes) (w .0) in
-    let m = w .1 in (
+    g (place + length bytes) good in
+    let m = wrote-kept g v W x s (a .fits) k in (
       within,
       record {
         geometry = g;
@@ -216,8 +323,11 @@ patch-holds sl lim place sc bytes junk lg recipe s b u d =
               part = m .part;
               fits = m .fits;
               spares = m .spares;
-              bytes = λ k l. m .bytes k l ∙ tabulate-same (g .size) (λ i. patched place bytes (image recipe (g .size * k + i)) (g .size * k + i)) (λ i. image (splice place bytes recipe) (g .size * k + i))
-                  (λ i _. image-patched place bytes recipe within (g .size * k + i));
+              bytes = λ p l j. m .bytes p l j
+                  ∙ tabulate-same (g .size) (λ i. changed (patchVerdict g (place + length bytes) (pageIn g (image recipe) 0)) place bytes (image recipe (g .size * (p % 8) + i)) (g .size * (p % 8) + i))
+                  (λ i. image (splice place bytes recipe) (g .size * (p % 8) + i))
+                  (λ i _. ap (λ (q : Verdict). changed q place bytes (image recipe (g .size * (p % 8) + i)) (g .size * (p % 8) + i)) good
+                  ∙ image-patched place bytes recipe within (g .size * (p % 8) + i));
             };
       },
     ))
@@ -225,38 +335,37 @@ patch-holds sl lim place sc bytes junk lg recipe s b u d =
 -- ---- the theorems
 
 -- a put that answered 0, any list that starts nothing in its slot, and a get
-pub read-back : (sl lim : ℕ) (sc recipe junk lg : List ℕ) (s : State) → 264 ≤ length (s .memory .buffer1)
+pub read-back : (sl lim : ℕ) (sc recipe junk lg : List ℕ) (s : State) → Whole (chipIn s)
     → outOf (put sl lim sc recipe junk lg) s .answer ≡ Answers.Done
-    → (os : List Op) → Quiet sl os (nextOf (put sl lim sc recipe junk lg) s)
+    → (os : List Op) → QuietIn sl os (nextOf (put sl lim sc recipe junk lg) s)
     → (lim' : ℕ) (sc' junk' lg' buffer : List ℕ)
     → Returns recipe (outOf (get sl lim' sc' junk' lg' buffer) (leftBy os (nextOf (put sl lim sc recipe junk lg) s)))
-read-back sl lim sc recipe junk lg s b d os q lim' sc' junk' lg' buffer =
+read-back sl lim sc recipe junk lg s w d os q lim' sc' junk' lg' buffer =
     let t = nextOf (put sl lim sc recipe junk lg) s in
-    get-returns sl (leftBy os t) recipe (list-holds sl recipe os t (put-holds sl lim sc recipe junk lg s b d) q) lim' sc' junk' lg' buffer
+    get-returns sl (leftBy os t) recipe (list-holds sl recipe os t (put-holds sl lim sc recipe junk lg s w d) q) lim' sc' junk' lg' buffer
 
 -- the same of a patch that answered 0 in a slot that held a recipe
-pub read-back-patched : (sl lim place : ℕ) (sc bytes junk lg recipe : List ℕ) (s : State) → 264 ≤ length (s .memory .buffer1) → Holds sl recipe s
+pub read-back-patched : (sl lim place : ℕ) (sc bytes junk lg recipe : List ℕ) (s : State) → Whole (chipIn s) → Holds sl recipe s
     → outOf (patch sl lim place sc bytes junk lg) s .answer ≡ Answers.Done
-    → (os : List Op) → Quiet sl os (nextOf (patch sl lim place sc bytes junk lg) s)
+    → (os : List Op) → QuietIn sl os (nextOf (patch sl lim place sc bytes junk lg) s)
     → (lim' : ℕ) (sc' junk' lg' buffer : List ℕ)
     → Returns (splice place bytes recipe) (outOf (get sl lim' sc' junk' lg' buffer) (leftBy os (nextOf (patch sl lim place sc bytes junk lg) s)))
-read-back-patched sl lim place sc bytes junk lg recipe s b u d os q lim' sc' junk' lg' buffer =
+read-back-patched sl lim place sc bytes junk lg recipe s w u d os q lim' sc' junk' lg' buffer =
     let t = nextOf (patch sl lim place sc bytes junk lg) s in
-    let w = patch-holds sl lim place sc bytes junk lg recipe s b u d .1 in
-    get-returns sl (leftBy os t) (splice place bytes recipe) (list-holds sl (splice place bytes recipe) os t w q) lim' sc' junk' lg' buffer
+    let p = patch-holds sl lim place sc bytes junk lg recipe s w u d .1 in
+    get-returns sl (leftBy os t) (splice place bytes recipe) (list-holds sl (splice place bytes recipe) os t p q) lim' sc' junk' lg' buffer
 
 -- put, a quiet list, patch, a quiet list, get
-pub read-back-put-patched : (sl lim : ℕ) (sc recipe junk lg : List ℕ) (s : State) → 264 ≤ length (s .memory .buffer1)
+pub read-back-put-patched : (sl lim : ℕ) (sc recipe junk lg : List ℕ) (s : State) → Whole (chipIn s)
     → outOf (put sl lim sc recipe junk lg) s .answer ≡ Answers.Done
-    → (os : List Op) → Quiet sl os (nextOf (put sl lim sc recipe junk lg) s)
+    → (os : List Op) → QuietIn sl os (nextOf (put sl lim sc recipe junk lg) s)
     → (lim' place : ℕ) (sc' bytes junk' lg' : List ℕ)
     → outOf (patch sl lim' place sc' bytes junk' lg') (leftBy os (nextOf (put sl lim sc recipe junk lg) s)) .answer ≡ Answers.Done
-    → (us : List Op) → Quiet sl us (nextOf (patch sl lim' place sc' bytes junk' lg') (leftBy os (nextOf (put sl lim sc recipe junk lg) s)))
+    → (us : List Op) → QuietIn sl us (nextOf (patch sl lim' place sc' bytes junk' lg') (leftBy os (nextOf (put sl lim sc recipe junk lg) s)))
     → (lim'' : ℕ) (sc'' junk'' lg'' buffer : List ℕ)
     → Returns (splice place bytes recipe)
     (outOf (get sl lim'' sc'' junk'' lg'' buffer) (leftBy us (nextOf (patch sl lim' place sc' bytes junk' lg') (leftBy os (nextOf (put sl lim sc recipe junk lg) s)))))
-unfolding nextOf
-read-back-put-patched sl lim sc recipe junk lg s b d os q lim' place sc' bytes junk' lg' d' us q' lim'' sc'' junk'' lg'' buffer =
+read-back-put-patched sl lim sc recipe junk lg s w d os q lim' place sc' bytes junk' lg' d' us q' lim'' sc'' junk'' lg'' buffer =
     let t = nextOf (put sl lim sc recipe junk lg) s in
-    let wide = list-buffer os t ∙ by-buffer (partIn s) (put sl lim sc recipe junk lg) s in
-    read-back-patched sl lim' place sc' bytes junk' lg' recipe (leftBy os t) (omega (arith, b, wide)) (list-holds sl recipe os t (put-holds sl lim sc recipe junk lg s b d) q) d' us q' lim'' sc'' junk'' lg'' buffer
+    read-back-patched sl lim' place sc' bytes junk' lg' recipe (leftBy os t) (whole-list os t (whole-op (put sl lim sc recipe junk lg) s w))
+    (list-holds sl recipe os t (put-holds sl lim sc recipe junk lg s w d) q) d' us q' lim'' sc'' junk'' lg'' buffer

@@ -1,4 +1,4 @@
--- The premise of two_runs can be met: lists with the same junk are alike along any two runs, whatever the recipes are. An example puts
+-- The premise of two-runs can be met: lists with the same junk are alike along any two runs, whatever the recipes are. An example puts
 -- recipes of 1 and of 2,109 bytes.
 -- Assumes nothing.
 use Prim.Native.Nat.{ℕ, _+_, _-_, _*_}
@@ -16,54 +16,39 @@ use Rattle.registers.proofs.Places.{placed-known}
 use Rattle.control.specs.Control.{control}
 use Rattle.control.specs.PowerLoss.{reaching}
 use Rattle.state.specs.Answers.{numberOf}
-use Rattle.slots.specs.declared.Kind.the-variants.{Put, Patch, Get, Wipe}
+use Rattle.slots.specs.declared.Kind.the-variants.{Put}
+use Rattle.state.specs.Memory.{State}
+use Rattle.state.specs.Outcomes.{partIn, cutFits}
 use Rattle.slots.specs.Records.{slotSize, limitOf}
-use Rattle.slots.specs.Calls.{State, Request, Secret, partIn, ran, scripted}
-use Rattle.slots.specs.Lists.{Op, put, patch, get, wipe, raw, straight, pin, busyEnd, cut, cutFits, runList, nextOf}
-use Rattle.slots.specs.Alike.{Twins, Given, puts, patches, gets, wipes, raws, straights, pins, ends, cuts, oversize, callJunk, junkOn, junkBy, junkOf, Alike, AlikeLists, AllSame}
-use Rattle.slots.proofs.TwoRuns.{ran-blind, raw-refusal, part-same, next-twins, two-runs}
+use Rattle.slots.specs.Refusals.{isOver}
+use Rattle.slots.specs.Calls.{ran, scripted}
+use Rattle.slots.specs.Lists.{Op, asking, call, put, raw, straight, pin, busyEnd, cut, secret, runList, nextOf}
+use Rattle.slots.specs.Alike.{Twins, Given, calls, raws, straights, pins, ends, cuts, oversize, callJunk, rawJunk, cutJunk, junkBy, junkOf, Alike, AlikeLists, AllSame}
+use Rattle.slots.proofs.TwoRuns.{request-same, ran-blind, raw-refusal, part-same, next-twins, two-runs}
 
 -- the junk that a call or an event is given
 unfoldable pub junkIn : Op → List ℕ
-junkIn (put slot limit script recipe junk log) = junk
-junkIn (patch slot limit place script bytes junk log) = junk
-junkIn (get slot limit script junk log buffer) = junk
-junkIn (wipe slot limit script junk log) = junk
+junkIn (call a place script payload junk log lent) = junk
 junkIn (raw frame script junk log reply) = junk
 junkIn (straight frame reply) = []
 junkIn (pin high) = []
 junkIn busyEnd = []
 junkIn (cut junk) = junk
 
-call-junk : (g : Geometry) {v w : Request} (e : v ≡ w) (x y : Secret) (s t : State) → Twins s t → x .junk ≡ y .junk → callJunk g v x s ≡ callJunk g w y t
-unfolding callJunk
-call-junk g {v} {w} e x y s t h j =
-    let b = ran-blind g e x y s t h in
-    λ i. cond (b i .cut) (reaching g (b i .registers .operation) (j i)) []
-
-on-junk : (g : Geometry) {o u : Op} → Given o u → oversize g o ≡ oversize g u → (s t : State) → Twins s t → junkIn o ≡ junkIn u → junkOn g o s ≡ junkOn g u t
-unfolding junkOn oversize junkIn cutFits
-on-junk g (puts slot limit script ej el) e s t h j =
-    call-junk g (λ i. record { asked = record { kind = Put; slot = slot; limit = limit }; script = script; log = el i; junk = ej i; oversize = e i }) _ _ s t h j
-on-junk g (patches slot limit script ej el) e s t h j =
-    call-junk g (λ i. record { asked = record { kind = Patch; slot = slot; limit = limit }; script = script; log = el i; junk = ej i; oversize = e i }) _ _ s t h j
-on-junk g (gets slot limit script ej el ea) e s t h j =
-    call-junk g (λ i. record { asked = record { kind = Get; slot = slot; limit = limit }; script = script; log = el i; junk = ej i; oversize = ltb (ea i) (limitOf g) }) _ _ s t h j
-on-junk g (wipes slot limit script ej el) e s t h j =
-    call-junk g (λ i. record { asked = record { kind = Wipe; slot = slot; limit = limit }; script = script; log = el i; junk = ej i; oversize = false }) _ _ s t h j
-on-junk g (raws frame script {j = x} {k = y} {l} {m} {a} {b} ej el ea) e s t h j =
-    let z = raw-refusal g frame script x y l m a b s t ej el ea h in
-    λ i. cond (eqb (numberOf (z i)) 0 && eqb (scripted script 0) 2) (reaching g (control g (h .registers i) frame .registers .operation) (j i)) []
-on-junk g (straights frame ea) e s t h j = refl
-on-junk g (pins high) e s t h j = refl
-on-junk g ends e s t h j = refl
-on-junk g (cuts ej) e s t h j = λ i. cond (eqb (ej i) (2 * g .size + h .size i)) (reaching g (h .registers i .operation) (j i)) []
-
 by-junk : (p : Part) {o u : Op} → Given o u → ((g : Geometry) → p ≡ Known g → oversize g o ≡ oversize g u) → (s t : State) → Twins s t → junkIn o ≡ junkIn u
     → junkBy p o s ≡ junkBy p u t
-unfolding junkBy
-by-junk (Known g) d e s t h j = on-junk g d (e g refl) s t h j
-by-junk Unknown d e s t h j = refl
+unfolding junkBy junkIn oversize callJunk rawJunk cutJunk
+by-junk (Known g) (calls a script {p} {q} {a = x} {b = y} {j} {k} {l} {m} {x = c} {y = d} ej el ex) e s t h z =
+    let r = ran-blind g (request-same g a script p q x y j k l m c d (e g refl) ej el ex) (secret x p j c) (secret y q k d) s t h in
+    λ i. cond (r i .cut) (reaching g (r i .registers .operation) (z i)) []
+by-junk (Known g) (raws frame script {j} {k} {l} {m} {a} {b} ej el ea) e s t h z =
+    let r = raw-refusal g frame script j k l m a b s t ej el ea h in
+    λ i. cond (eqb (numberOf (r i)) 0 && eqb (scripted script 0) 2) (reaching g (control g (h .registers i) frame .registers .operation) (z i)) []
+by-junk (Known g) (straights frame ea) e s t h z = refl
+by-junk (Known g) (pins high) e s t h z = refl
+by-junk (Known g) ends e s t h z = refl
+by-junk (Known g) (cuts ej) e s t h z = λ i. cond (cutFits g (h .size i) (ej i)) (reaching g (h .registers i .operation) (z i)) []
+by-junk Unknown d e s t h z = refl
 
 -- alike in all that is public, with the same junk; 5 is met in both or in neither, whatever the part is
 abbrev pub SameJunk : List Op → List Op → Type 0
@@ -108,10 +93,10 @@ page-size n g e = go (eqb n 1081344) (eqb n 33792) e
 -- recipes of 1 and of 2,109 bytes, put by alike calls on any two chips that are alike: the same outlines, counts and answers
 pub example : (log log' : List ℕ) → length log ≡ length log' → (s t : State) → Twins s t
     → AllSame (runList (put 3 1 [] (7 ∷ []) [] log ∷ busyEnd ∷ []) s) (runList (put 3 1 [] (replicate 2109 9) [] log' ∷ busyEnd ∷ []) t)
-unfolding oversize junkIn limitOf slotSize
+unfolding oversize isOver junkIn limitOf slotSize
 example log log' l s t h =
     two-runs-same-junk _ _ s t h (
-      puts 3 1 [] refl l,
+      calls (asking Put 3 1) [] refl l refl,
       (λ n g k. ap (λ (z : ℕ). ltb (8 * z - 3) 1) (page-size n g k) ∙ sym (ap (λ (z : ℕ). ltb (8 * z - 3) (length (replicate {A = ℕ} 2109 9))) (page-size n g k))),
       refl,
       (ends, (λ n g k. refl), refl, tt),

@@ -9,7 +9,7 @@ use mathlib.Core.Logic.{_⊎_, inl, inr}
 use native.Mathlib.Omega.{arith}
 use native.Mathlib.Nat.{mul-le-mul}
 use lib.ListN.{length, getD, take, drop, replicate}
-use lib.Dec.{eqb, lit<, lit≤}
+use lib.Dec.{eqb, leb, lit<, lit≤}
 use borrow.Author.Tests.{eqb-true, ne-eqb}
 use Rattle.slices.specs.Lists.{tabulate}
 use Rattle.slices.proofs.Laws.{length-tabulate, getD-tabulate, tabulate-append, tabulate-same, tabulate-part}
@@ -18,11 +18,10 @@ use Rattle.geometry.specs.declared.Part.{Part}
 use Rattle.geometry.specs.declared.Part.the-variants.{Known, Unknown}
 use Rattle.geometry.specs.Parts.{partOf, Sized, addressAt, pageAt, pageOf}
 use Rattle.geometry.specs.Sectors.{sectorOf}
-use Rattle.geometry.proofs.Pages.{length-pageOf}
+use Rattle.geometry.proofs.Pages.{length-pageOf, sized}
 use Rattle.geometry.proofs.Sectors.{block-sector}
 use Rattle.geometry.proofs.Addresses.{address-bytes, page-address}
 use Rattle.commands.specs.declared.Buffer.the-variants.{One}
-use Rattle.registers.specs.declared.Operation.the-variants.{Program}
 use Rattle.registers.specs.declared.Registers.{Registers}
 use Rattle.registers.specs.Fields.{withOperation}
 use Rattle.registers.specs.Operations.{placed}
@@ -30,17 +29,39 @@ use Rattle.registers.specs.Protection.{bitsOf, hasBits, guarded, sealed}
 use Rattle.registers.proofs.Places.{placed-known, placed-sized}
 use Rattle.control.specs.Control.{control, started, startedOn}
 use Rattle.control.specs.Starts.{Ready}
-use Rattle.control.proofs.Frames.{program-obeyed, started-open}
 use Rattle.memory.specs.Replies.{replied, onceData}
 use Rattle.memory.proofs.Replies.{replied-data}
 use Rattle.state.specs.Memory.{Memory}
 use Rattle.state.specs.Frames.{replyOf}
 use Rattle.state.proofs.Lengths.{reply-length}
 use Rattle.state.proofs.Replies.{reply-protection, reply-lockdown, page-read}
-use Rattle.slots.specs.declared.Phase.the-variants.{Reading, Loading, Programming}
-use Rattle.slots.specs.declared.Shape.{Shape}
-use Rattle.slots.specs.Driver.{Asked, Holding, slotPage, shapeOf, frameByte, loaded, registerIn}
-use Rattle.slots.proofs.Blind.{frameIn}
+use Rattle.commands.specs.declared.Decoded.{Decoded}
+use Rattle.commands.specs.declared.Effect.{Effect}
+use Rattle.commands.specs.declared.Effect.the-variants as E
+use Rattle.commands.specs.Table.{commands, rowAt}
+use Rattle.commands.specs.Decode.{decodeOf}
+use Rattle.commands.proofs.Frames.{decode-row, decode-program, decode-erase}
+use Rattle.registers.specs.declared.Operation.{Operation}
+use Rattle.registers.specs.declared.Operation.the-variants as O
+use Rattle.control.specs.declared.Decision.{Decision}
+use Rattle.control.specs.Control.{ignored, rowOf, rowDecided}
+use Rattle.control.specs.Completion.{completed, completedBy}
+use Rattle.control.proofs.Frames.{ready-obeys, status-keeps, protection-keeps, lockdown-keeps, page-keeps, load-keeps}
+use Rattle.control.proofs.Ends.{completed-idle}
+use Rattle.state.specs.Frames.{isIdle, sentMemory, acted, bufferWritten, written}
+use Rattle.state.proofs.Status.{idle-is}
+use Rattle.state.proofs.Replies.{status-byte, reply-status-deep}
+use Rattle.state.proofs.Loads.{sent-decided, page-memory}
+use Rattle.state.specs.declared.Answer.the-variants as Answers
+use Rattle.slots.specs.declared.Course.{Course}
+use Rattle.slots.specs.declared.Kind.{Kind}
+use Rattle.slots.specs.declared.Command.{Command}
+use Rattle.slots.specs.declared.Command.the-variants as C
+use Rattle.slots.specs.declared.Step.{Step}
+use Rattle.slots.specs.declared.Step.the-variants.{Wait, Protection, Lockdown, Read, Load, Send, End}
+use Rattle.slots.specs.Driver.{Heard, Shape, Holding, opcodeOf, shapeOf, frameByte, loaded, frameOf, statusHeard, registerIn, ended, moved, marking, fewer, courseBy}
+use Rattle.slots.proofs.Blind.{status-heard}
+use Rattle.slots.proofs.Parts.{cases}
 
 -- ---- addresses
 
@@ -63,7 +84,7 @@ addressed-few n g page = go (eqb n 1081344) (eqb n 33792)
 -- ---- frames
 
 -- a byte after the first four
-data-byte : (s : Shape) (x : ℕ → ℕ) (k : ℕ) → 4 ≤ k → frameByte s x k ≡ cond (s .loads) (x (k - 4)) 0
+pub data-byte : (s : Shape) (x : ℕ → ℕ) (k : ℕ) → 4 ≤ k → frameByte s x k ≡ cond (s .loads) (x (k - 4)) 0
 unfolding frameByte
 data-byte s x k l = λ i.
     cond (ne-eqb k 0 (λ e. absurd (omega arith)) i) (s .opcode)
@@ -71,73 +92,144 @@ data-byte s x k l = λ i.
     (cond (ne-eqb k 2 (λ e. absurd (omega arith)) i) (s .middle)
     (cond (ne-eqb k 3 (λ e. absurd (omega arith)) i) (s .low) (cond (s .loads) (x (k - 4)) 0))))
 
-module _ (g : Geometry) (a : Asked) (page : ℕ) (h : Holding) where
-  -- an 84 and its data
-  pub load-form : frameIn g Loading a page h ≡ 0x84 ∷ 0 ∷ 0 ∷ 0 ∷ tabulate (g .size) (loaded g (a .kind) (h .verdict) h page)
-  unfolding shapeOf frameByte tabulate
-  load-form =
-      let s = shapeOf g Loading (a .slot) page in
-      let x = loaded g (a .kind) (h .verdict) h page in
-      tabulate-append 4 (g .size) (frameByte s x)
-      ∙ ap (λ (t : List ℕ). 0x84 ∷ 0 ∷ 0 ∷ 0 ∷ t) (tabulate-same (g .size) (λ i. frameByte s x (4 + i)) x
-      (λ i l. let e : 4 + i - 4 ≡ i = omega arith in data-byte s x (4 + i) (omega arith) ∙ ap x e))
+-- a D2 and its filler
+pub read-form : (g : Geometry) (k : Kind) (h : Holding) (p : ℕ) → frameOf g k h (Read p)
+    ≡ 0xD2 ∷ g .field * p / 65536 % 256 ∷ g .field * p / 256 % 256 ∷ g .field * p % 256 ∷ 0 ∷ 0 ∷ 0 ∷ 0 ∷ tabulate (g .size) (λ i. 0)
+unfolding shapeOf frameByte tabulate
+read-form g k h p =
+    let s = shapeOf g (Read p) in
+    let x = loaded g k h (Read p) in
+    let N = g .field * p in
+    tabulate-append 8 (g .size) (frameByte s x)
+    ∙ ap (λ (t : List ℕ). 0xD2 ∷ N / 65536 % 256 ∷ N / 256 % 256 ∷ N % 256 ∷ 0 ∷ 0 ∷ 0 ∷ 0 ∷ t)
+    (tabulate-same (g .size) (λ i. frameByte s x (8 + i)) (λ i. 0) (λ i l. data-byte s x (8 + i) (omega arith)))
 
-  -- a D2 and its filler
-  pub read-form : frameIn g Reading a page h
-      ≡ 0xD2 ∷ g .field * slotPage (a .slot) page / 65536 % 256 ∷ g .field * slotPage (a .slot) page / 256 % 256 ∷ g .field * slotPage (a .slot) page % 256
-      ∷ 0 ∷ 0 ∷ 0 ∷ 0 ∷ tabulate (g .size) (λ i. 0)
-  unfolding shapeOf frameByte tabulate
-  read-form =
-      let s = shapeOf g Reading (a .slot) page in
-      let x = loaded g (a .kind) (h .verdict) h page in
-      let N = g .field * slotPage (a .slot) page in
-      tabulate-append 8 (g .size) (frameByte s x)
-      ∙ ap (λ (t : List ℕ). 0xD2 ∷ N / 65536 % 256 ∷ N / 256 % 256 ∷ N % 256 ∷ 0 ∷ 0 ∷ 0 ∷ 0 ∷ t)
-      (tabulate-same (g .size) (λ i. frameByte s x (8 + i)) (λ i. 0) (λ i l. data-byte s x (8 + i) (omega arith)))
+-- it leaves registers and memory
+pub read-keeps : (g : Geometry) (r : Registers) (k : Kind) (h : Holding) (p : ℕ) → control g r (frameOf g k h (Read p)) .registers ≡ r
+read-keeps g r k h p = ap (λ (f : List ℕ). control g r f .registers) (read-form g k h p) ∙ page-keeps g r _ _ _ 0 0 0 0 (tabulate (g .size) (λ i. 0))
 
-read-length : (g : Geometry) (a : Asked) (page : ℕ) (h : Holding) → length (frameIn g Reading a page h) ≡ 8 + g .size
-unfolding shapeOf
-read-length g a page h = length-tabulate (8 + g .size) (frameByte (shapeOf g Reading (a .slot) page) (loaded g (a .kind) (h .verdict) h page))
+pub read-memory : (g : Geometry) (r : Registers) (m : Memory) (k : Kind) (h : Holding) (p : ℕ) → sentMemory g r (frameOf g k h (Read p)) m ≡ m
+read-memory g r m k h p = ap (λ (f : List ℕ). sentMemory g r f m) (read-form g k h p) ∙ page-memory g r m _ _ _ 0 0 0 0 (tabulate (g .size) (λ i. 0))
+
+-- an 84 and its data
+pub load-form : (g : Geometry) (k : Kind) (h : Holding) (p : ℕ) → frameOf g k h (Load p) ≡ 0x84 ∷ 0 ∷ 0 ∷ 0 ∷ tabulate (g .size) (loaded g k h (Load p))
+unfolding shapeOf frameByte tabulate
+load-form g k h p =
+    let s = shapeOf g (Load p) in
+    let x = loaded g k h (Load p) in
+    tabulate-append 4 (g .size) (frameByte s x)
+    ∙ ap (λ (t : List ℕ). 0x84 ∷ 0 ∷ 0 ∷ 0 ∷ t) (tabulate-same (g .size) (λ i. frameByte s x (4 + i)) x
+    (λ i l. let e : 4 + i - 4 ≡ i = omega arith in data-byte s x (4 + i) (omega arith) ∙ ap x e))
 
 take-all : (l : List ℕ) → take (length l) l ≡ l
 take-all [] = refl
 take-all (x ∷ l) = ap (λ (t : List ℕ). x ∷ t) (take-all l)
 
--- the D2 of a page of the slot on an idle, awake chip tells the page
-pub page-told : (g : Geometry) (r : Registers) (m : Memory) (a : Asked) (page : ℕ) (h : Holding) → Ready r
-    → placed (length (m .array)) (r .operation) ≡ Known g → slotPage (a .slot) page < g .pages
-    → tabulate (g .size) (λ i. getD (replyOf g r m (frameIn g Reading a page h)) (8 + i) 255) ≡ pageOf g (slotPage (a .slot) page) (m .array)
-page-told g r m a page h y k l =
+-- the D2 of a page on an idle, awake chip tells the page
+pub page-told : (g : Geometry) (r : Registers) (m : Memory) (k : Kind) (h : Holding) (p : ℕ) → Ready r → partOf (length (m .array)) ≡ Known g → p < g .pages
+    → tabulate (g .size) (λ i. getD (replyOf g r m (frameOf g k h (Read p))) (8 + i) 255) ≡ pageOf g p (m .array)
+unfolding shapeOf
+page-told g r m k h p y e l =
     let n = length (m .array) in
-    let f = frameIn g Reading a page h in
-    let N = slotPage (a .slot) page in
-    let z = placed-sized n (r .operation) g k in
+    let f = frameOf g k h (Read p) in
+    let z = sized n g e in
     let t = tabulate (g .size) (λ i. 0) in
-    let long : length (replyOf g r m f) ≡ 8 + g .size =
-    reply-length g r f m ∙ read-length g a page h in
-    let told : drop 8 (replyOf g r m f) ≡ pageOf g N (m .array) =
-    ap (λ (x : List ℕ). drop 8 (replyOf g r m x)) (read-form g a page h)
-    ∙ page-read g r m N 0 0 0 0 t y z (length-tabulate (g .size) (λ i. 0)) l (addressed-few n g N ((placed-known n (r .operation) g k) .0) l) in
+    let long : length (replyOf g r m f) ≡ 8 + g .size = reply-length g r f m ∙ length-tabulate (8 + g .size) (frameByte (shapeOf g (Read p)) (loaded g k h (Read p))) in
+    let told : drop 8 (replyOf g r m f) ≡ pageOf g p (m .array) =
+    ap (λ (x : List ℕ). drop 8 (replyOf g r m x)) (read-form g k h p)
+    ∙ page-read g r m p 0 0 0 0 t y z (length-tabulate (g .size) (λ i. 0)) l (addressed-few n g p e l) in
     tabulate-part (g .size) 8 (replyOf g r m f) 255 (omega (arith, long))
     ∙ ap (take (g .size)) told
-    ∙ ap (λ (x : ℕ). take x (pageOf g N (m .array))) (sym (length-pageOf g N (m .array) z l))
-    ∙ take-all (pageOf g N (m .array))
+    ∙ ap (λ (x : ℕ). take x (pageOf g p (m .array))) (sym (length-pageOf g p (m .array) z l))
+    ∙ take-all (pageOf g p (m .array))
 
--- the 83 of a page of the slot starts its program, if the slot's sector is not sealed
-pub program-starts : (g : Geometry) (n : ℕ) (r : Registers) (a : Asked) (page : ℕ) (h : Holding) → Ready r → placed n (r .operation) ≡ Known g → page < 8
-    → slotPage (a .slot) page < g .pages → sealed r (sectorOf (8 * a .slot)) ≡ false
-    → control g r (frameIn g Programming a page h) ≡ started r (Program One (slotPage (a .slot) page))
-unfolding shapeOf frameByte tabulate
-program-starts g n r a page h y k s l u =
-    let N = slotPage (a .slot) page in
-    let x = g .field * N in
-    let f : List ℕ = 0x83 ∷ x / 65536 % 256 ∷ x / 256 % 256 ∷ x % 256 ∷ [] in
-    let e : pageAt g (addressAt f 1) ≡ N =
-    ap (pageAt g) (address-bytes 0x83 x [] (addressed-few n g N ((placed-known n (r .operation) g k) .0) l))
-    ∙ page-address g N l (placed-sized n (r .operation) g k .addressed) in
-    program-obeyed g r (x / 65536 % 256) (x / 256 % 256) (x % 256) [] y
-    ∙ ap (λ (q : ℕ). startedOn r q (Program One q)) e
-    ∙ started-open r N (Program One N) (ap (sealed r) (block-sector (a .slot) page s) ∙ u)
+-- ---- the commands that name a page
+
+-- what each starts
+unfoldable pub operationOf : Command → ℕ → Operation
+operationOf C.Program p = O.Program One p
+operationOf C.Erase p = O.EraseBlock (p / 8)
+
+-- on an idle, awake chip it starts its operation, or is ignored where the sector is sealed
+abbrev pub Starts : Registers → ℕ → Command → Decision → Type 0
+Starts r p c d = (d ≡ started r (operationOf c p)) ⊎ ((d ≡ ignored r) × (sealed r (sectorOf p) ≡ true))
+
+starts-on : (r : Registers) (p : ℕ) (o : Operation) → (startedOn r p o ≡ started r o) ⊎ ((startedOn r p o ≡ ignored r) × (sealed r (sectorOf p) ≡ true))
+unfolding startedOn
+starts-on r p o = go (sealed r (sectorOf p))
+  where
+    go : (b : Bool) → (cond {A = Decision} b (ignored r) (started r o) ≡ started r o) ⊎ ((cond {A = Decision} b (ignored r) (started r o) ≡ ignored r) × (b ≡ true))
+    go true = inr (refl, refl)
+    go false = inl refl
+
+module _ (g : Geometry) (r : Registers) (k : Kind) (h : Holding) (p : ℕ) (y : Ready r) where
+  abbrev named : Command → ℕ
+  named c = pageAt g (addressAt (frameOf g k h (Send c p)) 1)
+
+  by-row : (f : List ℕ) (lead : ℕ) (e : Effect) → decodeOf f ≡ record { lead = lead; effect = e } → control g r f ≡ rowOf g r f lead e
+  by-row f lead e d = ready-obeys g r f y ∙ ap (λ (x : Decoded). rowOf g r f (x .lead) (x .effect)) d
+
+  pub send-starts : (c : Command) → Starts r (named c) c (control g r (frameOf g k h (Send c p)))
+  unfolding shapeOf opcodeOf frameByte tabulate operationOf rowDecided
+  send-starts C.Program =
+      subst (λ (d : Decision). Starts r (named C.Program) C.Program d) (sym (by-row (frameOf g k h (Send C.Program p)) 4 (E.Program One) (decode-program _ _ _ [])))
+      (starts-on r (named C.Program) (O.Program One (named C.Program)))
+  send-starts C.Erase =
+      subst (λ (d : Decision). Starts r (named C.Erase) C.Erase d) (sym (by-row (frameOf g k h (Send C.Erase p)) 4 E.EraseBlock (decode-erase _ _ _ [])))
+      (starts-on r (named C.Erase) (O.EraseBlock (named C.Erase / 8)))
+
+  -- the page is named by its address
+  pub send-named : (n : ℕ) (c : Command) → partOf n ≡ Known g → Sized g n → p < g .pages → named c ≡ p
+  unfolding shapeOf frameByte tabulate
+  send-named n c e z l = ap (pageAt g) (address-bytes (opcodeOf c) (g .field * p) [] (addressed-few n g p e l)) ∙ page-address g p l (z .addressed)
+
+  -- it leaves the memory
+  pub send-memory : (m : Memory) (c : Command) → sentMemory g r (frameOf g k h (Send c p)) m ≡ m
+  unfolding acted bufferWritten written
+  send-memory m c = go (send-starts c)
+    where
+      go : Starts r (named c) c (control g r (frameOf g k h (Send c p))) → sentMemory g r (frameOf g k h (Send c p)) m ≡ m
+      go (inl e) = sent-decided g r m (frameOf g k h (Send c p)) (started r (operationOf c (named c))) e
+      go (inr e) = sent-decided g r m (frameOf g k h (Send c p)) (ignored r) (e .0)
+
+  -- and once its busy end has come the registers are as they were
+  pub send-returns : (c : Command) → completed (control g r (frameOf g k h (Send c p)) .registers) ≡ r
+  unfolding completed completedBy operationOf
+  send-returns c = go (send-starts c)
+    where
+      back : (c : Command) (q : ℕ) → completed (withOperation r (operationOf c q)) ≡ withOperation r O.Idle
+      back C.Program q = refl
+      back C.Erase q = refl
+
+      go : Starts r (named c) c (control g r (frameOf g k h (Send c p))) → completed (control g r (frameOf g k h (Send c p)) .registers) ≡ r
+      go (inl e) = ap (λ (d : Decision). completed (d .registers)) e ∙ back c (named c) ∙ λ i. withOperation r (sym (y .0) i)
+      go (inr e) = ap (λ (d : Decision). completed (d .registers)) (e .0) ∙ completed-idle r (y .0)
+
+-- ---- waits
+
+-- what is heard of the reply to a poll
+abbrev pub pollHeard : Geometry → Registers → Memory → Heard
+pollHeard g r m = statusHeard (getD (replyOf g r m (0xD7 ∷ 0 ∷ [])) 1 255)
+
+-- a poll of a wait: 8, 9, once more, or ready, and then the chip is idle and awake
+pub waits : (Q : Course → Type 0) (next : Step) (limit : ℕ) (c : Course) (g : Geometry) (r : Registers) (m : Memory)
+    → Q (ended Answers.Device c) → Q (ended Answers.Busy c) → Q (fewer c) → (Ready r → Q (moved next limit (marking (guarded r) c)))
+    → Q (courseBy Wait next limit c (pollHeard g r m))
+unfolding courseBy
+waits Q next limit c g r m eight nine again ready = deep (r .deep) refl
+  where
+    heard : Heard → Type 0
+    heard o = Q (courseBy Wait next limit c o)
+
+    awake : (b : Bool) → isIdle (r .operation) ≡ b → r .deep ≡ false → heard (record { density = true; ready = b; guarded = guarded r; held = false })
+    awake true e d = ready (idle-is (r .operation) e, d)
+    awake false e d = cases Q (leb (c .left) 1) nine again
+
+    deep : (b : Bool) → r .deep ≡ b → heard (pollHeard g r m)
+    deep true e = subst (λ (l : List ℕ). heard (statusHeard (getD l 1 255))) (sym (reply-status-deep g r m (0 ∷ []) e)) eight
+    deep false e =
+        subst heard (sym (ap statusHeard (status-byte g r m (0 ∷ []) 1 255 e (lit≤ tt) (lit< tt)) ∙ status-heard (isIdle (r .operation)) (m .compare) (guarded r)))
+        (awake (isIdle (r .operation)) refl e)
 
 -- ---- 32 and 35
 

@@ -2,13 +2,13 @@
 -- closed half (Blind), so alike inputs leave alike registers; the junk that reaches a register is alike, so a cut does too; and the
 -- list follows by induction.
 -- Assumes nothing.
-use Prim.Native.Nat.{ℕ, _+_, _*_}
+use Prim.Native.Nat.{ℕ}
 use mathlib.Core.Path.{_≡_, refl, sym, ap, subst, _∙_}
-use mathlib.Core.Bool.{Bool, true, false, cond, _&&_}
+use mathlib.Core.Bool.{Bool, true, false, cond, _&&_, _||_}
 use mathlib.Core.List.{List, [], _∷_}
 use mathlib.Core.Logic.{_⊎_, inl, inr}
 use lib.ListN.{length}
-use lib.Dec.{eqb, ltb}
+use lib.Dec.{eqb}
 use Rattle.geometry.specs.declared.Geometry.{Geometry}
 use Rattle.geometry.specs.declared.Part.{Part}
 use Rattle.geometry.specs.declared.Part.the-variants.{Known, Unknown}
@@ -21,25 +21,25 @@ use Rattle.control.specs.PowerLoss.{reaching, lost}
 use Rattle.state.specs.declared.Answer.{Answer}
 use Rattle.state.specs.declared.Answer.the-variants as Answers
 use Rattle.state.specs.Answers.{numberOf}
-use Rattle.state.specs.Frames.{replyOf}
-use Rattle.state.specs.Outcomes.{framed}
-use Rattle.slots.specs.declared.Kind.the-variants.{Put, Patch, Get, Wipe}
-use Rattle.slots.specs.declared.Phase.{Phase}
-use Rattle.slots.specs.declared.Phase.the-variants.{Opening, AskProtection, AskLockdown, Reading, Loading, Programming, Between, Erasing, Closing, Ended}
+use Rattle.state.specs.Outcomes.{framed, Left, partIn, sentState, endedState, pinnedState, cutState, sentBy, endedBy, pinOutcome, cutFits, cutBy}
+use Rattle.slots.specs.declared.Stage.{Stage}
+use Rattle.slots.specs.declared.Stage.the-variants.{Going, Ended}
 use Rattle.slots.specs.declared.Verdict.{Verdict}
 use Rattle.slots.specs.declared.Verdict.the-variants.{Good, Blank, Beyond}
-use Rattle.slots.specs.Records.{limitOf}
-use Rattle.slots.specs.Driver.{verdictAnswer, weighed, answerOf}
-use Rattle.slots.specs.Refusals.{bound, rawRefusal}
-use Rattle.slots.specs.Calls.{State, Out, Request, Secret, Open, Closed, refused, scripted, partIn, registersAfter, cutState, run, startOpen, startClosed, ran, reached, outFrom, callOut, callNext, sentState, rawSent, rawOut, rawNext, outline}
-use Rattle.slots.specs.Lists.{Op, cutFits, straightOut, outOn, outOff, outBy, outOf, nextOn, nextOff, nextBy, nextOf, runList}
-use Rattle.slots.specs.Alike.{Twins, Given, puts, patches, gets, wipes, raws, straights, pins, ends, cuts, oversize, callJunk, junkOn, junkBy, junkOf, Alike, AlikeLists, Soft, Same, AllSame}
+use Rattle.state.specs.Memory.{State}
+use Rattle.slots.specs.Plans.{Asked, bound}
+use Rattle.slots.specs.Driver.{verdictAnswer, weighed, toldBy}
+use Rattle.slots.specs.Refusals.{isOver, isShort, rawRefusal}
+use Rattle.slots.specs.Calls.{Out, Request, Secret, Open, Closed, refused, scripted, registersAfter, stateAfter, run, startOpen, startClosed, ran, reached, answerIn, answerAt, outFrom, callOut, callNext, rawSent, rawOut, rawNext}
+use Rattle.slots.specs.Lists.{Op, asks, secret, met, callBy, rawBy, outOf, calledBy, rawLeft, nextOf, runList}
+use Rattle.slots.specs.Alike.{Twins, Given, calls, raws, straights, pins, ends, cuts, oversize, callJunk, rawJunk, cutJunk, junkBy, junkOf, Alike, AlikeLists, Soft, Same, AllSame}
+use Rattle.slots.proofs.Parts.{outAt, out-at, nextAt, next-at}
 use Rattle.slots.proofs.Blind.{run-blind}
-use Rattle.slots.proofs.Size.{by-array}
+use Rattle.slots.proofs.Steady.{array-steady, op-keeps}
 
 -- ---- answers
 
-abbrev Agree : Answer → Answer → Type 0
+abbrev pub Agree : Answer → Answer → Type 0
 Agree a b = (a ≡ b) ⊎ (Soft a × Soft b)
 
 soft : (v : Verdict) → Soft (verdictAnswer v)
@@ -48,34 +48,18 @@ soft Good = inl (inl refl)
 soft Blank = inl (inr refl)
 soft Beyond = inr refl
 
-weighed-agree : (n : Answer) (v w : Verdict) → Agree (weighed n v) (weighed n w)
+-- of two verdicts on one end
+pub weighed-agree : (n : Answer) (v w : Verdict) → Agree (weighed n v) (weighed n w)
 unfolding weighed
-weighed-agree Answers.Done v w = inr (soft v, soft w)
-weighed-agree Answers.Part v w = inl refl
-weighed-agree Answers.Frame v w = inl refl
-weighed-agree Answers.Slot v w = inl refl
-weighed-agree Answers.Limit v w = inl refl
-weighed-agree Answers.Size v w = inl refl
-weighed-agree Answers.Log v w = inl refl
-weighed-agree Answers.Script v w = inl refl
-weighed-agree Answers.Device v w = inl refl
-weighed-agree Answers.Busy v w = inl refl
-weighed-agree Answers.Sealed v w = inl refl
-weighed-agree Answers.Cut v w = inl refl
-weighed-agree Answers.Blank v w = inl refl
-weighed-agree Answers.End v w = inl refl
+weighed-agree n v w = go (eqb (numberOf n) 0)
+  where
+    go : (b : Bool) → Agree (cond b (verdictAnswer v) n) (cond b (verdictAnswer w) n)
+    go true = inr (soft v, soft w)
+    go false = inl refl
 
-answer-agree : (p : Phase) (v w : Verdict) → Agree (answerOf p v) (answerOf p w)
-unfolding answerOf
-answer-agree Opening v w = inl refl
-answer-agree AskProtection v w = inl refl
-answer-agree AskLockdown v w = inl refl
-answer-agree Reading v w = inl refl
-answer-agree Loading v w = inl refl
-answer-agree Programming v w = inl refl
-answer-agree Between v w = inl refl
-answer-agree Erasing v w = inl refl
-answer-agree Closing v w = inl refl
+answer-agree : (t : Stage) (v w : Verdict) → Agree (answerIn (toldBy t v)) (answerIn (toldBy t w))
+unfolding toldBy answerIn
+answer-agree Going v w = inl refl
 answer-agree (Ended n) v w = weighed-agree n v w
 
 -- ---- put, patch, get, wipe
@@ -83,8 +67,8 @@ answer-agree (Ended n) v w = weighed-agree n v w
 pub ran-blind : (g : Geometry) {v w : Request} (e : v ≡ w) (x y : Secret) (s t : State) → Twins s t → ran g v x s .0 ≡ ran g w y t .0
 unfolding ran
 ran-blind g {v} {w} e x y s t h =
-    run-blind (bound (v .asked .kind) (v .asked .limit)) g v (startOpen g (length (s .memory .array)) v (s .registers)) (startClosed g x (s .memory)) (startClosed g y (t .memory))
-    ∙ λ i. run (bound (e i .asked .kind) (e i .asked .limit)) g (e i) (startOpen g (h .size i) (e i) (h .registers i)) (startClosed g y (t .memory)) .0
+    run-blind (bound g (v .asked)) g v (startOpen g (length (s .memory .array)) v (s .registers)) (startClosed g x (s .memory)) (startClosed g y (t .memory))
+    ∙ λ i. run (bound g (e i .asked)) g (e i) (startOpen g (h .size i) (e i) (h .registers i)) (startClosed g y (t .memory)) .0
 
 call-same : (g : Geometry) {v w : Request} (e : v ≡ w) (x y : Secret) (s t : State) → Twins s t → Same (callOut g v x s) (callOut g w y t)
 unfolding callOut outFrom
@@ -95,8 +79,8 @@ call-same g {v} {w} e x y s t h =
       frames = λ i. b i .frames;
       polls = λ i. b i .polls;
       answer =
-          subst (λ (p : Open). Agree (answerOf (ran g v x s .0 .course .phase) (ran g v x s .1 .holding .verdict)) (answerOf (p .course .phase) (ran g w y t .1 .holding .verdict))) b
-          (answer-agree (ran g v x s .0 .course .phase) (ran g v x s .1 .holding .verdict) (ran g w y t .1 .holding .verdict));
+          subst (λ (p : Open). Agree (answerAt (ran g v x s)) (answerIn (toldBy (p .course .stage) (ran g w y t .1 .holding .verdict)))) b
+          (answer-agree (ran g v x s .0 .course .stage) (ran g v x s .1 .holding .verdict) (ran g w y t .1 .holding .verdict));
     }
 
 -- the registers after a run that may end in a cut
@@ -115,7 +99,7 @@ call-registers g {v} {w} e x y s t h j =
     ∙ (λ i. cond (b i .cut) (lost (b i .registers) (j i)) (b i .registers))
     ∙ sym (cut-registers (ran g w y t .0 .cut) g (y .junk) (reached (ran g w y t)))
 
--- ---- raw, and a frame sent straight
+-- ---- raw
 
 -- two outcomes picked by one test
 pick-same : (b : Bool) {x y z w : Out} → Same x y → Same z w → Same (cond b x z) (cond b y w)
@@ -126,10 +110,6 @@ pick-same false u v = v
 refl-same : {x y : Out} → x .lines ≡ y .lines → x .frames ≡ y .frames → x .polls ≡ y .polls → x .answer ≡ y .answer → Same x y
 refl-same l f p a = record { lines = l; frames = f; polls = p; answer = inl a }
 
-pick-registers : (b : Bool) (s t : State) → (cond b s t) .registers ≡ cond b (s .registers) (t .registers)
-pick-registers true s t = refl
-pick-registers false s t = refl
-
 module _ (g : Geometry) (f script j k l m a b : List ℕ) (s t : State) (ej : length j ≡ length k) (el : length l ≡ length m) (ea : length a ≡ length b) (h : Twins s t) where
   -- the refusal of a raw frame is the same in both runs
   pub raw-refusal : rawRefusal g (length (s .memory .array)) f (length a) (length l) script (length j) ≡ rawRefusal g (length (t .memory .array)) f (length b) (length m) script (length k)
@@ -138,116 +118,122 @@ module _ (g : Geometry) (f script j k l m a b : List ℕ) (s t : State) (ej : le
   raw-same : Same (rawOut g f script (length l) (length j) a s) (rawOut g f script (length m) (length k) b t)
   unfolding rawOut rawSent
   raw-same =
-      subst (λ (z : Answer). Same (rawOut g f script (length l) (length j) a s) (cond (eqb (numberOf z) 0) (rawSent g script f t) (record { answer = z; lines = []; frames = 0; polls = 0; count = 0; lent = b }))) raw-refusal
+      subst (λ (z : Answer). Same (rawOut g f script (length l) (length j) a s) (cond (eqb (numberOf z) 0) (rawSent g script f t) (refused z b))) raw-refusal
       (pick-same (eqb (numberOf (rawRefusal g (length (s .memory .array)) f (length a) (length l) script (length j))) 0) (refl-same refl refl refl refl) (refl-same refl refl refl refl))
 
 -- the registers after a raw frame: by whether it is sent, its script byte and the junk that reaches a register
 raw-registers : (b c : Bool) (g : Geometry) (n : ℕ) (f junk : List ℕ) (s : State)
-    → (cond b (cond c (cutState g junk (sentState g 2 f s)) (sentState g n f s)) s) .registers
+    → (cond b (cond c (cutState g junk (sentState g f s)) (stateAfter g n (sentState g f s))) s) .registers
     ≡ cond b (cond c (lost (control g (s .registers) f .registers) (cond (b && c) (reaching g (control g (s .registers) f .registers .operation) junk) [])) (registersAfter n (control g (s .registers) f .registers))) (s .registers)
-unfolding cutState sentState registersAfter
+unfolding cutState sentState stateAfter registersAfter
 raw-registers true true g n f junk s = refl
 raw-registers true false g n f junk s = refl
 raw-registers false true g n f junk s = refl
 raw-registers false false g n f junk s = refl
 
--- ---- on a known part
+-- ---- each call and event
 
-request-same : (g : Geometry) {o u : Op} → Given o u → oversize g o ≡ oversize g u → (s t : State) → Twins s t → Same (outOn g o s) (outOn g u t)
-unfolding outOn oversize straightOut cutFits
-request-same g (puts slot limit script ej el) e s t h =
-    call-same g (λ i. record { asked = record { kind = Put; slot = slot; limit = limit }; script = script; log = el i; junk = ej i; oversize = e i }) _ _ s t h
-request-same g (patches slot limit script ej el) e s t h =
-    call-same g (λ i. record { asked = record { kind = Patch; slot = slot; limit = limit }; script = script; log = el i; junk = ej i; oversize = e i }) _ _ s t h
-request-same g (gets slot limit script ej el ea) e s t h =
-    call-same g (λ i. record { asked = record { kind = Get; slot = slot; limit = limit }; script = script; log = el i; junk = ej i; oversize = ltb (ea i) (limitOf g) }) _ _ s t h
-request-same g (wipes slot limit script ej el) e s t h =
-    call-same g (λ i. record { asked = record { kind = Wipe; slot = slot; limit = limit }; script = script; log = el i; junk = ej i; oversize = false }) _ _ s t h
-request-same g (raws frame script {j} {k} {l} {m} {a} {b} ej el ea) e s t h = raw-same g frame script j k l m a b s t ej el ea h
-request-same g (straights frame {a} {b} ea) e s t h =
-    subst (λ (n : ℕ). Same (outOn g (Op.straight frame a) s) (cond (framed (length frame) n) (refused Answers.Done (replyOf g (t .registers) (t .memory) frame)) (refused Answers.Frame b))) ea
-    (pick-same (framed (length frame) (length a)) (refl-same refl refl refl refl) (refl-same refl refl refl refl))
-request-same g (pins high) e s t h = refl-same refl refl refl refl
-request-same g ends e s t h = refl-same refl refl refl refl
-request-same g (cuts {j} {k} ej) e s t h =
-    subst (λ (z : Bool). Same (outOn g (Op.cut j) s) (cond z (refused Answers.Done []) (refused Answers.Script []))) (λ i. eqb (ej i) (2 * g .size + h .size i))
-    (pick-same (cutFits g s j) (refl-same refl refl refl refl) (refl-same refl refl refl refl))
+-- of an event's outcome
+pick-state : (b : Bool) (x y : Left) → (cond b x y) .state .registers ≡ cond b (x .state .registers) (y .state .registers)
+pick-state true x y = refl
+pick-state false x y = refl
 
-registers-same : (g : Geometry) {o u : Op} → Given o u → oversize g o ≡ oversize g u → (s t : State) → Twins s t → junkOn g o s ≡ junkOn g u t
-    → nextOn g o s .registers ≡ nextOn g u t .registers
-unfolding nextOn oversize junkOn rawNext cutFits sentState
-registers-same g (puts slot limit script ej el) e s t h j =
-    call-registers g (λ i. record { asked = record { kind = Put; slot = slot; limit = limit }; script = script; log = el i; junk = ej i; oversize = e i }) _ _ s t h j
-registers-same g (patches slot limit script ej el) e s t h j =
-    call-registers g (λ i. record { asked = record { kind = Patch; slot = slot; limit = limit }; script = script; log = el i; junk = ej i; oversize = e i }) _ _ s t h j
-registers-same g (gets slot limit script ej el ea) e s t h j =
-    call-registers g (λ i. record { asked = record { kind = Get; slot = slot; limit = limit }; script = script; log = el i; junk = ej i; oversize = ltb (ea i) (limitOf g) }) _ _ s t h j
-registers-same g (wipes slot limit script ej el) e s t h j =
-    call-registers g (λ i. record { asked = record { kind = Wipe; slot = slot; limit = limit }; script = script; log = el i; junk = ej i; oversize = false }) _ _ s t h j
-registers-same g (raws frame script {j = x} {k = y} {l} {m} {a} {b} ej el ea) e s t h j =
-    let z = raw-refusal g frame script x y l m a b s t ej el ea h in
-    raw-registers (eqb (numberOf (rawRefusal g (length (s .memory .array)) frame (length a) (length l) script (length x))) 0) (eqb (scripted script 0) 2) g (scripted script 0) frame x s
-    ∙ (λ i. cond (eqb (numberOf (z i)) 0) (cond (eqb (scripted script 0) 2) (lost (control g (h .registers i) frame .registers) (j i)) (registersAfter (scripted script 0) (control g (h .registers i) frame .registers))) (h .registers i))
-    ∙ sym (raw-registers (eqb (numberOf (rawRefusal g (length (t .memory .array)) frame (length b) (length m) script (length y))) 0) (eqb (scripted script 0) 2) g (scripted script 0) frame y t)
-registers-same g (straights frame {a} {b} ea) e s t h j =
-    pick-registers (framed (length frame) (length a)) (sentState g 1 frame s) s
-    ∙ (λ i. cond (framed (length frame) (ea i)) (registersAfter 1 (control g (h .registers i) frame .registers)) (h .registers i))
-    ∙ sym (pick-registers (framed (length frame) (length b)) (sentState g 1 frame t) t)
-registers-same g (pins high) e s t h j = λ i. withWp (h .registers i) high
-registers-same g ends e s t h j = λ i. completed (h .registers i)
-registers-same g (cuts {j = x} {k = y} ej) e s t h j =
-    cut-registers (cutFits g s x) g x s
-    ∙ (λ i. cond (eqb (ej i) (2 * g .size + h .size i)) (lost (h .registers i) (j i)) (h .registers i))
-    ∙ sym (cut-registers (cutFits g t y) g y t)
+pick-answer : (b : Bool) (x y : Left) → (cond b x y) .answer ≡ cond b (x .answer) (y .answer)
+pick-answer true x y = refl
+pick-answer false x y = refl
 
--- ---- on any part
+-- an event compares by its answer
+met-same : (x y : Left) → x .answer ≡ y .answer → Same (met x) (met y)
+met-same x y e = refl-same refl refl refl e
 
-same-by : (p : Part) {o u : Op} → Given o u → ((g : Geometry) → p ≡ Known g → oversize g o ≡ oversize g u) → (s t : State) → Twins s t
-    → Same (outBy p o s) (outBy p u t)
-unfolding outBy outOff
-same-by (Known g) d e s t h = request-same g d (e g refl) s t h
-same-by Unknown (puts slot limit script ej el) e s t h = refl-same refl refl refl refl
-same-by Unknown (patches slot limit script ej el) e s t h = refl-same refl refl refl refl
-same-by Unknown (gets slot limit script ej el ea) e s t h = refl-same refl refl refl refl
-same-by Unknown (wipes slot limit script ej el) e s t h = refl-same refl refl refl refl
-same-by Unknown (raws frame script ej el ea) e s t h = refl-same refl refl refl refl
-same-by Unknown (straights frame ea) e s t h = refl-same refl refl refl refl
-same-by Unknown (pins high) e s t h = refl-same refl refl refl refl
-same-by Unknown ends e s t h = refl-same refl refl refl refl
-same-by Unknown (cuts ej) e s t h = refl-same refl refl refl refl
+-- 5 is alike on a known part
+abbrev Sizes : Part → Op → Op → Type 0
+Sizes p o u = (g : Geometry) → p ≡ Known g → oversize g o ≡ oversize g u
 
-registers-by : (p : Part) {o u : Op} → Given o u → ((g : Geometry) → p ≡ Known g → oversize g o ≡ oversize g u) → (s t : State) → Twins s t
-    → junkBy p o s ≡ junkBy p u t → nextBy p o s .registers ≡ nextBy p u t .registers
-unfolding nextBy nextOff junkBy
-registers-by (Known g) d e s t h j = registers-same g d (e g refl) s t h j
-registers-by Unknown (puts slot limit script ej el) e s t h j = h .registers
-registers-by Unknown (patches slot limit script ej el) e s t h j = h .registers
-registers-by Unknown (gets slot limit script ej el ea) e s t h j = h .registers
-registers-by Unknown (wipes slot limit script ej el) e s t h j = h .registers
-registers-by Unknown (raws frame script ej el ea) e s t h j = h .registers
-registers-by Unknown (straights frame ea) e s t h j = h .registers
-registers-by Unknown (pins high) e s t h j = λ i. withWp (h .registers i) high
-registers-by Unknown ends e s t h j = h .registers
-registers-by Unknown (cuts ej) e s t h j = h .registers
+-- what each of the two is asked
+pub request-same : (g : Geometry) (a : Asked) (script : List ℕ) (p q : ℕ) (x y j k l m c d : List ℕ) → isOver (a .kind) g p (length x) ≡ isOver (a .kind) g q (length y)
+    → length j ≡ length k → length l ≡ length m → length c ≡ length d → asks g a p script x j l c ≡ asks g a q script y k m d
+request-same g a script p q x y j k l m c d e ej el ex = λ i. record { asked = a; script = script; log = el i; junk = ej i; oversize = e i || isShort (a .kind) g (ex i) }
+
+module _ (s t : State) (h : Twins s t) where
+  out-same : (p : Part) {o u : Op} → Given o u → Sizes p o u → Same (outAt p o s) (outAt p u t)
+  unfolding outAt callBy rawBy oversize sentBy endedBy pinOutcome cutBy
+  out-same (Known g) (calls a script {p} {q} {a = x} {b = y} {j} {k} {l} {m} {x = c} {y = d} ej el ex) e =
+      call-same g (request-same g a script p q x y j k l m c d (e g refl) ej el ex) (secret x p j c) (secret y q k d) s t h
+  out-same (Known g) (raws frame script {j} {k} {l} {m} {a} {b} ej el ea) e = raw-same g frame script j k l m a b s t ej el ea h
+  out-same (Known g) (straights frame {a} {b} ea) e =
+      met-same (sentBy (Known g) s frame a) (sentBy (Known g) t frame b)
+      (pick-answer (framed (length frame) (length a)) _ _ ∙ (λ i. cond (framed (length frame) (ea i)) Answers.Done Answers.Frame) ∙ sym (pick-answer (framed (length frame) (length b)) _ _))
+  out-same (Known g) (pins high) e = met-same (pinOutcome high s) (pinOutcome high t) refl
+  out-same (Known g) ends e = met-same (endedBy (Known g) s) (endedBy (Known g) t) refl
+  out-same (Known g) (cuts {j} {k} ej) e =
+      met-same (cutBy (Known g) j s) (cutBy (Known g) k t)
+      (pick-answer (cutFits g (length (s .memory .array)) (length j)) _ _ ∙ (λ i. cond (cutFits g (h .size i) (ej i)) Answers.Done Answers.Script)
+      ∙ sym (pick-answer (cutFits g (length (t .memory .array)) (length k)) _ _))
+  out-same Unknown (calls a script ej el ex) e = refl-same refl refl refl refl
+  out-same Unknown (raws frame script ej el ea) e = refl-same refl refl refl refl
+  out-same Unknown (straights frame ea) e = refl-same refl refl refl refl
+  out-same Unknown (pins high) e = refl-same refl refl refl refl
+  out-same Unknown ends e = refl-same refl refl refl refl
+  out-same Unknown (cuts ej) e = refl-same refl refl refl refl
+
+  registers-same : (p : Part) {o u : Op} → Given o u → Sizes p o u → junkBy p o s ≡ junkBy p u t → nextAt p o s .registers ≡ nextAt p u t .registers
+  unfolding nextAt calledBy rawLeft rawNext rawJunk cutJunk oversize junkBy sentBy endedBy pinOutcome pinnedState cutBy sentState endedState cutState
+  registers-same (Known g) (calls a script {p} {q} {a = x} {b = y} {j} {k} {l} {m} {x = c} {y = d} ej el ex) e z =
+      call-registers g (request-same g a script p q x y j k l m c d (e g refl) ej el ex) (secret x p j c) (secret y q k d) s t h z
+  registers-same (Known g) (raws frame script {j} {k} {l} {m} {a} {b} ej el ea) e z =
+      let r = raw-refusal g frame script j k l m a b s t ej el ea h in
+      raw-registers (eqb (numberOf (rawRefusal g (length (s .memory .array)) frame (length a) (length l) script (length j))) 0) (eqb (scripted script 0) 2) g (scripted script 0) frame j s
+      ∙ (λ i. cond (eqb (numberOf (r i)) 0) (cond (eqb (scripted script 0) 2) (lost (control g (h .registers i) frame .registers) (z i)) (registersAfter (scripted script 0) (control g (h .registers i) frame .registers))) (h .registers i))
+      ∙ sym (raw-registers (eqb (numberOf (rawRefusal g (length (t .memory .array)) frame (length b) (length m) script (length k))) 0) (eqb (scripted script 0) 2) g (scripted script 0) frame k t)
+  registers-same (Known g) (straights frame {a} {b} ea) e z =
+      pick-state (framed (length frame) (length a)) _ _
+      ∙ (λ i. cond (framed (length frame) (ea i)) (control g (h .registers i) frame .registers) (h .registers i))
+      ∙ sym (pick-state (framed (length frame) (length b)) _ _)
+  registers-same (Known g) (pins high) e z = λ i. withWp (h .registers i) high
+  registers-same (Known g) ends e z = λ i. completed (h .registers i)
+  registers-same (Known g) (cuts {j} {k} ej) e z =
+      pick-state (cutFits g (length (s .memory .array)) (length j)) _ _
+      ∙ cut-kept (cutFits g (length (s .memory .array)) (length j)) (s .registers) (reaching g (s .registers .operation) j)
+      ∙ (λ i. cond (cutFits g (h .size i) (ej i)) (lost (h .registers i) (z i)) (h .registers i))
+      ∙ sym (cut-kept (cutFits g (length (t .memory .array)) (length k)) (t .registers) (reaching g (t .registers .operation) k))
+      ∙ sym (pick-state (cutFits g (length (t .memory .array)) (length k)) _ _)
+    where
+      -- only a cut that is not refused takes junk
+      cut-kept : (b : Bool) (r : Registers) (w : List ℕ) → cond b (lost r w) r ≡ cond b (lost r (cond b w [])) r
+      cut-kept true r w = refl
+      cut-kept false r w = refl
+  registers-same Unknown (calls a script ej el ex) e z = h .registers
+  registers-same Unknown (raws frame script ej el ea) e z = h .registers
+  registers-same Unknown (straights frame ea) e z = h .registers
+  registers-same Unknown (pins high) e z = λ i. withWp (h .registers i) high
+  registers-same Unknown ends e z = h .registers
+  registers-same Unknown (cuts ej) e z = h .registers
 
 -- the part is looked up from what the two runs share
 pub part-same : (s t : State) → Twins s t → partIn s ≡ partIn t
 part-same s t h = λ i. placed (h .size i) (h .registers i .operation)
 
-out-same : (o u : Op) (s t : State) → Twins s t → Alike o u s t → Same (outOf o s) (outOf u t)
-unfolding outOf
-out-same o u s t h a =
-    subst (λ (p : Part). Same (outBy (partIn s) o s) (outBy p u t)) (part-same s t h) (same-by (partIn s) (a .given) (a .size) s t h)
+op-same : (o u : Op) (s t : State) → Twins s t → Alike o u s t → Same (outOf o s) (outOf u t)
+op-same o u s t h a =
+    subst (λ (x : Out). Same x (outOf u t)) (sym (out-at o s))
+    (subst (λ (y : Out). Same (outAt (partIn s) o s) y) (sym (out-at u t))
+    (subst (λ (p : Part). Same (outAt (partIn s) o s) (outAt p u t)) (part-same s t h) (out-same s t h (partIn s) (a .given) (a .size))))
 
 pub next-twins : (o u : Op) (s t : State) → Twins s t → Alike o u s t → Twins (nextOf o s) (nextOf u t)
-unfolding nextOf junkOf
+unfolding junkOf
 next-twins o u s t h a =
     let p = part-same s t h in
+    let n = length (t .memory .array) in
     record {
       registers =
-          subst (λ (q : Part). nextBy (partIn s) o s .registers ≡ nextBy q u t .registers) p
-          (registers-by (partIn s) (a .given) (a .size) s t h (subst (λ (q : Part). junkBy (partIn s) o s ≡ junkBy q u t) (sym p) (a .junk)));
-      size = by-array (partIn s) o s ∙ h .size ∙ sym (by-array (partIn t) u t);
+          ap (λ (x : State). x .registers) (next-at o s)
+          ∙ subst (λ (q : Part). nextAt (partIn s) o s .registers ≡ nextAt q u t .registers) p
+          (registers-same s t h (partIn s) (a .given) (a .size) (subst (λ (q : Part). junkBy (partIn s) o s ≡ junkBy q u t) (sym p) (a .junk)))
+          ∙ ap (λ (x : State). x .registers) (sym (next-at u t));
+      size =
+          op-keeps (λ r m. length (m .array) ≡ n) (array-steady (λ x. x ≡ n)) o s (h .size)
+          ∙ sym (op-keeps (λ r m. length (m .array) ≡ n) (array-steady (λ x. x ≡ n)) u t refl);
     }
 
 -- DEMAND 3
@@ -256,4 +242,5 @@ unfolding runList
 two-runs [] [] s t h a = tt
 two-runs [] (u ∷ us) s t h a = a
 two-runs (o ∷ os) [] s t h a = a
-two-runs (o ∷ os) (u ∷ us) s t h a = (out-same o u s t h (a .0), two-runs os us (nextOf o s) (nextOf u t) (next-twins o u s t h (a .0)) (a .1))
+two-runs (o ∷ os) (u ∷ us) s t h a =
+    (op-same o u s t h (a .0), two-runs os us (nextOf o s) (nextOf u t) (next-twins o u s t h (a .0)) (a .1))

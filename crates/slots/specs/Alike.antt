@@ -1,6 +1,6 @@
 -- What demand 3 says of two runs: which inputs are alike, and which outcomes are the same.
 -- Assumes nothing.
-use Prim.Native.Nat.{ℕ, _+_}
+use Prim.Native.Nat.{ℕ, _+_, _≤_}
 use mathlib.Core.Path.{_≡_}
 use mathlib.Core.Bool.{Bool, true, false, cond, _&&_}
 use mathlib.Core.List.{List, [], _∷_}
@@ -15,13 +15,14 @@ use Rattle.control.specs.PowerLoss.{reaching}
 use Rattle.state.specs.declared.Answer.{Answer}
 use Rattle.state.specs.declared.Answer.the-variants as Answers
 use Rattle.state.specs.Answers.{numberOf}
-use Rattle.slots.specs.declared.Kind.the-variants.{Put, Patch, Get, Wipe}
-use Rattle.slots.specs.Records.{limitOf}
-use Rattle.slots.specs.Refusals.{rawRefusal}
-use Rattle.slots.specs.Calls.{State, Out, Request, Secret, partIn, ran, scripted}
-use Rattle.slots.specs.Lists.{Op, put, patch, get, wipe, raw, straight, pin, busyEnd, cut, request, secret, cutFits, nextOf}
+use Rattle.slots.specs.Plans.{Asked}
+use Rattle.slots.specs.Refusals.{isOver, rawRefusal}
+use Rattle.state.specs.Memory.{State}
+use Rattle.state.specs.Outcomes.{partIn, cutFits}
+use Rattle.slots.specs.Calls.{Out, Request, Secret, ran, scripted}
+use Rattle.slots.specs.Lists.{Op, call, raw, straight, pin, busyEnd, cut, asks, secret, nextOf}
 
--- "any two chip records alike in registers, with arrays of equal length"
+-- two chips alike in registers, with arrays of one length
 pub record Twins (s t : State) : Type 0 where
   pub registers : s .registers ≡ t .registers
   pub size : length (s .memory .array) ≡ length (t .memory .array)
@@ -30,17 +31,11 @@ pub record Twins (s t : State) : Type 0 where
 abbrev pub Lent : List ℕ → List ℕ → Type 0
 Lent a b = length a ≡ length b
 
--- "An outline may depend on: call, slot, B, script, lengths of log, get buffer, reply and J, .. raw frame, level of a pin move":
--- these are alike. Recipes and patches are any
+-- what an outline may depend on is alike: the call, slot, B, script, raw frame, pin level, and the lengths of log, get buffer, reply and junk.
+-- Recipes, patches and their places are any
 pub data Given : Op → Op → Type 0 where
-  puts : (slot limit : ℕ) (script : List ℕ) {a b j k l m : List ℕ} → Lent j k → Lent l m →
-      Given (put slot limit script a j l) (put slot limit script b k m)
-  patches : (slot limit : ℕ) (script : List ℕ) {p q : ℕ} {a b j k l m : List ℕ} → Lent j k → Lent l m →
-      Given (patch slot limit p script a j l) (patch slot limit q script b k m)
-  gets : (slot limit : ℕ) (script : List ℕ) {j k l m a b : List ℕ} → Lent j k → Lent l m → Lent a b →
-      Given (get slot limit script j l a) (get slot limit script k m b)
-  wipes : (slot limit : ℕ) (script : List ℕ) {j k l m : List ℕ} → Lent j k → Lent l m →
-      Given (wipe slot limit script j l) (wipe slot limit script k m)
+  calls : (asked : Asked) (script : List ℕ) {p q : ℕ} {a b j k l m x y : List ℕ} → Lent j k → Lent l m → Lent x y →
+      Given (call asked p script a j l x) (call asked q script b k m y)
   raws : (frame script : List ℕ) {j k l m a b : List ℕ} → Lent j k → Lent l m → Lent a b →
       Given (raw frame script j l a) (raw frame script k m b)
   straights : (frame : List ℕ) {a b : List ℕ} → Lent a b → Given (straight frame a) (straight frame b)
@@ -48,12 +43,9 @@ pub data Given : Op → Op → Type 0 where
   ends : Given busyEnd busyEnd
   cuts : {j k : List ℕ} → Lent j k → Given (cut j) (cut k)
 
--- "whether 5 is met" by a recipe or a patch
+-- whether 5 is met by a recipe or a patch
 unfoldable pub oversize : Geometry → Op → Bool
-oversize g (put slot limit script recipe junk log) = ltb (limitOf g) (length recipe)
-oversize g (patch slot limit place script bytes junk log) = ltb (limitOf g) (place + length bytes)
-oversize g (get slot limit script junk log buffer) = false
-oversize g (wipe slot limit script junk log) = false
+oversize g (call a place script payload junk log lent) = isOver (a .kind) g place (length payload)
 oversize g (raw frame script junk log reply) = false
 oversize g (straight frame reply) = false
 oversize g (pin high) = false
@@ -64,27 +56,26 @@ oversize g (cut junk) = false
 unfoldable pub callJunk : Geometry → Request → Secret → State → List ℕ
 callJunk g v x s = cond (ran g v x s .0 .cut) (reaching g (ran g v x s .0 .registers .operation) (x .junk)) []
 
-unfoldable pub junkOn : Geometry → Op → State → List ℕ
-junkOn g (put slot limit script recipe junk log) s =
-    callJunk g (request Put slot limit script log junk (ltb (limitOf g) (length recipe))) (secret recipe 0 junk []) s
-junkOn g (patch slot limit place script bytes junk log) s =
-    callJunk g (request Patch slot limit script log junk (ltb (limitOf g) (place + length bytes))) (secret bytes place junk []) s
-junkOn g (get slot limit script junk log buffer) s =
-    callJunk g (request Get slot limit script log junk (ltb (length buffer) (limitOf g))) (secret [] 0 junk buffer) s
-junkOn g (wipe slot limit script junk log) s = callJunk g (request Wipe slot limit script log junk false) (secret [] 0 junk []) s
-junkOn g (raw frame script junk log reply) s =
+-- in a raw frame that is cut
+unfoldable pub rawJunk : Geometry → (frame script junk log reply : List ℕ) → State → List ℕ
+rawJunk g frame script junk log reply s =
     cond (eqb (numberOf (rawRefusal g (length (s .memory .array)) frame (length reply) (length log) script (length junk))) 0 && eqb (scripted script 0) 2)
     (reaching g (control g (s .registers) frame .registers .operation) junk) []
-junkOn g (straight frame reply) s = []
-junkOn g (pin high) s = []
-junkOn g busyEnd s = []
-junkOn g (cut junk) s = cond (cutFits g s junk) (reaching g (s .registers .operation) junk) []
 
+-- in a cut that is not refused
+unfoldable pub cutJunk : Geometry → List ℕ → State → List ℕ
+cutJunk g junk s = cond (cutFits g (length (s .memory .array)) (length junk)) (reaching g (s .registers .operation) junk) []
+
+-- the junk that reaches a register, looked up along the run
 unfoldable pub junkBy : Part → Op → State → List ℕ
-junkBy (Known g) o s = junkOn g o s
+junkBy (Known g) (call a place script payload junk log lent) s = callJunk g (asks g a place script payload junk log lent) (secret payload place junk lent) s
+junkBy (Known g) (raw frame script junk log reply) s = rawJunk g frame script junk log reply s
+junkBy (Known g) (straight frame reply) s = []
+junkBy (Known g) (pin high) s = []
+junkBy (Known g) busyEnd s = []
+junkBy (Known g) (cut junk) s = cutJunk g junk s
 junkBy Unknown o s = []
 
--- "junk reaching registers", looked up along the run
 unfoldable pub junkOf : Op → State → List ℕ
 junkOf o s = junkBy (partIn s) o s
 
@@ -101,11 +92,11 @@ AlikeLists [] (u ∷ us) s t = ⊥
 AlikeLists (o ∷ os) [] s t = ⊥
 AlikeLists (o ∷ os) (u ∷ us) s t = Alike o u s t × AlikeLists os us (nextOf o s) (nextOf u t)
 
--- "Answers 0, 12 and 13 may stand for one another between the two runs"
+-- the answers that may stand for one another: 0, 12, 13
 abbrev pub Soft : Answer → Type 0
 Soft a = ((a ≡ Answers.Done) ⊎ (a ≡ Answers.Blank)) ⊎ (a ≡ Answers.End)
 
--- "Compared are, for each call, the six log bytes of each frame sent, in order, frames, polls and answer; for an event, its answer"
+-- what is compared: of a call the log lines of the frames sent, in order, frames, polls and answer; of an event its answer
 pub record Same (x y : Out) : Type 0 where
   pub lines : x .lines ≡ y .lines
   pub frames : x .frames ≡ y .frames

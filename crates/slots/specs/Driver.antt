@@ -1,37 +1,34 @@
--- The slot driver: "It is given the last reply and yields the next frame or the end". Its control state (`Course`) goes by `Heard`
--- alone; its data (`Holding`) take the whole reply and reach a frame only as the data of an 84.
+-- The slot driver: it is given the last reply and yields the next frame or the end. Its control state (`Course`) is a place in the call's plan and
+-- goes by `Heard` alone; its data (`Holding`) take the whole reply and reach a frame only as the data of an 84.
 -- Assumes nothing.
-use Prim.Native.Nat.{ℕ, _+_, _-_, _*_, _/_, _%_}
+use Prim.Native.Nat.{ℕ, suc, _+_, _-_, _*_, _/_, _%_}
 use mathlib.Core.Bool.{Bool, true, false, cond, not, _&&_, _||_}
 use mathlib.Core.List.{List, []}
-use lib.ListN.{length, getD, drop}
+use lib.ListN.{length, getD}
 use lib.Dec.{eqb, ltb, leb}
 use Rattle.slices.specs.Lists.{tabulate, splice}
 use Rattle.geometry.specs.declared.Geometry.{Geometry}
-use Rattle.geometry.specs.Sectors.{sectorOf}
 use Rattle.registers.specs.Protection.{hasBits}
 use Rattle.state.specs.declared.Answer.{Answer}
 use Rattle.state.specs.declared.Answer.the-variants as Answers
+use Rattle.state.specs.Answers.{numberOf}
 use Rattle.slots.specs.declared.Course.{Course}
-use Rattle.slots.specs.declared.Heard.{Heard}
 use Rattle.slots.specs.declared.Kind.{Kind}
 use Rattle.slots.specs.declared.Kind.the-variants.{Put, Patch, Get, Wipe}
-use Rattle.slots.specs.declared.Phase.{Phase}
-use Rattle.slots.specs.declared.Phase.the-variants.{Opening, AskProtection, AskLockdown, Reading, Loading, Programming, Between, Erasing, Closing, Ended}
-use Rattle.slots.specs.declared.Shape.{Shape}
+use Rattle.slots.specs.declared.Command.{Command}
+use Rattle.slots.specs.declared.Command.the-variants.{Program, Erase}
+use Rattle.slots.specs.declared.Step.{Step}
+use Rattle.slots.specs.declared.Step.the-variants.{Wait, Protection, Lockdown, Read, Load, Send, End}
+use Rattle.slots.specs.declared.Stage.{Stage}
+use Rattle.slots.specs.declared.Stage.the-variants.{Going, Ended}
+use Rattle.slots.specs.declared.Told.{Told}
+use Rattle.slots.specs.declared.Told.the-variants.{Running, Answered}
 use Rattle.slots.specs.declared.Verdict.{Verdict}
 use Rattle.slots.specs.declared.Verdict.the-variants.{Good, Blank, Beyond}
 use Rattle.slots.specs.Records.{image, changed, getVerdict, patchVerdict}
+use Rattle.slots.specs.Plans.{Asked, planOf, stepAt, isEnd}
 
--- ---- what is asked and what is held
-
--- what a call is asked, as far as a frame may depend on it before its data
-pub record Asked : Type 0 where
-  pub kind : Kind
-  pub slot : ℕ
-  pub limit : ℕ
-
--- the data: the recipe or the patch's bytes, the patch's place, the bytes read so far, and the verdict on page 0
+-- the data: the recipe or the patch's bytes, the patch's place, the slot's bytes read so far, and the verdict on them
 pub record Holding : Type 0 where
   pub payload : List ℕ
   pub place : ℕ
@@ -40,50 +37,74 @@ pub record Holding : Type 0 where
 
 -- ---- frames
 
--- "name their page .. by N = 512 times its number"
+-- all of a frame but its data: opcode, address bytes, length, and whether data follow the first four bytes
+pub record Shape : Type 0 where
+  pub opcode : ℕ
+  pub high : ℕ
+  pub middle : ℕ
+  pub low : ℕ
+  pub length : ℕ
+  pub loads : Bool
+
+-- opcode, the address n in three bytes, first byte highest; the frame's length, and whether it carries data
 abbrev pub addressed : ℕ → ℕ → ℕ → Bool → Shape
 addressed opcode n length loads =
     record { opcode = opcode; high = n / 65536 % 256; middle = n / 256 % 256; low = n % 256; length = length; loads = loads }
 
--- page k of the slot: "Slot s .. is block s"
-abbrev pub slotPage : ℕ → ℕ → ℕ
-slotPage slot page = 8 * slot + page
+unfoldable pub opcodeOf : Command → ℕ
+opcodeOf Program = 0x83
+opcodeOf Erase = 0x50
 
-unfoldable pub shapeOf : Geometry → Phase → ℕ → ℕ → Shape
-shapeOf g Opening slot page = addressed 0xD7 0 2 false
-shapeOf g AskProtection slot page = addressed 0x32 0 20 false
-shapeOf g AskLockdown slot page = addressed 0x35 0 20 false
-shapeOf g Reading slot page = addressed 0xD2 (g .field * slotPage slot page) (8 + g .size) false
-shapeOf g Loading slot page = addressed 0x84 0 (4 + g .size) true
-shapeOf g Programming slot page = addressed 0x83 (g .field * slotPage slot page) 4 false
-shapeOf g Between slot page = addressed 0xD7 0 2 false
-shapeOf g Erasing slot page = addressed 0x50 (g .field * slotPage slot 0) 4 false
-shapeOf g Closing slot page = addressed 0xD7 0 2 false
-shapeOf g (Ended n) slot page = addressed 0 0 0 false
+-- a step's frame but for its data: a page is named by its number times the address field
+unfoldable pub shapeOf : Geometry → Step → Shape
+shapeOf g Wait = addressed 0xD7 0 2 false
+shapeOf g Protection = addressed 0x32 0 20 false
+shapeOf g Lockdown = addressed 0x35 0 20 false
+shapeOf g (Read p) = addressed 0xD2 (g .field * p) (8 + g .size) false
+shapeOf g (Load p) = addressed 0x84 0 (4 + g .size) true
+shapeOf g (Send c p) = addressed (opcodeOf c) (g .field * p) 4 false
+shapeOf g End = addressed 0 0 0 false
 
--- "Filler bytes are 00"
+-- byte i of a frame: opcode, address, then the data or 00
 unfoldable pub frameByte : Shape → (ℕ → ℕ) → ℕ → ℕ
 frameByte s bytes i =
     cond (eqb i 0) (s .opcode) (cond (eqb i 1) (s .high) (cond (eqb i 2) (s .middle) (cond (eqb i 3) (s .low) (cond (s .loads) (bytes (i - 4)) 0))))
 
--- byte i of the page that an 84 carries: "84 with all 264 bytes", "84 with the page as changed"; "Under 12 or 13 .. pages unchanged"
-unfoldable pub loaded : Geometry → Kind → Verdict → Holding → ℕ → ℕ → ℕ
-loaded g Put v h page i = image (h .payload) (g .size * page + i)
-loaded g Patch v h page i = changed v (h .place) (h .payload) (getD (h .staged) (g .size * page + i) 0) (g .size * page + i)
-loaded g Get v h page i = 0
-loaded g Wipe v h page i = 0
+-- byte i of the slot as the call stores it: a put the recipe's record, a patch what it read with its bytes in their place
+unfoldable pub storedBy : Kind → Holding → ℕ → ℕ
+storedBy Put h i = image (h .payload) i
+storedBy Patch h i = changed (h .verdict) (h .place) (h .payload) (getD (h .staged) i 0) i
+storedBy Get h i = 0
+storedBy Wipe h i = 0
 
--- the next frame; none after the end
-unfoldable pub frameOf : Geometry → Asked → Course → Holding → List ℕ
-frameOf g a c h =
-    tabulate (shapeOf g (c .phase) (a .slot) (c .page) .length)
-    (frameByte (shapeOf g (c .phase) (a .slot) (c .page)) (loaded g (a .kind) (h .verdict) h (c .page)))
+-- the data of an 84: page p is page p mod 8 of its slot
+unfoldable pub loaded : Geometry → Kind → Holding → Step → ℕ → ℕ
+loaded g k h Wait i = 0
+loaded g k h Protection i = 0
+loaded g k h Lockdown i = 0
+loaded g k h (Read p) i = 0
+loaded g k h (Load p) i = storedBy k h (g .size * (p % 8) + i)
+loaded g k h (Send c p) i = 0
+loaded g k h End i = 0
+
+-- a step's frame
+abbrev pub frameOf : Geometry → Kind → Holding → Step → List ℕ
+frameOf g k h x = tabulate (shapeOf g x .length) (frameByte (shapeOf g x) (loaded g k h x))
 
 -- ---- what is heard of a reply; a byte that is not there counts as FFh
 
+-- all that control goes by: of a status, whether bits 5-2 are 1001, bit 7, bit 1; of a register, whether the sector's bits are not all 0
+pub record Heard : Type 0 where
+  pub density : Bool
+  pub ready : Bool
+  pub guarded : Bool
+  pub held : Bool
+
+-- of a status
 abbrev pub statusHeard : ℕ → Heard
 statusHeard x = record { density = eqb (x / 4 % 16) 9; ready = eqb (x / 128 % 2) 1; guarded = eqb (x / 2 % 2) 1; held = false }
 
+-- of a register, or of nothing
 abbrev pub registerHeard : Bool → Heard
 registerHeard b = record { density = true; ready = true; guarded = false; held = b }
 
@@ -91,175 +112,100 @@ registerHeard b = record { density = true; ready = true; guarded = false; held =
 unfoldable pub registerIn : List ℕ → List ℕ
 registerIn reply = tabulate 16 (λ j. getD reply (4 + j) 255)
 
-unfoldable pub heardIn : Phase → ℕ → List ℕ → Heard
-heardIn Opening slot reply = statusHeard (getD reply 1 255)
-heardIn AskProtection slot reply = registerHeard (hasBits (registerIn reply) (sectorOf (8 * slot)))
-heardIn AskLockdown slot reply = registerHeard (hasBits (registerIn reply) (sectorOf (8 * slot)))
-heardIn Reading slot reply = registerHeard false
-heardIn Loading slot reply = registerHeard false
-heardIn Programming slot reply = registerHeard false
-heardIn Between slot reply = statusHeard (getD reply 1 255)
-heardIn Erasing slot reply = registerHeard false
-heardIn Closing slot reply = statusHeard (getD reply 1 255)
-heardIn (Ended n) slot reply = registerHeard false
+unfoldable pub heard : Step → ℕ → List ℕ → Heard
+heard Wait sector reply = statusHeard (getD reply 1 255)
+heard Protection sector reply = registerHeard (hasBits (registerIn reply) sector)
+heard Lockdown sector reply = registerHeard (hasBits (registerIn reply) sector)
+heard (Read p) sector reply = registerHeard false
+heard (Load p) sector reply = registerHeard false
+heard (Send c p) sector reply = registerHeard false
+heard End sector reply = registerHeard false
 
 -- ---- control
 
--- the course in another phase, at a page
-abbrev pub at : Phase → ℕ → Course → Course
-at p page c = record { phase = p; page = page; left = c .left; listed = c .listed; guarded = c .guarded }
-
 abbrev pub ended : Answer → Course → Course
-ended n c = at (Ended n) (c .page) c
+ended n c = record { place = c .place; left = c .left; stage = Ended n; listed = c .listed; guarded = c .guarded }
 
--- a wait begins: "at most B times (the poll limit)"
-abbrev pub waiting : Phase → ℕ → Course → Course
-waiting p limit c = record { phase = p; page = c .page; left = limit; listed = c .listed; guarded = c .guarded }
+-- on to the next step, with all B polls; the plan's end is the call's
+abbrev pub moved : Step → ℕ → Course → Course
+moved next limit c =
+    record { place = suc (c .place); left = limit; stage = cond (isEnd next) (Ended Answers.Done) Going; listed = c .listed; guarded = c .guarded }
 
--- one poll of a wait: 8 ("tested before ready"), ready, 9 ("B polls, none ready"), or once more
-abbrev pub polled : Phase → Course → Course → Heard → Course
-polled p next c o =
+abbrev pub noted : Bool → Course → Course
+noted b c = record { place = c .place; left = c .left; stage = c .stage; listed = b; guarded = c .guarded }
+
+abbrev pub marking : Bool → Course → Course
+marking b c = record { place = c .place; left = c .left; stage = c .stage; listed = c .listed; guarded = b }
+
+abbrev pub fewer : Course → Course
+fewer c = record { place = c .place; left = c .left - 1; stage = c .stage; listed = c .listed; guarded = c .guarded }
+
+-- a poll of a wait: 8, looked at before ready; ready; 9 at the last of the B polls; or once more. 32 notes, 35 tests: 10 where the sector is
+-- sealed by both replies and the last status. All else goes on
+unfoldable pub courseBy : Step → Step → ℕ → Course → Heard → Course
+courseBy Wait next limit c o =
     cond (not (o .density)) (ended Answers.Device c)
-    (cond (o .ready) next
-    (cond (leb (c .left) 1) (ended Answers.Busy c)
-    (record { phase = p; page = c .page; left = c .left - 1; listed = c .listed; guarded = c .guarded })))
+    (cond (o .ready) (moved next limit (marking (o .guarded) c)) (cond (leb (c .left) 1) (ended Answers.Busy c) (fewer c)))
+courseBy Protection next limit c o = moved next limit (noted (o .held) c)
+courseBy Lockdown next limit c o = cond (o .held || (c .listed && c .guarded)) (ended Answers.Sealed c) (moved next limit c)
+courseBy (Read p) next limit c o = moved next limit c
+courseBy (Load p) next limit c o = moved next limit c
+courseBy (Send x p) next limit c o = moved next limit c
+courseBy End next limit c o = c
 
--- "Put, patch and wipe then send 32 and 35": after the first wait, with bit 1 of its last status
-abbrev pub asking : Course → Heard → Course
-asking c o = record { phase = AskProtection; page = 0; left = c .left; listed = false; guarded = o .guarded }
-
-abbrev pub opened : Kind → Course → Heard → Course
-opened Put c o = asking c o
-opened Patch c o = asking c o
-opened Get c o = at Reading 0 c
-opened Wipe c o = asking c o
-
--- the first frame of a page, or of the erase
-abbrev pub mainOf : Kind → Phase
-mainOf Put = Loading
-mainOf Patch = Reading
-mainOf Get = Reading
-mainOf Wipe = Erasing
-
--- "and end with 10 if the slot's sector is sealed by those replies and the last status"
-abbrev pub checked : Kind → Course → Heard → Course
-checked k c o = cond (o .held || (c .listed && c .guarded)) (ended Answers.Sealed c) (at (mainOf k) 0 c)
-
--- after page 7 the end, else the next page
-abbrev pub paged : Phase → Course → Course
-paged p c = cond (eqb (c .page) 7) (ended Answers.Done c) (at p (c .page + 1) c)
-
-abbrev pub afterRead : Kind → Course → Course
-afterRead Put c = at Loading (c .page) c
-afterRead Patch c = at Loading (c .page) c
-afterRead Get c = paged Reading c
-afterRead Wipe c = at Loading (c .page) c
-
-unfoldable pub courseAfter : Phase → Kind → ℕ → Course → Heard → Course
-courseAfter Opening k limit c o = polled Opening (opened k c o) c o
-courseAfter AskProtection k limit c o = record { phase = AskLockdown; page = c .page; left = c .left; listed = o .held; guarded = c .guarded }
-courseAfter AskLockdown k limit c o = checked k c o
-courseAfter Reading k limit c o = afterRead k c
-courseAfter Loading k limit c o = at Programming (c .page) c
-courseAfter Programming k limit c o = waiting Between limit c
-courseAfter Between k limit c o = polled Between (paged (mainOf k) c) c o
-courseAfter Erasing k limit c o = waiting Closing limit c
-courseAfter Closing k limit c o = polled Closing (ended Answers.Done c) c o
-courseAfter (Ended n) k limit c o = c
+-- the step at a course's place
+abbrev pub stepOf : Geometry → Asked → Course → Step
+stepOf g a c = stepAt (planOf g a) (c .place)
 
 -- the control state after a reply
-abbrev pub after : Asked → Course → Heard → Course
-after a c o = courseAfter (c .phase) (a .kind) (a .limit) c o
+abbrev pub after : Geometry → Asked → Course → Heard → Course
+after g a c o = courseBy (stepOf g a c) (stepAt (planOf g a) (suc (c .place))) (a .limit) c o
 
 -- ---- data
 
--- the verdict on page 0's bytes
+-- the verdict on a slot's first page
 unfoldable pub judged : Geometry → Kind → Holding → List ℕ → Verdict
 judged g Put h bytes = Good
 judged g Patch h bytes = patchVerdict g (h .place + length (h .payload)) bytes
 judged g Get h bytes = getVerdict g bytes
 judged g Wipe h bytes = Good
 
--- the data after the reply to a D2: "Its 2,112 bytes", page by page
-unfoldable pub readIn : Geometry → Asked → Course → Holding → List ℕ → Holding
-readIn g a c h reply =
+-- the data after page p's bytes: they go to their place among the slot's, and the slot's first page is judged
+unfoldable pub readIn : Geometry → Kind → ℕ → Holding → List ℕ → Holding
+readIn g k p h bytes =
     record {
       payload = h .payload;
       place = h .place;
-      staged = splice (g .size * c .page) (tabulate (g .size) (λ i. getD reply (8 + i) 255)) (h .staged);
-      verdict = cond (eqb (c .page) 0) (judged g (a .kind) h (tabulate (g .size) (λ i. getD reply (8 + i) 255))) (h .verdict);
+      staged = splice (g .size * (p % 8)) bytes (h .staged);
+      verdict = cond (eqb (p % 8) 0) (judged g k h bytes) (h .verdict);
     }
 
-unfoldable pub takenIn : Phase → Geometry → Asked → Course → Holding → List ℕ → Holding
-takenIn Opening g a c h reply = h
-takenIn AskProtection g a c h reply = h
-takenIn AskLockdown g a c h reply = h
-takenIn Reading g a c h reply = readIn g a c h reply
-takenIn Loading g a c h reply = h
-takenIn Programming g a c h reply = h
-takenIn Between g a c h reply = h
-takenIn Erasing g a c h reply = h
-takenIn Closing g a c h reply = h
-takenIn (Ended n) g a c h reply = h
+-- the data after a step's reply: those of a page read follow its eight bytes of lead
+unfoldable pub takenBy : Step → Geometry → Kind → Holding → List ℕ → Holding
+takenBy Wait g k h reply = h
+takenBy Protection g k h reply = h
+takenBy Lockdown g k h reply = h
+takenBy (Read p) g k h reply = readIn g k p h (tabulate (g .size) (λ i. getD reply (8 + i) 255))
+takenBy (Load p) g k h reply = h
+takenBy (Send c p) g k h reply = h
+takenBy End g k h reply = h
 
 -- ---- the end
 
-unfoldable pub isEnded : Phase → Bool
-isEnded Opening = false
-isEnded AskProtection = false
-isEnded AskLockdown = false
-isEnded Reading = false
-isEnded Loading = false
-isEnded Programming = false
-isEnded Between = false
-isEnded Erasing = false
-isEnded Closing = false
+unfoldable pub isEnded : Stage → Bool
+isEnded Going = false
 isEnded (Ended n) = true
 
--- a status frame sent by a wait
-unfoldable pub isPoll : Phase → ℕ
-isPoll Opening = 1
-isPoll AskProtection = 0
-isPoll AskLockdown = 0
-isPoll Reading = 0
-isPoll Loading = 0
-isPoll Programming = 0
-isPoll Between = 1
-isPoll Erasing = 0
-isPoll Closing = 1
-isPoll (Ended n) = 0
-
--- "8 to 11 end the call where they are met, come before 12 and 13"
 unfoldable pub verdictAnswer : Verdict → Answer
 verdictAnswer Good = Answers.Done
 verdictAnswer Blank = Answers.Blank
 verdictAnswer Beyond = Answers.End
 
+-- the answer 0 is weighed by the verdict, any other stands
 unfoldable pub weighed : Answer → Verdict → Answer
-weighed Answers.Done v = verdictAnswer v
-weighed Answers.Part v = Answers.Part
-weighed Answers.Frame v = Answers.Frame
-weighed Answers.Slot v = Answers.Slot
-weighed Answers.Limit v = Answers.Limit
-weighed Answers.Size v = Answers.Size
-weighed Answers.Log v = Answers.Log
-weighed Answers.Script v = Answers.Script
-weighed Answers.Device v = Answers.Device
-weighed Answers.Busy v = Answers.Busy
-weighed Answers.Sealed v = Answers.Sealed
-weighed Answers.Cut v = Answers.Cut
-weighed Answers.Blank v = Answers.Blank
-weighed Answers.End v = Answers.End
+weighed n v = cond (eqb (numberOf n) 0) (verdictAnswer v) n
 
--- a call's answer; one that has not ended has none: an accepted call always ends (`answers`), Busy stands here for none
-unfoldable pub answerOf : Phase → Verdict → Answer
-answerOf Opening v = Answers.Busy
-answerOf AskProtection v = Answers.Busy
-answerOf AskLockdown v = Answers.Busy
-answerOf Reading v = Answers.Busy
-answerOf Loading v = Answers.Busy
-answerOf Programming v = Answers.Busy
-answerOf Between v = Answers.Busy
-answerOf Erasing v = Answers.Busy
-answerOf Closing v = Answers.Busy
-answerOf (Ended n) v = weighed n v
+-- what a driver tells: one that has not ended has no answer
+unfoldable pub toldBy : Stage → Verdict → Told
+toldBy Going v = Running
+toldBy (Ended n) v = Answered (weighed n v)

@@ -1,9 +1,10 @@
+pub mod Plans
 pub mod Records
 pub mod Driver
 pub mod Refusals
 pub mod Calls
 pub mod Lists
 pub mod Alike
+pub mod Exchanges
 pub mod Quiet
-pub mod Bounds
-pub mod Listed
+pub mod Leaves

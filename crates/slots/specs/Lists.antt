@@ -1,150 +1,106 @@
--- Lists of calls and events: "each call or event takes the record and array as the one before left them".
+-- Lists of calls and events, each on the chip and array as the one before left them.
 -- Assumes nothing.
-use Prim.Native.Nat.{ℕ, _+_, _*_}
-use mathlib.Core.Bool.{Bool, cond}
+use Prim.Native.Nat.{ℕ}
+use mathlib.Core.Path.{_≡_}
+use mathlib.Core.Bool.{Bool, _&&_, _||_}
 use mathlib.Core.List.{List, [], _∷_}
 use lib.ListN.{length}
-use lib.Dec.{eqb, ltb}
+use lib.Dec.{leb}
 use Rattle.geometry.specs.declared.Geometry.{Geometry}
 use Rattle.geometry.specs.declared.Part.{Part}
 use Rattle.geometry.specs.declared.Part.the-variants.{Known, Unknown}
-use Rattle.registers.specs.Fields.{withWp}
-use Rattle.control.specs.Completion.{completed}
 use Rattle.state.specs.declared.Answer.{Answer}
 use Rattle.state.specs.declared.Answer.the-variants as Answers
-use Rattle.state.specs.Completion.{completedMemory}
-use Rattle.state.specs.Frames.{replyOf}
-use Rattle.state.specs.Outcomes.{framed}
+use Rattle.state.specs.Answers.{numberOf}
 use Rattle.slots.specs.declared.Kind.{Kind}
 use Rattle.slots.specs.declared.Kind.the-variants.{Put, Patch, Get, Wipe}
-use Rattle.slots.specs.Records.{limitOf}
-use Rattle.slots.specs.Driver.{Asked}
-use Rattle.slots.specs.Calls.{State, Out, Request, Secret, refused, partIn, cutState, callOut, callNext, sentState, rawOut, rawNext}
+use Rattle.slots.specs.Plans.{Asked, stated}
+use Rattle.slots.specs.Refusals.{isOver, isShort}
+use Rattle.state.specs.Memory.{State}
+use Rattle.state.specs.Outcomes.{Left, partIn, sendOutcome, endOutcome, pinOutcome, cutOutcome}
+use Rattle.slots.specs.Calls.{Out, Request, Secret, refused, callOut, callNext, rawOut, rawNext}
 
--- a call or an event, with all that it is given
+-- a call or an event, with all that it is given. Of a call by a plan: `place` is a patch's, `payload` the recipe or the patch, `lent` the get
+-- buffer; what does not concern the call is not looked at
 pub data Op : Type 0 where
-  put : (slot limit : ℕ) (script recipe junk log : List ℕ) → Op
-  patch : (slot limit place : ℕ) (script bytes junk log : List ℕ) → Op
-  get : (slot limit : ℕ) (script junk log buffer : List ℕ) → Op
-  wipe : (slot limit : ℕ) (script junk log : List ℕ) → Op
+  call : (asked : Asked) (place : ℕ) (script payload junk log lent : List ℕ) → Op
   raw : (frame script junk log reply : List ℕ) → Op
   straight : (frame reply : List ℕ) → Op
   pin : (high : Bool) → Op
   busyEnd : Op
   cut : (junk : List ℕ) → Op
 
+-- the calls by their names
+
+abbrev pub asking : Kind → ℕ → ℕ → Asked
+asking k slot limit = record { kind = k; slot = slot; limit = limit }
+
+abbrev pub put : (slot limit : ℕ) (script recipe junk log : List ℕ) → Op
+put slot limit script recipe junk log = call (asking Put slot limit) 0 script recipe junk log []
+
+abbrev pub patch : (slot limit place : ℕ) (script bytes junk log : List ℕ) → Op
+patch slot limit place script bytes junk log = call (asking Patch slot limit) place script bytes junk log []
+
+abbrev pub get : (slot limit : ℕ) (script junk log buffer : List ℕ) → Op
+get slot limit script junk log buffer = call (asking Get slot limit) 0 script [] junk log buffer
+
+abbrev pub wipe : (slot limit : ℕ) (script junk log : List ℕ) → Op
+wipe slot limit script junk log = call (asking Wipe slot limit) 0 script [] junk log []
+
 -- ---- what each is asked on a known part
 
-abbrev pub request : Kind → ℕ → ℕ → List ℕ → List ℕ → List ℕ → Bool → Request
-request kind slot limit script log junk oversize =
-    record {
-      asked = record { kind = kind; slot = slot; limit = limit };
-      script = script;
-      log = length log;
-      junk = length junk;
-      oversize = oversize;
-    }
+abbrev pub request : Asked → List ℕ → ℕ → ℕ → Bool → Request
+request a script log junk oversize = record { asked = a; script = script; log = log; junk = junk; oversize = oversize }
 
 abbrev pub secret : List ℕ → ℕ → List ℕ → List ℕ → Secret
 secret payload place junk lent = record { payload = payload; place = place; junk = junk; lent = lent }
 
+abbrev pub asks : Geometry → Asked → ℕ → List ℕ → List ℕ → List ℕ → List ℕ → List ℕ → Request
+asks g a place script payload junk log lent =
+    request a script (length log) (length junk) (isOver (a .kind) g place (length payload) || isShort (a .kind) g (length lent))
+
 -- ---- outcomes
 
 -- an event's outcome, or that of a frame sent straight: its answer, and of a frame the reply
-abbrev pub answered : Answer → List ℕ → Out
-answered a lent = refused a lent
+abbrev pub met : Left → Out
+met o = refused (o .answer) (o .reply)
 
-unfoldable pub straightOut : Geometry → List ℕ → List ℕ → State → Out
-straightOut g f reply s =
-    cond (framed (length f) (length reply)) (answered Answers.Done (replyOf g (s .registers) (s .memory) f)) (refused Answers.Frame reply)
+-- a call by a plan, and raw: 1 on an unknown part
+unfoldable pub callBy : Part → Asked → ℕ → (script payload junk log lent : List ℕ) → State → Out
+callBy (Known g) a place script payload junk log lent s =
+    callOut g (asks g a place script payload junk log lent) (secret payload place junk lent) s
+callBy Unknown a place script payload junk log lent s = refused Answers.Part lent
 
-unfoldable pub cutFits : Geometry → State → List ℕ → Bool
-cutFits g s junk = eqb (length junk) (2 * g .size + length (s .memory .array))
-
--- on a known part
-unfoldable pub outOn : Geometry → Op → State → Out
-outOn g (put slot limit script recipe junk log) s =
-    callOut g (request Put slot limit script log junk (ltb (limitOf g) (length recipe))) (secret recipe 0 junk []) s
-outOn g (patch slot limit place script bytes junk log) s =
-    callOut g (request Patch slot limit script log junk (ltb (limitOf g) (place + length bytes))) (secret bytes place junk []) s
-outOn g (get slot limit script junk log buffer) s =
-    callOut g (request Get slot limit script log junk (ltb (length buffer) (limitOf g))) (secret [] 0 junk buffer) s
-outOn g (wipe slot limit script junk log) s =
-    callOut g (request Wipe slot limit script log junk Bool.false) (secret [] 0 junk []) s
-outOn g (raw frame script junk log reply) s = rawOut g frame script (length log) (length junk) reply s
-outOn g (straight frame reply) s = straightOut g frame reply s
-outOn g (pin high) s = answered Answers.Done []
-outOn g busyEnd s = answered Answers.Done []
-outOn g (cut junk) s = cond (cutFits g s junk) (answered Answers.Done []) (refused Answers.Script [])
-
--- what was lent for output
-unfoldable pub lentTo : Op → List ℕ
-lentTo (put slot limit script recipe junk log) = []
-lentTo (patch slot limit place script bytes junk log) = []
-lentTo (get slot limit script junk log buffer) = buffer
-lentTo (wipe slot limit script junk log) = []
-lentTo (raw frame script junk log reply) = reply
-lentTo (straight frame reply) = reply
-lentTo (pin high) = []
-lentTo busyEnd = []
-lentTo (cut junk) = []
-
--- on an unknown one: answer 1, but for a pin move, which meets none
-unfoldable pub outOff : Op → Out
-outOff (put slot limit script recipe junk log) = refused Answers.Part []
-outOff (patch slot limit place script bytes junk log) = refused Answers.Part []
-outOff (get slot limit script junk log buffer) = refused Answers.Part buffer
-outOff (wipe slot limit script junk log) = refused Answers.Part []
-outOff (raw frame script junk log reply) = refused Answers.Part reply
-outOff (straight frame reply) = refused Answers.Part reply
-outOff (pin high) = answered Answers.Done []
-outOff busyEnd = refused Answers.Part []
-outOff (cut junk) = refused Answers.Part []
-
-unfoldable pub outBy : Part → Op → State → Out
-outBy (Known g) o s = outOn g o s
-outBy Unknown o s = outOff o
+unfoldable pub rawBy : Part → (frame script junk log reply : List ℕ) → State → Out
+rawBy (Known g) frame script junk log reply s = rawOut g frame script (length log) (length junk) reply s
+rawBy Unknown frame script junk log reply s = refused Answers.Part reply
 
 unfoldable pub outOf : Op → State → Out
-outOf o s = outBy (partIn s) o s
+outOf (call a place script payload junk log lent) s = callBy (partIn s) a place script payload junk log lent s
+outOf (raw frame script junk log reply) s = rawBy (partIn s) frame script junk log reply s
+outOf (straight frame reply) s = met (sendOutcome s frame reply)
+outOf (pin high) s = met (pinOutcome high s)
+outOf busyEnd s = met (endOutcome s)
+outOf (cut junk) s = met (cutOutcome junk s)
 
 -- ---- states
 
-abbrev pub pinned : Bool → State → State
-pinned high s = record { registers = withWp (s .registers) high; memory = s .memory }
+unfoldable pub calledBy : Part → Asked → ℕ → (script payload junk log lent : List ℕ) → State → State
+calledBy (Known g) a place script payload junk log lent s =
+    callNext g (asks g a place script payload junk log lent) (secret payload place junk lent) s
+calledBy Unknown a place script payload junk log lent s = s
 
-unfoldable pub nextOn : Geometry → Op → State → State
-nextOn g (put slot limit script recipe junk log) s =
-    callNext g (request Put slot limit script log junk (ltb (limitOf g) (length recipe))) (secret recipe 0 junk []) s
-nextOn g (patch slot limit place script bytes junk log) s =
-    callNext g (request Patch slot limit script log junk (ltb (limitOf g) (place + length bytes))) (secret bytes place junk []) s
-nextOn g (get slot limit script junk log buffer) s =
-    callNext g (request Get slot limit script log junk (ltb (length buffer) (limitOf g))) (secret [] 0 junk buffer) s
-nextOn g (wipe slot limit script junk log) s =
-    callNext g (request Wipe slot limit script log junk Bool.false) (secret [] 0 junk []) s
-nextOn g (raw frame script junk log reply) s = rawNext g frame script (length log) junk (length reply) s
-nextOn g (straight frame reply) s = cond (framed (length frame) (length reply)) (sentState g 1 frame s) s
-nextOn g (pin high) s = pinned high s
-nextOn g busyEnd s = record { registers = completed (s .registers); memory = completedMemory g (s .registers .operation) (s .memory) }
-nextOn g (cut junk) s = cond (cutFits g s junk) (cutState g junk s) s
-
-unfoldable pub nextOff : Op → State → State
-nextOff (put slot limit script recipe junk log) s = s
-nextOff (patch slot limit place script bytes junk log) s = s
-nextOff (get slot limit script junk log buffer) s = s
-nextOff (wipe slot limit script junk log) s = s
-nextOff (raw frame script junk log reply) s = s
-nextOff (straight frame reply) s = s
-nextOff (pin high) s = pinned high s
-nextOff busyEnd s = s
-nextOff (cut junk) s = s
-
-unfoldable pub nextBy : Part → Op → State → State
-nextBy (Known g) o s = nextOn g o s
-nextBy Unknown o s = nextOff o s
+unfoldable pub rawLeft : Part → (frame script junk log reply : List ℕ) → State → State
+rawLeft (Known g) frame script junk log reply s = rawNext g frame script (length log) junk (length reply) s
+rawLeft Unknown frame script junk log reply s = s
 
 unfoldable pub nextOf : Op → State → State
-nextOf o s = nextBy (partIn s) o s
+nextOf (call a place script payload junk log lent) s = calledBy (partIn s) a place script payload junk log lent s
+nextOf (raw frame script junk log reply) s = rawLeft (partIn s) frame script junk log reply s
+nextOf (straight frame reply) s = sendOutcome s frame reply .state
+nextOf (pin high) s = pinOutcome high s .state
+nextOf busyEnd s = endOutcome s .state
+nextOf (cut junk) s = cutOutcome junk s .state
 
 -- ---- lists
 
@@ -156,3 +112,42 @@ runList (o ∷ os) s = outOf o s ∷ runList os (nextOf o s)
 unfoldable pub leftBy : List Op → State → State
 leftBy [] s = s
 leftBy (o ∷ os) s = leftBy os (nextOf o s)
+
+-- ---- how many frames each may send: events, and a frame sent straight, are no calls, and their frames are not counted
+
+unfoldable pub boundOf : Op → ℕ
+boundOf (call a place script payload junk log lent) = stated (a .kind) (a .limit)
+boundOf (raw frame script junk log reply) = 1
+boundOf (straight frame reply) = 0
+boundOf (pin high) = 0
+boundOf busyEnd = 0
+boundOf (cut junk) = 0
+
+-- ---- refusals
+
+-- one of 1 to 7
+abbrev pub isRefusal : Answer → Bool
+isRefusal a = leb 1 (numberOf a) && leb (numberOf a) 7
+
+-- what was lent for output
+unfoldable pub lentTo : Op → List ℕ
+lentTo (call a place script payload junk log lent) = lent
+lentTo (raw frame script junk log reply) = reply
+lentTo (straight frame reply) = reply
+lentTo (pin high) = []
+lentTo busyEnd = []
+lentTo (cut junk) = []
+
+-- the log that it was lent
+unfoldable pub logOf : Op → List ℕ
+logOf (call a place script payload junk log lent) = log
+logOf (raw frame script junk log reply) = log
+logOf (straight frame reply) = []
+logOf (pin high) = []
+logOf busyEnd = []
+logOf (cut junk) = []
+
+-- an outcome and the state after it, as a refusal leaves them: no frame, no poll, no log line, n 0, what was lent and the state as before
+pub record Untouched (lent : List ℕ) (s : State) (o : Out) (t : State) : Type 0 where
+  pub out : o ≡ refused (o .answer) lent
+  pub next : t ≡ s

@@ -1,5 +1,4 @@
--- Refusals 2 to 7 of the calls, "in this order before any frame, where they concern the call"; 1 is the part (crate chip).
--- Done where none applies.
+-- Refusals 2 to 7 of the calls, in this order before any frame, where they concern the call; 1 is the part. Done where none applies.
 -- Assumes nothing.
 use Prim.Native.Nat.{ℕ, _+_, _*_, _/_}
 use mathlib.Core.Bool.{Bool, true, false, cond, not, _&&_, _||_}
@@ -9,18 +8,28 @@ use lib.Dec.{eqb, ltb, leb}
 use Rattle.geometry.specs.declared.Geometry.{Geometry}
 use Rattle.state.specs.declared.Answer.{Answer}
 use Rattle.state.specs.declared.Answer.the-variants as Answers
-use Rattle.state.specs.Outcomes.{framed}
+use Rattle.state.specs.Answers.{numberOf}
+use Rattle.state.specs.Outcomes.{framed, cutFits}
 use Rattle.slots.specs.declared.Kind.{Kind}
 use Rattle.slots.specs.declared.Kind.the-variants.{Put, Patch, Get, Wipe}
+use Rattle.slots.specs.Records.{limitOf}
+use Rattle.slots.specs.Plans.{Asked, bound}
 
--- "Frames are at most 9B + 18 (put), 9B + 26 (patch), B + 8 (get), 2B + 3 (wipe), 1 (raw)"
-unfoldable pub bound : Kind → ℕ → ℕ
-bound Put limit = 9 * limit + 18
-bound Patch limit = 9 * limit + 26
-bound Get limit = limit + 8
-bound Wipe limit = 2 * limit + 3
+-- 5 by what is to be stored: a recipe over the limit, or a patch that ends beyond it; its place, and how many bytes
+unfoldable pub isOver : Kind → Geometry → ℕ → ℕ → Bool
+isOver Put g place n = ltb (limitOf g) n
+isOver Patch g place n = ltb (limitOf g) (place + n)
+isOver Get g place n = false
+isOver Wipe g place n = false
 
--- "a byte over 2"
+-- 5 by what is lent: a get buffer under the limit
+unfoldable pub isShort : Kind → Geometry → ℕ → Bool
+isShort Put g lent = false
+isShort Patch g lent = false
+isShort Get g lent = ltb lent (limitOf g)
+isShort Wipe g lent = false
+
+-- a script byte over 2
 unfoldable pub hasOverTwo : List ℕ → Bool
 hasOverTwo [] = false
 hasOverTwo (x ∷ xs) = ltb 2 x || hasOverTwo xs
@@ -30,22 +39,30 @@ unfoldable pub hasCut : List ℕ → Bool
 hasCut [] = false
 hasCut (x ∷ xs) = eqb x 2 || hasCut xs
 
--- 7: "a byte over 2; or a cut with J of another length". J has the two buffers' bytes and the array's
+-- 7: a byte over 2; or a cut, and junk that has not the two buffers' bytes and the array's
 unfoldable pub badScript : Geometry → ℕ → List ℕ → ℕ → Bool
-badScript g array script junk = hasOverTwo script || (hasCut script && not (eqb junk (2 * g .size + array)))
+badScript g array script junk = hasOverTwo script || (hasCut script && not (cutFits g array junk))
 
--- put, patch, get and wipe: slot, B, whether 5 is met, script, and the lengths of array, log and J
-unfoldable pub callRefusal : Geometry → ℕ → Kind → ℕ → ℕ → Bool → ℕ → List ℕ → ℕ → Answer
-callRefusal g array kind slot limit oversize log script junk =
-    cond (leb (g .pages / 8) slot) Answers.Slot
-    (cond (not (leb 1 limit && leb limit 1000)) Answers.Limit
-    (cond oversize Answers.Size
-    (cond (ltb log (6 * bound kind limit)) Answers.Log
-    (cond (badScript g array script junk) Answers.Script Answers.Done))))
+-- 6, of a log that needs `least` bytes, then 7; the lengths of array, log and junk
+unfoldable pub lateRefusal : Geometry → ℕ → ℕ → ℕ → List ℕ → ℕ → Answer
+lateRefusal g array log least script junk = cond (ltb log least) Answers.Log (cond (badScript g array script junk) Answers.Script Answers.Done)
 
--- raw: the frame, script, and the lengths of array, reply, log and J
+-- 3, 4 and 5: what is asked, and whether 5 is met
+unfoldable pub earlyRefusal : Geometry → Asked → Bool → Answer
+earlyRefusal g a oversize =
+    cond (leb (g .pages / 8) (a .slot)) Answers.Slot
+    (cond (not (leb 1 (a .limit) && leb (a .limit) 1000)) Answers.Limit
+    (cond oversize Answers.Size Answers.Done))
+
+-- the first that applies
+unfoldable pub orElse : Answer → Answer → Answer
+orElse a b = cond (eqb (numberOf a) 0) b a
+
+-- put, patch, get and wipe: what is asked, whether 5 is met, the script, and the lengths of array, log and junk
+unfoldable pub callRefusal : Geometry → ℕ → Asked → Bool → ℕ → List ℕ → ℕ → Answer
+callRefusal g array a oversize log script junk = orElse (earlyRefusal g a oversize) (lateRefusal g array log (6 * bound g a) script junk)
+
+-- raw: the frame, the script, and the lengths of array, reply, log and junk
 unfoldable pub rawRefusal : Geometry → ℕ → List ℕ → ℕ → ℕ → List ℕ → ℕ → Answer
 rawRefusal g array frame reply log script junk =
-    cond (not (framed (length frame) reply)) Answers.Frame
-    (cond (ltb log 6) Answers.Log
-    (cond (badScript g array script junk) Answers.Script Answers.Done))
+    cond (framed (length frame) reply) (lateRefusal g array log 6 script junk) Answers.Frame

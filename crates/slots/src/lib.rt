@@ -1,7 +1,7 @@
-// The slot driver's types: its control state, and what it takes from a reply.
+// The slot driver's types: its state, the steps of a call's plan, the place in it.
 use state::Answer;
 
-// The calls that go through the driver.
+// The calls that go by a plan.
 pub enum Kind {
     Put,
     Patch,
@@ -9,38 +9,44 @@ pub enum Kind {
     Wipe,
 }
 
-// Which frame comes next: the wait that every call starts with (D7), 32, 35, D2, 84, 83, the wait after a page, 50, the wait
-// after an erase, or none.
-pub enum Phase {
-    Opening,
-    AskProtection,
-    AskLockdown,
-    Reading,
-    Loading,
-    Programming,
-    Between,
-    Erasing,
-    Closing,
+// The commands that name a page in four bytes: 83, 50.
+pub enum Command {
+    Program,
+    Erase,
+}
+
+// A step of a plan: a wait (D7), 32, 35, a page read (D2), a page loaded (84), a command that names a page; or the plan's end. Pages are
+// pages of the part.
+pub enum Step {
+    Wait,
+    Protection,
+    Lockdown,
+    Read { page: usize },
+    Load { page: usize },
+    Send { command: Command, page: usize },
+    End,
+}
+
+// Still going, or ended with an answer.
+pub enum Stage {
+    Going,
     Ended { answer: Answer },
 }
 
-// The driver's control state: the phase, the page of the slot (0 to 7), how many polls are left, and what was heard of the
-// slot's sector: its protection bits, and status bit 1.
-pub struct Course {
-    pub page: usize,
-    pub left: usize,
-    pub phase: Phase,
-    pub listed: bool,
-    pub guarded: bool,
+// What a driver tells of its call: nothing while it is running, then the answer.
+pub enum Told {
+    Running,
+    Answered { answer: Answer },
 }
 
-// All that control goes by of a reply: of a status, bits 5-2 right, bit 7, bit 1; of a register, whether the sector's bits are
-// not all 0.
-pub struct Heard {
-    pub density: bool,
-    pub ready: bool,
+// The driver's control state: the place in the plan, how many polls are left, and what was heard of the sector: whether it is listed, and
+// status bit 1.
+pub struct Course {
+    pub place: usize,
+    pub left: usize,
+    pub stage: Stage,
+    pub listed: bool,
     pub guarded: bool,
-    pub held: bool,
 }
 
 // What page 0 of a slot told get or patch: a record, 12 (blank), or 13 (the patch ends beyond it).
@@ -50,12 +56,14 @@ pub enum Verdict {
     Beyond,
 }
 
-// All of a frame but the data of an 84: opcode, address bytes, length, and whether data follow the first four bytes.
-pub struct Shape {
-    pub opcode: u8,
-    pub high: u8,
-    pub middle: u8,
-    pub low: u8,
-    pub length: usize,
-    pub loads: bool,
+// The slot driver's state: the length of the chip's array, which says the part; the slot, the poll limit and a patch's place; the call; the
+// verdict on the slot's first page; and the control state.
+pub struct Driver {
+    pub array: usize,
+    pub slot: usize,
+    pub limit: usize,
+    pub place: usize,
+    pub kind: Kind,
+    pub verdict: Verdict,
+    pub course: Course,
 }

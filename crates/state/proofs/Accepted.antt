@@ -1,9 +1,9 @@
 -- What the entry points do, case by case: accepted where the part is known and lengths fit, else refused, and then nothing changes.
 -- Each definition goes by the part and by a test, so naming the part and the test's value opens it.
 -- Assumes nothing.
-use mathlib.Core.Path.{_≡_, refl, ap, _∙_}
+use mathlib.Core.Path.{_≡_, refl, ap, subst⁻¹, _∙_}
 use mathlib.Core.Bool.{Bool, true, false, cond, _&&_}
-use mathlib.Core.List.{List}
+use mathlib.Core.List.{List, []}
 use Prim.Native.Nat.{ℕ, _+_, _*_, _≤_}
 use native.Mathlib.Omega.{arith}
 use lib.ListN.{length, replicate}
@@ -13,35 +13,31 @@ use Rattle.geometry.specs.declared.Geometry.{Geometry}
 use Rattle.geometry.specs.declared.Part.{Part}
 use Rattle.geometry.specs.declared.Part.the-variants.{Known, Unknown}
 use Rattle.geometry.specs.Parts.{partOf}
-use Rattle.control.specs.Control.{control}
-use Rattle.control.specs.Completion.{completed}
-use Rattle.control.specs.PowerLoss.{reaching, lost}
+use Rattle.state.specs.declared.Answer.{Answer}
 use Rattle.state.specs.declared.Answer.the-variants as Answers
 use Rattle.state.specs.declared.Chip.{Chip}
-use Rattle.state.specs.Memory.{memoryOf, chipOf}
-use Rattle.state.specs.Frames.{replyOf, sentMemory}
-use Rattle.state.specs.Completion.{completedMemory}
-use Rattle.state.specs.PowerLoss.{lostMemory}
-use Rattle.state.specs.Outcomes.{outcome, partFor, freshChip, freshAnswer, freshOutcome, freshFilled, freshArray, framed, sentTo, sendOutcome, repliedBy, sendReply, endedIn, endOutcome, endedArray, endArray, cutIn, cutOutcome, cutArrayIn, cutArray}
+use Rattle.state.specs.declared.Outcome.{Outcome}
+use Rattle.state.specs.Memory.{State, stateOf, chipIn}
+use Rattle.state.specs.Frames.{replyOf}
+use Rattle.state.specs.Outcomes.{Left, left, Leaves, partIn, freshState, freshBy, freshOutcome, framed, sentState, sentBy, sendOutcome, endedState, endedBy, endOutcome, cutState, cutFits, cutBy, cutOutcome}
+
+-- ---- what a function leaves, once it is known what its definition says
+pub leaves-as : {o l : Left} {r : Outcome} {xs ys : List ℕ} → o ≡ l → Leaves l r xs ys → Leaves o r xs ys
+leaves-as {r = r} {xs = xs} {ys = ys} e = subst⁻¹ (λ (k : Left). Leaves k r xs ys) e
+
+-- a refusal
+pub leaves-refused : {o : Left} (a : Answer) (c : Chip) (xs ys : List ℕ) → o ≡ left a (stateOf c xs) ys → Leaves o (record { answer = a; chip = c }) xs ys
+leaves-refused a c xs ys e = leaves-as e (record { answer = refl; chip = refl; array = refl; reply = refl })
 
 -- ---- fresh
 module _ (factory xs : List ℕ) where
-  pub fresh-done : (g : Geometry) → partOf (length xs) ≡ Known g → freshOutcome factory xs ≡ outcome Answers.Done (freshChip factory)
-  unfolding freshOutcome freshAnswer
-  fresh-done g e = ap (λ (p : Part). outcome (freshAnswer p) (freshChip factory)) e
+  pub fresh-done : (g : Geometry) → partOf (length xs) ≡ Known g → freshOutcome factory xs ≡ left Answers.Done (freshState factory (replicate (length xs) 255)) []
+  unfolding freshOutcome freshBy
+  fresh-done g e = ap (λ (p : Part). freshBy p factory xs) e
 
-  pub fresh-part : partOf (length xs) ≡ Unknown → freshOutcome factory xs ≡ outcome Answers.Part (freshChip factory)
-  unfolding freshOutcome freshAnswer
-  fresh-part e = ap (λ (p : Part). outcome (freshAnswer p) (freshChip factory)) e
-
-module _ (xs : List ℕ) where
-  pub fresh-array-done : (g : Geometry) → partOf (length xs) ≡ Known g → freshArray xs ≡ replicate (length xs) 255
-  unfolding freshArray freshFilled
-  fresh-array-done g e = ap (λ (p : Part). freshFilled p xs) e
-
-  pub fresh-array-part : partOf (length xs) ≡ Unknown → freshArray xs ≡ xs
-  unfolding freshArray freshFilled
-  fresh-array-part e = ap (λ (p : Part). freshFilled p xs) e
+  pub fresh-part : partOf (length xs) ≡ Unknown → freshOutcome factory xs ≡ left Answers.Part (freshState factory xs) []
+  unfolding freshOutcome freshBy
+  fresh-part e = ap (λ (p : Part). freshBy p factory xs) e
 
 -- ---- a frame's length and its reply's
 pub framed-in : (n m : ℕ) → framed n m ≡ true → (1 ≤ n) × (n ≤ 1100) × (n ≡ m)
@@ -59,128 +55,105 @@ unfolding framed
 in-framed n m a b e = simp (le-leb 1 n a, le-leb n 1100 b, eq-eqb n m e)
 
 -- ---- a frame sent straight
-module _ (c : Chip) (xs f : List ℕ) (n : ℕ) where
-  pub sent-part : partFor c xs ≡ Unknown → sendOutcome c xs f n ≡ outcome Answers.Part c
-  unfolding sendOutcome sentTo
-  sent-part e = ap (λ (p : Part). sentTo p c xs f n) e
+module _ (s : State) (f ys : List ℕ) where
+  pub sent-part : partIn s ≡ Unknown → sendOutcome s f ys ≡ left Answers.Part s ys
+  unfolding sendOutcome sentBy
+  sent-part e = ap (λ (p : Part). sentBy p s f ys) e
 
-  pub sent-known : (g : Geometry) → partFor c xs ≡ Known g → sendOutcome c xs f n ≡ sentTo (Known g) c xs f n
+  pub sent-known : (g : Geometry) → partIn s ≡ Known g → sendOutcome s f ys ≡ sentBy (Known g) s f ys
   unfolding sendOutcome
-  sent-known g e = ap (λ (p : Part). sentTo p c xs f n) e
+  sent-known g e = ap (λ (p : Part). sentBy p s f ys) e
 
-  -- a part that is known, and a length that is refused, or accepted
-  pub known-frame : (g : Geometry) → framed (length f) n ≡ false → sentTo (Known g) c xs f n ≡ outcome Answers.Frame c
-  unfolding sentTo
-  known-frame g t = ap (λ (b : Bool). cond b (outcome Answers.Done (chipOf (control g (c .registers) f .registers) (sentMemory g (c .registers) f (memoryOf c xs)))) (outcome Answers.Frame c)) t
+  module _ (g : Geometry) where
+    tested : Bool → Left
+    tested b = cond b (left Answers.Done (sentState g f s) (replyOf g (s .registers) (s .memory) f)) (left Answers.Frame s ys)
 
-  pub known-sent : (g : Geometry) → framed (length f) n ≡ true
-      → sentTo (Known g) c xs f n ≡ outcome Answers.Done (chipOf (control g (c .registers) f .registers) (sentMemory g (c .registers) f (memoryOf c xs)))
-  unfolding sentTo
-  known-sent g t = ap (λ (b : Bool). cond b (outcome Answers.Done (chipOf (control g (c .registers) f .registers) (sentMemory g (c .registers) f (memoryOf c xs)))) (outcome Answers.Frame c)) t
+    -- a part that is known, and a length that is refused, or accepted
+    pub known-frame : framed (length f) (length ys) ≡ false → sentBy (Known g) s f ys ≡ left Answers.Frame s ys
+    unfolding sentBy tested
+    known-frame t = ap tested t
 
-  pub sent-frame : (g : Geometry) → partFor c xs ≡ Known g → framed (length f) n ≡ false → sendOutcome c xs f n ≡ outcome Answers.Frame c
-  sent-frame g e t = sent-known g e ∙ known-frame g t
+    pub known-sent : framed (length f) (length ys) ≡ true → sentBy (Known g) s f ys ≡ left Answers.Done (sentState g f s) (replyOf g (s .registers) (s .memory) f)
+    unfolding sentBy tested
+    known-sent t = ap tested t
 
-  pub sent-done : (g : Geometry) → partFor c xs ≡ Known g → framed (length f) n ≡ true
-      → sendOutcome c xs f n ≡ outcome Answers.Done (chipOf (control g (c .registers) f .registers) (sentMemory g (c .registers) f (memoryOf c xs)))
-  sent-done g e t = sent-known g e ∙ known-sent g t
+    pub sent-frame : partIn s ≡ Known g → framed (length f) (length ys) ≡ false → sendOutcome s f ys ≡ left Answers.Frame s ys
+    sent-frame e t = sent-known g e ∙ known-frame t
 
--- .. and its reply
-module _ (c : Chip) (xs f ys : List ℕ) where
-  pub reply-part : partFor c xs ≡ Unknown → sendReply c xs f ys ≡ ys
-  unfolding sendReply repliedBy
-  reply-part e = ap (λ (p : Part). repliedBy p c xs f ys) e
-
-  pub reply-known : (g : Geometry) → partFor c xs ≡ Known g → sendReply c xs f ys ≡ repliedBy (Known g) c xs f ys
-  unfolding sendReply
-  reply-known g e = ap (λ (p : Part). repliedBy p c xs f ys) e
-
-  pub known-unreplied : (g : Geometry) → framed (length f) (length ys) ≡ false → repliedBy (Known g) c xs f ys ≡ ys
-  unfolding repliedBy
-  known-unreplied g t = ap (λ (b : Bool). cond b (replyOf g (c .registers) (memoryOf c xs) f) ys) t
-
-  pub known-replied : (g : Geometry) → framed (length f) (length ys) ≡ true → repliedBy (Known g) c xs f ys ≡ replyOf g (c .registers) (memoryOf c xs) f
-  unfolding repliedBy
-  known-replied g t = ap (λ (b : Bool). cond b (replyOf g (c .registers) (memoryOf c xs) f) ys) t
-
-  pub reply-frame : (g : Geometry) → partFor c xs ≡ Known g → framed (length f) (length ys) ≡ false → sendReply c xs f ys ≡ ys
-  reply-frame g e t = reply-known g e ∙ known-unreplied g t
-
-  pub reply-done : (g : Geometry) → partFor c xs ≡ Known g → framed (length f) (length ys) ≡ true → sendReply c xs f ys ≡ replyOf g (c .registers) (memoryOf c xs) f
-  reply-done g e t = reply-known g e ∙ known-replied g t
+    pub sent-done : partIn s ≡ Known g → framed (length f) (length ys) ≡ true
+        → sendOutcome s f ys ≡ left Answers.Done (sentState g f s) (replyOf g (s .registers) (s .memory) f)
+    sent-done e t = sent-known g e ∙ known-sent t
 
 -- ---- a busy end
-module _ (c : Chip) (xs : List ℕ) where
-  pub end-part : partFor c xs ≡ Unknown → endOutcome c xs ≡ outcome Answers.Part c
-  unfolding endOutcome endedIn
-  end-part e = ap (λ (p : Part). endedIn p c xs) e
+module _ (s : State) where
+  pub end-part : partIn s ≡ Unknown → endOutcome s ≡ left Answers.Part s []
+  unfolding endOutcome endedBy
+  end-part e = ap (λ (p : Part). endedBy p s) e
 
-  pub end-array-part : partFor c xs ≡ Unknown → endArray c xs ≡ xs
-  unfolding endArray endedArray
-  end-array-part e = ap (λ (p : Part). endedArray p c xs) e
-
-  pub end-known : (g : Geometry) → partFor c xs ≡ Known g → endOutcome c xs ≡ endedIn (Known g) c xs
+  pub end-known : (g : Geometry) → partIn s ≡ Known g → endOutcome s ≡ endedBy (Known g) s
   unfolding endOutcome
-  end-known g e = ap (λ (p : Part). endedIn p c xs) e
+  end-known g e = ap (λ (p : Part). endedBy p s) e
 
-  pub end-array-known : (g : Geometry) → partFor c xs ≡ Known g → endArray c xs ≡ endedArray (Known g) c xs
-  unfolding endArray
-  end-array-known g e = ap (λ (p : Part). endedArray p c xs) e
-
-  pub end-done : (g : Geometry) → partFor c xs ≡ Known g
-      → endOutcome c xs ≡ outcome Answers.Done (chipOf (completed (c .registers)) (completedMemory g (c .registers .operation) (memoryOf c xs)))
-  unfolding endedIn
+  pub end-done : (g : Geometry) → partIn s ≡ Known g → endOutcome s ≡ left Answers.Done (endedState g s) []
+  unfolding endedBy
   end-done g e = end-known g e
 
-  pub end-array-done : (g : Geometry) → partFor c xs ≡ Known g → endArray c xs ≡ completedMemory g (c .registers .operation) (memoryOf c xs) .array
-  unfolding endedArray
-  end-array-done g e = end-array-known g e
-
 -- ---- a cut
-module _ (c : Chip) (xs junk : List ℕ) where
-  pub cut-part : partFor c xs ≡ Unknown → cutOutcome c xs junk ≡ outcome Answers.Part c
-  unfolding cutOutcome cutIn
-  cut-part e = ap (λ (p : Part). cutIn p c xs junk) e
+module _ (junk : List ℕ) (s : State) where
+  pub cut-part : partIn s ≡ Unknown → cutOutcome junk s ≡ left Answers.Part s []
+  unfolding cutOutcome cutBy
+  cut-part e = ap (λ (p : Part). cutBy p junk s) e
 
-  pub cut-array-part : partFor c xs ≡ Unknown → cutArray c xs junk ≡ xs
-  unfolding cutArray cutArrayIn
-  cut-array-part e = ap (λ (p : Part). cutArrayIn p c xs junk) e
-
-  pub cut-known : (g : Geometry) → partFor c xs ≡ Known g → cutOutcome c xs junk ≡ cutIn (Known g) c xs junk
+  pub cut-known : (g : Geometry) → partIn s ≡ Known g → cutOutcome junk s ≡ cutBy (Known g) junk s
   unfolding cutOutcome
-  cut-known g e = ap (λ (p : Part). cutIn p c xs junk) e
+  cut-known g e = ap (λ (p : Part). cutBy p junk s) e
 
-  pub cut-array-known : (g : Geometry) → partFor c xs ≡ Known g → cutArray c xs junk ≡ cutArrayIn (Known g) c xs junk
-  unfolding cutArray
-  cut-array-known g e = ap (λ (p : Part). cutArrayIn p c xs junk) e
+  module _ (g : Geometry) where
+    fits : Bool → Left
+    fits b = cond b (left Answers.Done (cutState g junk s) []) (left Answers.Script s [])
 
-  -- junk of another length
-  pub known-script : (g : Geometry) → (length junk ≡ 2 * g .size + length xs → ⊥) → cutIn (Known g) c xs junk ≡ outcome Answers.Script c
-  unfolding cutIn
-  known-script g l = simp (ne-eqb (length junk) (2 * g .size + length xs) l)
+    -- junk of another length
+    pub known-script : (length junk ≡ 2 * g .size + length (s .memory .array) → ⊥) → cutBy (Known g) junk s ≡ left Answers.Script s []
+    unfolding cutBy cutFits fits
+    known-script l = ap fits (ne-eqb (length junk) (2 * g .size + length (s .memory .array)) l)
 
-  pub known-script-array : (g : Geometry) → (length junk ≡ 2 * g .size + length xs → ⊥) → cutArrayIn (Known g) c xs junk ≡ xs
-  unfolding cutArrayIn
-  known-script-array g l = simp (ne-eqb (length junk) (2 * g .size + length xs) l)
+    pub known-cut : length junk ≡ 2 * g .size + length (s .memory .array) → cutBy (Known g) junk s ≡ left Answers.Done (cutState g junk s) []
+    unfolding cutBy cutFits fits
+    known-cut l = ap fits (eq-eqb (length junk) (2 * g .size + length (s .memory .array)) l)
 
-  pub known-cut : (g : Geometry) → length junk ≡ 2 * g .size + length xs
-      → cutIn (Known g) c xs junk ≡ outcome Answers.Done (chipOf (lost (c .registers) (reaching g (c .registers .operation) junk)) (lostMemory g (c .registers .operation) junk (memoryOf c xs)))
-  unfolding cutIn
-  known-cut g l = simp (eq-eqb (length junk) (2 * g .size + length xs) l)
+    pub cut-script : partIn s ≡ Known g → (length junk ≡ 2 * g .size + length (s .memory .array) → ⊥) → cutOutcome junk s ≡ left Answers.Script s []
+    cut-script e l = cut-known g e ∙ known-script l
 
-  pub known-cut-array : (g : Geometry) → length junk ≡ 2 * g .size + length xs → cutArrayIn (Known g) c xs junk ≡ lostMemory g (c .registers .operation) junk (memoryOf c xs) .array
-  unfolding cutArrayIn
-  known-cut-array g l = simp (eq-eqb (length junk) (2 * g .size + length xs) l)
+    pub cut-done : partIn s ≡ Known g → length junk ≡ 2 * g .size + length (s .memory .array) → cutOutcome junk s ≡ left Answers.Done (cutState g junk s) []
+    cut-done e l = cut-known g e ∙ known-cut l
 
-  pub cut-script : (g : Geometry) → partFor c xs ≡ Known g → (length junk ≡ 2 * g .size + length xs → ⊥) → cutOutcome c xs junk ≡ outcome Answers.Script c
-  cut-script g e l = cut-known g e ∙ known-script g l
+-- ---- what holds of a refusal and of each accepted case holds of what an entry point leaves
+either : (Q : Left → Type 0) (b : Bool) {x y : Left} → Q x → Q y → Q (cond b x y)
+either Q true u v = u
+either Q false u v = v
 
-  pub cut-array-script : (g : Geometry) → partFor c xs ≡ Known g → (length junk ≡ 2 * g .size + length xs → ⊥) → cutArray c xs junk ≡ xs
-  cut-array-script g e l = cut-array-known g e ∙ known-script-array g l
+module _ (s : State) (Q : Left → Type 0) where
+  pub send-cases : (f ys : List ℕ) → ((a : Answer) → Q (left a s ys))
+      → ((g : Geometry) → partIn s ≡ Known g → Q (left Answers.Done (sentState g f s) (replyOf g (s .registers) (s .memory) f))) → Q (sendOutcome s f ys)
+  unfolding sendOutcome sentBy
+  send-cases f ys u v = go (partIn s) refl
+    where
+      go : (p : Part) → partIn s ≡ p → Q (sentBy p s f ys)
+      go Unknown e = u Answers.Part
+      go (Known g) e = either Q (framed (length f) (length ys)) (v g e) (u Answers.Frame)
 
-  pub cut-done : (g : Geometry) → partFor c xs ≡ Known g → length junk ≡ 2 * g .size + length xs
-      → cutOutcome c xs junk ≡ outcome Answers.Done (chipOf (lost (c .registers) (reaching g (c .registers .operation) junk)) (lostMemory g (c .registers .operation) junk (memoryOf c xs)))
-  cut-done g e l = cut-known g e ∙ known-cut g l
+  pub end-cases : ((a : Answer) → Q (left a s [])) → ((g : Geometry) → partIn s ≡ Known g → Q (left Answers.Done (endedState g s) [])) → Q (endOutcome s)
+  unfolding endOutcome endedBy
+  end-cases u v = go (partIn s) refl
+    where
+      go : (p : Part) → partIn s ≡ p → Q (endedBy p s)
+      go Unknown e = u Answers.Part
+      go (Known g) e = v g e
 
-  pub cut-array-done : (g : Geometry) → partFor c xs ≡ Known g → length junk ≡ 2 * g .size + length xs → cutArray c xs junk ≡ lostMemory g (c .registers .operation) junk (memoryOf c xs) .array
-  cut-array-done g e l = cut-array-known g e ∙ known-cut-array g l
+  pub cut-cases : (junk : List ℕ) → ((a : Answer) → Q (left a s [])) → ((g : Geometry) → partIn s ≡ Known g → Q (left Answers.Done (cutState g junk s) [])) → Q (cutOutcome junk s)
+  unfolding cutOutcome cutBy
+  cut-cases junk u v = go (partIn s) refl
+    where
+      go : (p : Part) → partIn s ≡ p → Q (cutBy p junk s)
+      go Unknown e = u Answers.Part
+      go (Known g) e = either Q (cutFits g (length (s .memory .array)) (length junk)) (v g e) (u Answers.Script)

@@ -1,7 +1,7 @@
 -- What the arms of the functions that go by a buffer, an action or an operation share.
 -- Assumes nothing.
-use mathlib.Core.Path.{_≡_, refl, sym, ap, subst, _∙_}
-use mathlib.Core.Bool.{Bool}
+use mathlib.Core.Path.{_≡_, sym, ap, subst, subst⁻¹, _∙_}
+use mathlib.Core.Bool.{Bool, true}
 use mathlib.Core.List.{List, _++_, append-nil}
 use Prim.Native.Nat.{ℕ, _+_, _-_, _*_, _≤_, _<_}
 use native.Mathlib.Nat.{mul-le-mul-right}
@@ -11,11 +11,14 @@ use lib.Seq.{take-at, drop-at, length-take-le}
 use Rattle.slices.specs.Lists.{over}
 use Rattle.slices.proofs.Laws.{splice-zero, head-spliced, tail-part}
 use Rattle.geometry.specs.declared.Geometry.{Geometry}
+use Rattle.geometry.specs.declared.Run.{Run}
 use Rattle.geometry.specs.Parts.{Sized}
 use Rattle.commands.specs.declared.Buffer.{Buffer}
+use Rattle.registers.specs.declared.Named.{Named}
 use Rattle.registers.specs.declared.Operation.{Operation}
-use Rattle.registers.specs.declared.Operation.the-variants.{Idle, Program, ProgramOver, Transfer, Compare, Rewrite, ErasePage, EraseBlock, EraseSector, EraseChip, EraseProtection, ProgramProtection, LockSector, ProgramSecurity}
 use Rattle.registers.specs.declared.Registers.{Registers}
+use Rattle.registers.specs.Operations.{has, within, runNamed, setNamed, targetOf, runOf, sectorsOf}
+use Rattle.registers.proofs.Operations.{target-within}
 use Rattle.control.specs.declared.Action.{Action}
 use Rattle.control.specs.declared.Action.the-variants.{ReadPage, ReadArray, ReadBuffer, WriteBuffer}
 use Rattle.control.specs.declared.Decision.{Decision}
@@ -23,34 +26,32 @@ use Rattle.control.specs.declared.Ruling.{Ruling}
 use Rattle.control.specs.Control.{control}
 use Rattle.control.specs.Rulings.{applied, changed}
 use Rattle.control.specs.Names.{Names}
-use Rattle.control.specs.Obeyed.{usageOf}
 use Rattle.control.proofs.Names.{control-names, control-lead}
+use Rattle.memory.specs.Pages.{inSectors}
 use Rattle.memory.specs.Replies.{replied}
-use Rattle.state.specs.Memory.{Memory, memoryIn}
-use Rattle.state.specs.Frames.{isIdle, isFree, dataOf, replyOf, acted, sentMemory, actedOn}
+use Rattle.memory.proofs.Sectors.{inSectors-none}
+use Rattle.state.specs.Lent.{memoryIn, actedOn}
+use Rattle.state.specs.Memory.{Memory}
+use Rattle.state.specs.Frames.{dataOf, replyOf, acted, sentMemory}
+use Rattle.state.specs.Completion.{inTarget}
 use Rattle.state.proofs.Lent.{acted-lent}
 
 -- a buffer whose beginning was lent and came back as other bytes
 pub begun : (k : ℕ) (xs ys zs : List ℕ) → k ≤ length xs → k ≡ length zs → ys ≡ zs → ys ++ drop k xs ≡ over zs xs
 begun k xs ys zs h l e = head-spliced xs h l e ∙ splice-zero zs xs
 
--- ---- ready or not, by what the operation uses
-pub free-idle : (o : Operation) → isFree (usageOf o) ≡ isIdle o
-unfolding isFree usageOf isIdle
-free-idle Idle = refl
-free-idle (Program b page) = refl
-free-idle (ProgramOver b page) = refl
-free-idle (Transfer b page) = refl
-free-idle (Compare b page) = refl
-free-idle (Rewrite b page) = refl
-free-idle (ErasePage page) = refl
-free-idle (EraseBlock block) = refl
-free-idle (EraseSector s) = refl
-free-idle (EraseChip sectors) = refl
-free-idle EraseProtection = refl
-free-idle (ProgramProtection d) = refl
-free-idle (LockSector s) = refl
-free-idle (ProgramSecurity d) = refl
+-- ---- what an operation erases or programs: a run, then the sectors of a set, or none
+module _ (g : Geometry) (o : Operation) {n : Named} (t : n ≡ targetOf o) where
+  pub target-has : within g o ≡ true → has g n ≡ true
+  target-has h = subst⁻¹ (λ (k : Named). has g k ≡ true) t (target-within g o h)
+
+  module _ (f : Run → List ℕ → List ℕ) (xs ys : List ℕ) {r : Run} {sectors : ℕ} (k : r ≡ runNamed g n) (s : sectors ≡ setNamed n) (h : ys ≡ f r xs) where
+    pub target-sectors : {zs : List ℕ} → zs ≡ inSectors f g sectors ys → zs ≡ inTarget f g o xs
+    unfolding inTarget runOf sectorsOf
+    target-sectors e = e ∙ (λ i. inSectors f g ((s ∙ ap setNamed t) i) ((h ∙ ap (λ (q : Run). f q xs) (k ∙ ap (runNamed g) t)) i))
+
+    pub target-run : sectors ≡ 0 → ys ≡ inTarget f g o xs
+    target-run z = target-sectors (sym (ap (λ (q : ℕ). inSectors f g q ys) z ∙ inSectors-none f g ys))
 
 -- ---- what an action names
 module _ (g : Geometry) (a : Action) where

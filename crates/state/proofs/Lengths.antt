@@ -7,29 +7,27 @@ use lib.ListN.{length, drop}
 use Rattle.slices.proofs.Laws.{length-over}
 use Rattle.slices.proofs.Rings.{length-ringWrite}
 use Rattle.geometry.specs.declared.Geometry.{Geometry}
+use Rattle.geometry.specs.declared.Run.{Run}
 use Rattle.commands.specs.declared.Buffer.{Buffer}
 use Rattle.commands.specs.declared.Buffer.the-variants.{One, Two}
 use Rattle.registers.specs.declared.Operation.{Operation}
-use Rattle.registers.specs.declared.Operation.the-variants.{Idle, Program, ProgramOver, Transfer, Compare, Rewrite, ErasePage, EraseBlock, EraseSector, EraseChip, EraseProtection, ProgramProtection, LockSector, ProgramSecurity}
 use Rattle.registers.specs.declared.Registers.{Registers}
+use Rattle.registers.specs.declared.Work.{Work}
+use Rattle.registers.specs.declared.Work.the-variants.{Rest, Program, ProgramOver, Transfer, Compare, Erase}
 use Rattle.registers.specs.Data.{bytes16, bytes64}
+use Rattle.registers.specs.Facts.{factsOf}
 use Rattle.registers.specs.Operations.{runOf, sectorsOf, bufferUsed}
 use Rattle.control.specs.declared.Action.{Action}
 use Rattle.control.specs.declared.Action.the-variants.{Silent, ReadPage, ReadArray, ReadBuffer, WriteBuffer, LoadProtection, LoadSecurity, ReadProtection, ReadLockdown, ReadSecurity, ReadStatus, ReadId}
 use Rattle.control.specs.Control.{control}
-use Rattle.memory.specs.Pages.{erased, junked}
+use Rattle.memory.specs.Pages.{transferred, erased, junked}
 use Rattle.memory.proofs.Pages.{length-programmed, length-programmedOver, length-erased, length-junked, length-transferred, length-junkBuffer}
 use Rattle.memory.proofs.Sectors.{length-inSectors}
 use Rattle.memory.proofs.Replies.{length-replied}
 use Rattle.state.specs.Memory.{Memory, either}
 use Rattle.state.specs.Frames.{dataOf, replyOf, bufferWritten, written, acted, sentMemory}
-use Rattle.state.specs.Completion.{arrayCompleted, bufferCompleted, completedMemory}
+use Rattle.state.specs.Completion.{inTarget, pageIn, bytesUsed, worked, completedMemory}
 use Rattle.state.specs.PowerLoss.{arrayLost, lostMemory}
-
--- whichever of two lists of one length
-either-length : (b : Buffer) (l k : List ℕ) (n : ℕ) → length l ≡ n → length k ≡ n → length (either b l k) ≡ n
-either-length One l k n p q = p
-either-length Two l k n p q = q
 
 -- ---- a frame
 pub written-length : (g : Geometry) (a : Action) (bytes buffer : List ℕ) → length (written g a bytes buffer) ≡ length buffer
@@ -84,61 +82,50 @@ module _ (g : Geometry) (r : Registers) (f : List ℕ) (m : Memory) where
   reply-length = length-replied (length f) (control g r f .lead) (dataOf g r m (control g r f .action))
 
 -- ---- a busy end
-array-length : (g : Geometry) (o : Operation) (buffer xs : List ℕ) → length (arrayCompleted g o buffer xs) ≡ length xs
-unfolding arrayCompleted
-array-length g Idle buffer xs = refl
-array-length g (Program b page) buffer xs = length-programmed g page buffer xs
-array-length g (ProgramOver b page) buffer xs = length-programmedOver g page buffer xs
-array-length g (Transfer b page) buffer xs = refl
-array-length g (Compare b page) buffer xs = refl
-array-length g (Rewrite b page) buffer xs = refl
-array-length g (ErasePage page) buffer xs = length-erased g (runOf g (ErasePage page)) xs
-array-length g (EraseBlock block) buffer xs = length-erased g (runOf g (EraseBlock block)) xs
-array-length g (EraseSector s) buffer xs = length-erased g (runOf g (EraseSector s)) xs
-array-length g (EraseChip sectors) buffer xs = length-inSectors (erased g) (length-erased g) g sectors xs
-array-length g EraseProtection buffer xs = refl
-array-length g (ProgramProtection d) buffer xs = refl
-array-length g (LockSector s) buffer xs = refl
-array-length g (ProgramSecurity d) buffer xs = refl
 
-buffer-length : (g : Geometry) (o : Operation) (xs buffer : List ℕ) → length (bufferCompleted g o xs buffer) ≡ length buffer
-unfolding bufferCompleted
-buffer-length g Idle xs buffer = refl
-buffer-length g (Program b page) xs buffer = refl
-buffer-length g (ProgramOver b page) xs buffer = refl
-buffer-length g (Transfer b page) xs buffer = length-transferred g page xs buffer
-buffer-length g (Compare b page) xs buffer = refl
-buffer-length g (Rewrite b page) xs buffer = length-transferred g page xs buffer
-buffer-length g (ErasePage page) xs buffer = refl
-buffer-length g (EraseBlock block) xs buffer = refl
-buffer-length g (EraseSector s) xs buffer = refl
-buffer-length g (EraseChip sectors) xs buffer = refl
-buffer-length g EraseProtection xs buffer = refl
-buffer-length g (ProgramProtection d) xs buffer = refl
-buffer-length g (LockSector s) xs buffer = refl
-buffer-length g (ProgramSecurity d) xs buffer = refl
+-- n has lists as long as those of m
+record Long (m n : Memory) : Type 0 where
+  array : length (n .array) ≡ length (m .array)
+  buffer1 : length (n .buffer1) ≡ length (m .buffer1)
+  buffer2 : length (n .buffer2) ≡ length (m .buffer2)
+
+-- f done to what an operation writes, where f keeps lengths
+target-length : (f : Run → List ℕ → List ℕ) → ((r : Run) (xs : List ℕ) → length (f r xs) ≡ length xs) → (g : Geometry) (o : Operation) (xs : List ℕ)
+    → length (inTarget f g o xs) ≡ length xs
+unfolding inTarget
+target-length f h g o xs = length-inSectors f h g (sectorsOf o) (f (runOf g o) xs) ∙ h (runOf g o) xs
 
 module _ (g : Geometry) (o : Operation) (m : Memory) where
+  worked-long : (w : Work) → Long m (worked g o m w)
+  worked-long Rest = record { array = refl; buffer1 = refl; buffer2 = refl }
+  worked-long Program = record { array = length-programmed g (pageIn o) (bytesUsed o m) (m .array); buffer1 = refl; buffer2 = refl }
+  worked-long ProgramOver = record { array = length-programmedOver g (pageIn o) (bytesUsed o m) (m .array); buffer1 = refl; buffer2 = refl }
+  worked-long Transfer =
+      record {
+        array = refl;
+        buffer1 = changed-first (bufferUsed o) (transferred g (pageIn o) (m .array)) (m .buffer1) (m .buffer2) (length-transferred g (pageIn o) (m .array));
+        buffer2 = changed-second (bufferUsed o) (transferred g (pageIn o) (m .array)) (m .buffer1) (m .buffer2) (length-transferred g (pageIn o) (m .array));
+      }
+  worked-long Compare = record { array = refl; buffer1 = refl; buffer2 = refl }
+  worked-long Erase = record { array = target-length (erased g) (length-erased g) g o (m .array); buffer1 = refl; buffer2 = refl }
+
   pub completed-array-length : length (completedMemory g o m .array) ≡ length (m .array)
   unfolding completedMemory
-  completed-array-length = array-length g o (either (bufferUsed o) (m .buffer1) (m .buffer2)) (m .array)
+  completed-array-length = worked-long (factsOf o .work) .array
 
   pub completed-first-length : length (completedMemory g o m .buffer1) ≡ length (m .buffer1)
   unfolding completedMemory
-  completed-first-length =
-      either-length (bufferUsed o) (bufferCompleted g o (m .array) (m .buffer1)) (m .buffer1) (length (m .buffer1)) (buffer-length g o (m .array) (m .buffer1)) refl
+  completed-first-length = worked-long (factsOf o .work) .buffer1
 
   pub completed-second-length : length (completedMemory g o m .buffer2) ≡ length (m .buffer2)
   unfolding completedMemory
-  completed-second-length =
-      either-length (bufferUsed o) (m .buffer2) (bufferCompleted g o (m .array) (m .buffer2)) (length (m .buffer2)) refl (buffer-length g o (m .array) (m .buffer2))
+  completed-second-length = worked-long (factsOf o .work) .buffer2
 
 -- ---- a cut
 module _ (g : Geometry) (o : Operation) (junk : List ℕ) (m : Memory) where
   pub lost-array-length : length (lostMemory g o junk m .array) ≡ length (m .array)
   unfolding lostMemory arrayLost
-  lost-array-length =
-      length-inSectors (junked g junk) (length-junked g junk) g (sectorsOf o) (junked g junk (runOf g o) (m .array)) ∙ length-junked g junk (runOf g o) (m .array)
+  lost-array-length = target-length (junked g junk) (length-junked g junk) g o (m .array)
 
   pub lost-first-length : length (lostMemory g o junk m .buffer1) ≡ length (m .buffer1)
   unfolding lostMemory

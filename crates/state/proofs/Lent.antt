@@ -14,8 +14,9 @@ use Rattle.commands.specs.declared.Buffer.{Buffer}
 use Rattle.commands.specs.declared.Buffer.the-variants.{One, Two}
 use Rattle.control.specs.declared.Action.{Action}
 use Rattle.state.specs.declared.Chip.{Chip}
-use Rattle.state.specs.Memory.{bufferStart, lent, memoryIn, memoryOf, bufferIn, putBuffer}
-use Rattle.state.specs.Frames.{bufferWritten, written, acted, actedOn}
+use Rattle.state.specs.Lent.{bufferStart, lent, memoryIn, actedOn}
+use Rattle.state.specs.Memory.{memoryOf, bufferIn, putBuffer}
+use Rattle.state.specs.Frames.{bufferWritten, written, acted}
 use Rattle.state.proofs.Lengths.{written-length}
 
 -- a part stored where it was
@@ -54,7 +55,7 @@ module _ (bs : List ℕ) (long : length bs ≡ 528) where
         compare = bit;
       }
 
-lent-in : (b : Buffer) (xs bs : List ℕ) (bit : Bool) → lent b bs ≡ bufferIn b (memoryIn xs bs bit)
+pub lent-in : (b : Buffer) (xs bs : List ℕ) (bit : Bool) → lent b bs ≡ bufferIn b (memoryIn xs bs bit)
 lent-in One xs bs bit = refl
 lent-in Two xs bs bit = refl
 

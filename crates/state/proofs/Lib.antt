@@ -6,5 +6,6 @@ pub mod Lengths
 pub mod Loads
 pub mod Keeps
 pub mod Placed
+pub mod Whole
 pub mod Lent
 pub mod Arms

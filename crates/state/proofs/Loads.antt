@@ -3,7 +3,7 @@
 -- Assumes nothing.
 use mathlib.Core.Path.{_≡_, refl, sym, ap, subst, _∙_}
 use mathlib.Core.Bool.{Bool, true, false, cond}
-use mathlib.Core.List.{List, _∷_}
+use mathlib.Core.List.{List, [], _∷_}
 use Prim.Native.Nat.{ℕ, _*_, _/_, _%_, _<_, _≤_}
 use native.Mathlib.Nat.{zero-mod}
 use native.Mathlib.Omega.{arith}
@@ -16,7 +16,7 @@ use Rattle.geometry.specs.declared.Part.the-variants.{Known}
 use Rattle.geometry.specs.Parts.{Sized, addressAt, pageAt, byteAt, pageOf, run}
 use Rattle.geometry.specs.Sectors.{sectorOf}
 use Rattle.commands.specs.declared.Buffer.{Buffer}
-use Rattle.commands.specs.declared.Buffer.the-variants.{One, Two}
+use Rattle.commands.specs.declared.Buffer.the-variants.{One}
 use Rattle.commands.specs.declared.Decoded.{Decoded}
 use Rattle.commands.specs.declared.Effect.{Effect}
 use Rattle.commands.specs.declared.Effect.the-variants as E
@@ -25,7 +25,7 @@ use Rattle.commands.proofs.Frames.{decode-status, decode-protection, decode-loc
 use Rattle.registers.specs.declared.Operation.{Operation}
 use Rattle.registers.specs.declared.Operation.the-variants.{Idle, Program, EraseBlock}
 use Rattle.registers.specs.declared.Registers.{Registers}
-use Rattle.registers.specs.Operations.{bufferUsed, runOf}
+use Rattle.registers.specs.Operations.{bufferUsed, runOf, sectorsOf}
 use Rattle.registers.specs.Protection.{sealed}
 use Rattle.control.specs.declared.Action.the-variants as A
 use Rattle.control.specs.declared.Decision.{Decision}
@@ -34,15 +34,14 @@ use Rattle.control.specs.Starts.{Ready}
 use Rattle.control.proofs.Rows.{control-cases}
 use Rattle.control.proofs.Frames.{load-obeyed}
 use Rattle.control.proofs.Ends.{completed-idle}
-use Rattle.memory.specs.Pages.{programmed, erased}
+use Rattle.memory.specs.Pages.{programmed, erased, eachSector, inSectors}
 use Rattle.memory.proofs.Pages.{programmed-page, programmed-other}
 use Rattle.state.specs.declared.Answer.the-variants as Answers
-use Rattle.state.specs.declared.Chip.{Chip}
-use Rattle.state.specs.Memory.{Memory, memoryOf, chipOf, bufferIn, putBuffer}
+use Rattle.state.specs.Memory.{Memory, State, bufferIn, putBuffer}
 use Rattle.state.specs.Frames.{bufferWritten, written, acted, sentMemory}
-use Rattle.state.specs.Completion.{arrayCompleted, bufferCompleted, compareCompleted, completedMemory}
-use Rattle.state.specs.Outcomes.{outcome, partFor, endOutcome, endArray}
-use Rattle.state.proofs.Accepted.{end-done, end-array-done}
+use Rattle.state.specs.Completion.{inTarget, completedMemory}
+use Rattle.state.specs.Outcomes.{left, partIn, endedState, endOutcome}
+use Rattle.state.proofs.Accepted.{end-done}
 
 -- ---- 84
 module _ (g : Geometry) (r : Registers) (m : Memory) where
@@ -139,19 +138,19 @@ module _ (g : Geometry) (r : Registers) (m : Memory) where
 -- ---- a busy end
 -- "a busy end while idle changes nothing"
 pub idle-memory : (g : Geometry) (o : Operation) (m : Memory) → o ≡ Idle → completedMemory g o m ≡ m
-unfolding completedMemory arrayCompleted bufferCompleted compareCompleted bufferUsed
+unfolding completedMemory
 idle-memory g o m e = λ i. completedMemory g (e i) m
 
-pub end-idle : (c : Chip) (xs : List ℕ) (g : Geometry) → partFor c xs ≡ Known g → c .registers .operation ≡ Idle → (endOutcome c xs ≡ outcome Answers.Done c) × (endArray c xs ≡ xs)
-end-idle c xs g p e = (
-  end-done c xs g p ∙ (λ i. outcome Answers.Done (chipOf (completed-idle (c .registers) e i) (idle-memory g (c .registers .operation) (memoryOf c xs) e i))),
-  end-array-done c xs g p ∙ ap (λ (m : Memory). m .array) (idle-memory g (c .registers .operation) (memoryOf c xs) e),
-)
+pub end-idle : (s : State) (g : Geometry) → partIn s ≡ Known g → s .registers .operation ≡ Idle → endOutcome s ≡ left Answers.Done s []
+unfolding endedState
+end-idle s g p e =
+    end-done s g p
+    ∙ (λ i. left Answers.Done (record { registers = completed-idle (s .registers) e i; memory = idle-memory g (s .registers .operation) (s .memory) e i }) [])
 
 -- 83/86, 82/85: the page is the buffer, the other pages, the buffers and the compare bit are as they were
 module _ (g : Geometry) (b : Buffer) (page : ℕ) (m : Memory) where
   pub program-array : completedMemory g (Program b page) m .array ≡ programmed g page (bufferIn b m) (m .array)
-  unfolding completedMemory arrayCompleted bufferUsed
+  unfolding completedMemory bufferUsed
   program-array = refl
 
   pub program-page : Sized g (length (m .array)) → page < g .pages → g .size ≤ length (bufferIn b m)
@@ -163,11 +162,10 @@ module _ (g : Geometry) (b : Buffer) (page : ℕ) (m : Memory) where
 
 pub program-rest : (g : Geometry) (b : Buffer) (page : ℕ) (m : Memory)
     → (completedMemory g (Program b page) m .buffer1 ≡ m .buffer1) × (completedMemory g (Program b page) m .buffer2 ≡ m .buffer2) × (completedMemory g (Program b page) m .compare ≡ m .compare)
-unfolding completedMemory bufferCompleted compareCompleted bufferUsed
-program-rest g One page m = (refl, refl, refl)
-program-rest g Two page m = (refl, refl, refl)
+unfolding completedMemory
+program-rest g b page m = (refl, refl, refl)
 
 -- 50: the block's pages are FFh
 pub erase-block-array : (g : Geometry) (block : ℕ) (m : Memory) → completedMemory g (EraseBlock block) m .array ≡ erased g (run (8 * block) 8) (m .array)
-unfolding completedMemory arrayCompleted runOf
+unfolding completedMemory inTarget runOf sectorsOf inSectors eachSector
 erase-block-array g block m = refl

@@ -5,8 +5,12 @@ use mathlib.Core.Bool.{Bool, true, false, cond}
 use Prim.Native.Nat.{_/_, _%_, _<_}
 use native.Mathlib.Omega.{arith}
 use Rattle.registers.specs.declared.Operation.{Operation}
-use Rattle.registers.specs.declared.Operation.the-variants.{Idle, Program, ProgramOver, Transfer, Compare, Rewrite, ErasePage, EraseBlock, EraseSector, EraseChip, EraseProtection, ProgramProtection, LockSector, ProgramSecurity}
-use Rattle.state.specs.Frames.{isIdle, statusOf}
+use Rattle.registers.specs.declared.Operation.the-variants.{Idle}
+use Rattle.registers.specs.declared.Usage.{Usage}
+use Rattle.registers.specs.declared.Usage.the-variants.{Free, Uses, NoBuffer, Exclusive}
+use Rattle.registers.specs.Facts.{factsOf}
+use Rattle.registers.proofs.Operations.{free-idle}
+use Rattle.state.specs.Frames.{isFree, isIdle, statusOf}
 
 -- bit 7: ready
 pub status-ready : (ready compare protect : Bool) → statusOf ready compare protect / 128 ≡ cond ready 1 0
@@ -57,22 +61,15 @@ status-small false false true = omega arith
 status-small false false false = omega arith
 
 -- ---- idle
+free : (u : Usage) → isFree u ≡ true → u ≡ Free
+free Free e = refl
+free (Uses b) e = cc
+free NoBuffer e = cc
+free Exclusive e = cc
+
 pub idle-is : (o : Operation) → isIdle o ≡ true → o ≡ Idle
 unfolding isIdle
-idle-is Idle e = refl
-idle-is (Program b page) e = cc
-idle-is (ProgramOver b page) e = cc
-idle-is (Transfer b page) e = cc
-idle-is (Compare b page) e = cc
-idle-is (Rewrite b page) e = cc
-idle-is (ErasePage page) e = cc
-idle-is (EraseBlock block) e = cc
-idle-is (EraseSector s) e = cc
-idle-is (EraseChip sectors) e = cc
-idle-is EraseProtection e = cc
-idle-is (ProgramProtection d) e = cc
-idle-is (LockSector s) e = cc
-idle-is (ProgramSecurity d) e = cc
+idle-is o e = free-idle o (free (factsOf o .usage) e)
 
 pub is-idle : isIdle Idle ≡ true
 unfolding isIdle

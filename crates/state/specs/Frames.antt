@@ -4,46 +4,33 @@ use Prim.Native.Nat.{ℕ, _+_}
 use mathlib.Core.Bool.{Bool, true, false, cond}
 use mathlib.Core.List.{List, [], _∷_, _++_}
 use lib.ListN.{length, drop}
-use Rattle.slices.specs.Lists.{over, splice, ringWrite}
+use Rattle.slices.specs.Lists.{over, ringWrite}
 use Rattle.geometry.specs.declared.Geometry.{Geometry}
 use Rattle.geometry.specs.Parts.{pageOf}
 use Rattle.commands.specs.declared.Buffer.{Buffer}
 use Rattle.commands.specs.declared.Buffer.the-variants.{One}
 use Rattle.registers.specs.declared.Operation.{Operation}
-use Rattle.registers.specs.declared.Operation.the-variants.{Idle, Program, ProgramOver, Transfer, Compare, Rewrite, ErasePage, EraseBlock, EraseSector, EraseChip, EraseProtection, ProgramProtection, LockSector, ProgramSecurity}
 use Rattle.registers.specs.declared.Registers.{Registers}
+use Rattle.registers.specs.declared.Usage.{Usage}
+use Rattle.registers.specs.declared.Usage.the-variants.{Free, Uses, NoBuffer, Exclusive}
 use Rattle.registers.specs.Data.{bytes16, bytes64}
+use Rattle.registers.specs.Facts.{factsOf}
 use Rattle.registers.specs.Protection.{guarded}
 use Rattle.control.specs.declared.Action.{Action}
 use Rattle.control.specs.declared.Action.the-variants.{Silent, ReadPage, ReadArray, ReadBuffer, WriteBuffer, LoadProtection, LoadSecurity, ReadProtection, ReadLockdown, ReadSecurity, ReadStatus, ReadId}
-use Rattle.control.specs.declared.Usage.{Usage}
-use Rattle.control.specs.declared.Usage.the-variants.{Free, NoBuffer, Uses, Exclusive}
 use Rattle.control.specs.Control.{control}
 use Rattle.memory.specs.Replies.{replied, noData, onceData, ringData}
-use Rattle.state.specs.Memory.{Memory, bufferIn, putBuffer, bufferStart, lent}
+use Rattle.state.specs.Memory.{Memory, bufferIn, putBuffer}
+
+-- no operation is under way
+abbrev pub isFree : Usage → Bool
+isFree Free = true
+isFree (Uses b) = false
+isFree NoBuffer = false
+isFree Exclusive = false
 
 unfoldable pub isIdle : Operation → Bool
-isIdle Idle = true
-isIdle (Program b page) = false
-isIdle (ProgramOver b page) = false
-isIdle (Transfer b page) = false
-isIdle (Compare b page) = false
-isIdle (Rewrite b page) = false
-isIdle (ErasePage page) = false
-isIdle (EraseBlock block) = false
-isIdle (EraseSector s) = false
-isIdle (EraseChip sectors) = false
-isIdle EraseProtection = false
-isIdle (ProgramProtection d) = false
-isIdle (LockSector s) = false
-isIdle (ProgramSecurity d) = false
-
--- the same by what the operation uses
-unfoldable pub isFree : Usage → Bool
-isFree Free = true
-isFree NoBuffer = false
-isFree (Uses b) = false
-isFree Exclusive = false
+isIdle o = isFree (factsOf o .usage)
 
 -- "Status: bit 7 ready, bit 6 compare, bits 5-2 = 1001, bit 1 = mark set or WP low, bit 0 = 0."
 unfoldable pub statusOf : Bool → Bool → Bool → ℕ
@@ -109,7 +96,3 @@ acted g a bytes m = putBuffer (bufferWritten a) (written g a bytes (bufferIn (bu
 -- the memory after a frame
 unfoldable pub sentMemory : Geometry → Registers → List ℕ → Memory → Memory
 sentMemory g r f m = acted g (control g r f .action) (drop (control g r f .lead) f) m
-
--- the same of the buffers as they are lent
-unfoldable pub actedOn : Geometry → Action → List ℕ → List ℕ → List ℕ
-actedOn g a bytes bs = splice (bufferStart (bufferWritten a)) (written g a bytes (lent (bufferWritten a) bs)) bs

@@ -4,3 +4,5 @@ pub mod Frames
 pub mod Completion
 pub mod PowerLoss
 pub mod Outcomes
+pub mod Whole
+pub mod Lent

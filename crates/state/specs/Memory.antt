@@ -1,13 +1,16 @@
--- The half of the chip that is no register: the lent array, the two buffers and the compare bit.
+-- The chip and its array in two halves: the registers, and the memory, which is the lent array, the two buffers and the compare bit.
 -- Assumes nothing.
 use Prim.Native.Nat.{ℕ}
 use mathlib.Core.Bool.{Bool}
 use mathlib.Core.List.{List}
-use lib.ListN.{take, drop}
 use Rattle.commands.specs.declared.Buffer.{Buffer}
 use Rattle.commands.specs.declared.Buffer.the-variants.{One, Two}
 use Rattle.registers.specs.declared.Registers.{Registers}
 use Rattle.state.specs.declared.Chip.{Chip}
+
+-- the bytes of a buffer
+abbrev pub bufferSize : ℕ
+bufferSize = 264
 
 pub record Memory : Type 0 where
   pub array : List ℕ
@@ -15,17 +18,35 @@ pub record Memory : Type 0 where
   pub buffer2 : List ℕ
   pub compare : Bool
 
--- a chip record and its array, taken apart
+pub record State : Type 0 where
+  pub registers : Registers
+  pub memory : Memory
+
+-- ---- a chip record and its array, taken apart and put together
+
 abbrev pub memoryOf : Chip → List ℕ → Memory
 memoryOf c xs = record { array = xs; buffer1 = c .buffer1; buffer2 = c .buffer2; compare = c .compare }
 
--- and put together
+abbrev pub stateOf : Chip → List ℕ → State
+stateOf c xs = record { registers = c .registers; memory = memoryOf c xs }
+
 abbrev pub chipOf : Registers → Memory → Chip
 chipOf r m = record { registers = r; buffer1 = m .buffer1; buffer2 = m .buffer2; compare = m .compare }
+
+abbrev pub chipIn : State → Chip
+chipIn s = chipOf (s .registers) (s .memory)
 
 -- the chip with other registers
 abbrev pub withRegisters : Chip → Registers → Chip
 withRegisters c r = record { registers = r; buffer1 = c .buffer1; buffer2 = c .buffer2; compare = c .compare }
+
+-- ---- the memory with one of its parts changed
+
+abbrev pub withArray : Memory → List ℕ → Memory
+withArray m xs = record { array = xs; buffer1 = m .buffer1; buffer2 = m .buffer2; compare = m .compare }
+
+abbrev pub withCompare : Memory → Bool → Memory
+withCompare m bit = record { array = m .array; buffer1 = m .buffer1; buffer2 = m .buffer2; compare = bit }
 
 -- the first for buffer 1, the second for buffer 2
 abbrev pub either : Buffer → List ℕ → List ℕ → List ℕ
@@ -36,20 +57,5 @@ either Two l k = k
 abbrev pub bufferIn : Buffer → Memory → List ℕ
 bufferIn b m = either b (m .buffer1) (m .buffer2)
 
--- the memory with these bytes in a buffer
 abbrev pub putBuffer : Buffer → List ℕ → Memory → Memory
 putBuffer b l m = record { array = m .array; buffer1 = either b l (m .buffer1); buffer2 = either b (m .buffer2) l; compare = m .compare }
-
--- ---- the two buffers as one list of 528 bytes, as they are lent
-
--- where a buffer begins
-abbrev pub bufferStart : Buffer → ℕ
-bufferStart One = 0
-bufferStart Two = 264
-
-abbrev pub lent : Buffer → List ℕ → List ℕ
-lent b bs = take 264 (drop (bufferStart b) bs)
-
--- array, buffers and compare bit, put together
-abbrev pub memoryIn : List ℕ → List ℕ → Bool → Memory
-memoryIn xs bs bit = record { array = xs; buffer1 = lent One bs; buffer2 = lent Two bs; compare = bit }

@@ -1,10 +1,12 @@
 -- What each entry point answers and leaves, for accepted and refused input: a refusal changes nothing.
 -- Assumes nothing.
 use Prim.Native.Nat.{ℕ, _+_, _*_}
+use mathlib.Core.Path.{_≡_}
 use mathlib.Core.Bool.{Bool, true, false, cond, _&&_}
-use mathlib.Core.List.{List}
+use mathlib.Core.List.{List, []}
 use lib.ListN.{length, replicate}
 use lib.Dec.{eqb, leb}
+use Rattle.geometry.specs.declared.Geometry.{Geometry}
 use Rattle.geometry.specs.declared.Part.{Part}
 use Rattle.geometry.specs.declared.Part.the-variants.{Known, Unknown}
 use Rattle.geometry.specs.Parts.{partOf}
@@ -17,19 +19,31 @@ use Rattle.control.specs.Completion.{completed}
 use Rattle.control.specs.PowerLoss.{reaching, lost}
 use Rattle.state.specs.declared.Answer.{Answer}
 use Rattle.state.specs.declared.Answer.the-variants as Answers
-use Rattle.state.specs.declared.Chip.{Chip}
 use Rattle.state.specs.declared.Outcome.{Outcome}
-use Rattle.state.specs.Memory.{memoryOf, chipOf, withRegisters}
+use Rattle.state.specs.Memory.{State, chipIn, bufferSize}
 use Rattle.state.specs.Frames.{replyOf, sentMemory}
 use Rattle.state.specs.Completion.{completedMemory}
 use Rattle.state.specs.PowerLoss.{lostMemory}
 
-abbrev pub outcome : Answer → Chip → Outcome
-outcome a c = record { answer = a; chip = c }
+-- what an entry point answers and leaves: the reply is [] where none is lent
+pub record Left : Type 0 where
+  pub answer : Answer
+  pub state : State
+  pub reply : List ℕ
+
+abbrev pub left : Answer → State → List ℕ → Left
+left a s reply = record { answer = a; state = s; reply = reply }
+
+-- a function of crate chip that returns r, and at whose exit array and reply are xs and ys, leaves o
+pub record Leaves (o : Left) (r : Outcome) (xs ys : List ℕ) : Type 0 where
+  pub answer : r .answer ≡ o .answer
+  pub chip : r .chip ≡ chipIn (o .state)
+  pub array : xs ≡ o .state .memory .array
+  pub reply : ys ≡ o .reply
 
 -- the part, by the array's length and the operation under way; Unknown is answer 1
-abbrev pub partFor : Chip → List ℕ → Part
-partFor c xs = placed (length xs) (c .registers .operation)
+abbrev pub partIn : State → Part
+partIn s = placed (length (s .memory .array)) (s .registers .operation)
 
 -- ---- fresh: "array and user bytes FFh, other bytes 0 (factory bytes given), marks off, WP high, idle"
 
@@ -47,23 +61,19 @@ freshRegisters factory =
       operation = Idle;
     }
 
-unfoldable pub freshChip : List ℕ → Chip
-freshChip factory =
-    record { registers = freshRegisters factory; buffer1 = replicate 264 0; buffer2 = replicate 264 0; compare = false }
+unfoldable pub freshState : List ℕ → List ℕ → State
+freshState factory xs =
+    record {
+      registers = freshRegisters factory;
+      memory = record { array = xs; buffer1 = replicate bufferSize 0; buffer2 = replicate bufferSize 0; compare = false };
+    }
 
-unfoldable pub freshAnswer : Part → Answer
-freshAnswer (Known g) = Answers.Done
-freshAnswer Unknown = Answers.Part
+unfoldable pub freshBy : Part → List ℕ → List ℕ → Left
+freshBy Unknown factory xs = left Answers.Part (freshState factory xs) []
+freshBy (Known g) factory xs = left Answers.Done (freshState factory (replicate (length xs) 255)) []
 
-unfoldable pub freshOutcome : List ℕ → List ℕ → Outcome
-freshOutcome factory xs = outcome (freshAnswer (partOf (length xs))) (freshChip factory)
-
-unfoldable pub freshFilled : Part → List ℕ → List ℕ
-freshFilled (Known g) xs = replicate (length xs) 255
-freshFilled Unknown xs = xs
-
-unfoldable pub freshArray : List ℕ → List ℕ
-freshArray xs = freshFilled (partOf (length xs)) xs
+unfoldable pub freshOutcome : List ℕ → List ℕ → Left
+freshOutcome factory xs = freshBy (partOf (length xs)) factory xs
 
 -- ---- a frame sent straight: it "can meet 1 and 2 only"
 
@@ -71,64 +81,57 @@ freshArray xs = freshFilled (partOf (length xs)) xs
 unfoldable pub framed : ℕ → ℕ → Bool
 framed n m = leb 1 n && (leb n 1100 && eqb n m)
 
-unfoldable pub sentTo : Part → Chip → List ℕ → List ℕ → ℕ → Outcome
-sentTo Unknown c xs f n = outcome Answers.Part c
-sentTo (Known g) c xs f n =
-    cond (framed (length f) n)
-    (outcome Answers.Done (chipOf (control g (c .registers) f .registers) (sentMemory g (c .registers) f (memoryOf c xs))))
-    (outcome Answers.Frame c)
+unfoldable pub sentState : Geometry → List ℕ → State → State
+sentState g f s = record { registers = control g (s .registers) f .registers; memory = sentMemory g (s .registers) f (s .memory) }
 
--- record and array, frame, length of the lent reply
-unfoldable pub sendOutcome : Chip → List ℕ → List ℕ → ℕ → Outcome
-sendOutcome c xs f n = sentTo (partFor c xs) c xs f n
+unfoldable pub sentBy : Part → State → List ℕ → List ℕ → Left
+sentBy Unknown s f reply = left Answers.Part s reply
+sentBy (Known g) s f reply =
+    cond (framed (length f) (length reply))
+    (left Answers.Done (sentState g f s) (replyOf g (s .registers) (s .memory) f))
+    (left Answers.Frame s reply)
 
-unfoldable pub repliedBy : Part → Chip → List ℕ → List ℕ → List ℕ → List ℕ
-repliedBy Unknown c xs f ys = ys
-repliedBy (Known g) c xs f ys = cond (framed (length f) (length ys)) (replyOf g (c .registers) (memoryOf c xs) f) ys
-
--- the lent reply at exit
-unfoldable pub sendReply : Chip → List ℕ → List ℕ → List ℕ → List ℕ
-sendReply c xs f ys = repliedBy (partFor c xs) c xs f ys
+-- the frame, and the lent reply
+unfoldable pub sendOutcome : State → List ℕ → List ℕ → Left
+sendOutcome s f reply = sentBy (partIn s) s f reply
 
 -- ---- a busy end: it can meet 1; "a busy end while idle changes nothing"
 
-unfoldable pub endedIn : Part → Chip → List ℕ → Outcome
-endedIn Unknown c xs = outcome Answers.Part c
-endedIn (Known g) c xs =
-    outcome Answers.Done (chipOf (completed (c .registers)) (completedMemory g (c .registers .operation) (memoryOf c xs)))
+unfoldable pub endedState : Geometry → State → State
+endedState g s = record { registers = completed (s .registers); memory = completedMemory g (s .registers .operation) (s .memory) }
 
-unfoldable pub endOutcome : Chip → List ℕ → Outcome
-endOutcome c xs = endedIn (partFor c xs) c xs
+unfoldable pub endedBy : Part → State → Left
+endedBy Unknown s = left Answers.Part s []
+endedBy (Known g) s = left Answers.Done (endedState g s) []
 
-unfoldable pub endedArray : Part → Chip → List ℕ → List ℕ
-endedArray Unknown c xs = xs
-endedArray (Known g) c xs = completedMemory g (c .registers .operation) (memoryOf c xs) .array
-
-unfoldable pub endArray : Chip → List ℕ → List ℕ
-endArray c xs = endedArray (partFor c xs) c xs
+unfoldable pub endOutcome : State → Left
+endOutcome s = endedBy (partIn s) s
 
 -- ---- a pin move: it meets none
 
-unfoldable pub pinOutcome : Chip → Bool → Outcome
-pinOutcome c high = outcome Answers.Done (withRegisters c (withWp (c .registers) high))
+unfoldable pub pinnedState : Bool → State → State
+pinnedState high s = record { registers = withWp (s .registers) high; memory = s .memory }
+
+unfoldable pub pinOutcome : Bool → State → Left
+pinOutcome high s = left Answers.Done (pinnedState high s) []
 
 -- ---- a cut: it can meet 1 and 7, "a cut with J of another length": "junk J of 528 + 264P bytes"
 
-unfoldable pub cutIn : Part → Chip → List ℕ → List ℕ → Outcome
-cutIn Unknown c xs junk = outcome Answers.Part c
-cutIn (Known g) c xs junk =
-    cond (eqb (length junk) (2 * g .size + length xs))
-    (outcome Answers.Done
-    (chipOf (lost (c .registers) (reaching g (c .registers .operation) junk)) (lostMemory g (c .registers .operation) junk (memoryOf c xs))))
-    (outcome Answers.Script c)
+unfoldable pub cutState : Geometry → List ℕ → State → State
+cutState g junk s =
+    record {
+      registers = lost (s .registers) (reaching g (s .registers .operation) junk);
+      memory = lostMemory g (s .registers .operation) junk (s .memory);
+    }
 
-unfoldable pub cutOutcome : Chip → List ℕ → List ℕ → Outcome
-cutOutcome c xs junk = cutIn (partFor c xs) c xs junk
+-- the lengths of array and junk
+unfoldable pub cutFits : Geometry → ℕ → ℕ → Bool
+cutFits g array junk = eqb junk (2 * g .size + array)
 
-unfoldable pub cutArrayIn : Part → Chip → List ℕ → List ℕ → List ℕ
-cutArrayIn Unknown c xs junk = xs
-cutArrayIn (Known g) c xs junk =
-    cond (eqb (length junk) (2 * g .size + length xs)) (lostMemory g (c .registers .operation) junk (memoryOf c xs) .array) xs
+unfoldable pub cutBy : Part → List ℕ → State → Left
+cutBy Unknown junk s = left Answers.Part s []
+cutBy (Known g) junk s =
+    cond (cutFits g (length (s .memory .array)) (length junk)) (left Answers.Done (cutState g junk s) []) (left Answers.Script s [])
 
-unfoldable pub cutArray : Chip → List ℕ → List ℕ → List ℕ
-cutArray c xs junk = cutArrayIn (partFor c xs) c xs junk
+unfoldable pub cutOutcome : List ℕ → State → Left
+cutOutcome junk s = cutBy (partIn s) junk s

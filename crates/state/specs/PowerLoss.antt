@@ -5,13 +5,13 @@ use mathlib.Core.Bool.{false}
 use mathlib.Core.List.{List}
 use Rattle.geometry.specs.declared.Geometry.{Geometry}
 use Rattle.registers.specs.declared.Operation.{Operation}
-use Rattle.registers.specs.Operations.{runOf, sectorsOf}
-use Rattle.memory.specs.Pages.{junked, inSectors, junkBuffer}
+use Rattle.memory.specs.Pages.{junked, junkBuffer}
 use Rattle.state.specs.Memory.{Memory}
+use Rattle.state.specs.Completion.{inTarget}
 
 -- "Array bytes that the operation under way would erase or program become J at 528 plus their array address"
 unfoldable pub arrayLost : Geometry → Operation → List ℕ → List ℕ → List ℕ
-arrayLost g o junk xs = inSectors (junked g junk) g (sectorsOf o) (junked g junk (runOf g o) xs)
+arrayLost g o junk xs = inTarget (junked g junk) g o xs
 
 -- "Buffers become J's first 264 bytes and the next 264. .. the compare bit go[es] to 0"
 unfoldable pub lostMemory : Geometry → Operation → List ℕ → Memory → Memory

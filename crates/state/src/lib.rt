@@ -4,7 +4,8 @@ ghost use mathlib.Core.Path.{_≡_};
 ghost use mathlib.Core.List.{[], _++_};
 ghost use Prim.Native.Nat.{_≤_};
 ghost use Rattle.state.specs.Answers.{numberOf};
-ghost use Rattle.state.specs.Memory.{chipOf, withRegisters, bufferStart, memoryIn};
+ghost use Rattle.state.specs.Lent.{bufferStart, memoryIn};
+ghost use Rattle.state.specs.Memory.{chipOf, withRegisters};
 use commands::Buffer;
 use registers::Registers;
 

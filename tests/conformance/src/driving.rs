@@ -145,9 +145,10 @@ impl LibraryDriver {
     }
 
     fn turn(&self, len: usize) -> Turn {
-        match len {
-            0 => Turn::End(driver::answer(&self.state)),
-            len => Turn::Frame(self.frame[..len].to_vec()),
+        match (len, driver::answer(&self.state)) {
+            (0, Some(answer)) => Turn::End(answer),
+            (1.., None) => Turn::Frame(self.frame[..len].to_vec()),
+            (len, answer) => panic!("a frame of {len} bytes and the answer {answer:?}"),
         }
     }
 }
@@ -200,7 +201,7 @@ impl Driver for LibraryDriver {
     }
 
     fn recipe(&self) -> Vec<u8> {
-        let n = usize::from(u16::from_be_bytes([self.staged[1], self.staged[2]]));
-        self.staged[3..][..n.min(MAX_RECIPE)].to_vec()
+        let n = driver::count(&self.state, &self.staged);
+        self.staged[3..][..n].to_vec()
     }
 }

@@ -34,30 +34,100 @@ fn drivers_yield_the_same_frames() {
     assert!(frames >= 5 * CASES);
 }
 
-/// No state that a caller makes leads the driver astray.
-#[test]
-fn any_state_gives_a_frame_or_the_end() {
-    let mut rng = Rng::new(1);
-    for _ in 0..200_000 {
-        let mut state = [0; driver::STATE_LEN];
+/// The opcodes of a call's frames, by the byte of a state that names the call.
+fn opcodes(call: u8) -> &'static [u8] {
+    match call {
+        0x0F => &[0xD7, 0x32, 0x35, 0x84, 0x83],
+        0x33 => &[0xD7, 0x32, 0x35, 0xD2, 0x84, 0x83],
+        0x55 => &[0xD7, 0xD2],
+        0xF0 => &[0xD7, 0x32, 0x35, 0x50],
+        _ => &[],
+    }
+}
+
+/// A state of any bytes, of a start, or of a start with bytes changed.
+fn any_state(rng: &mut Rng) -> driver::State {
+    let mut state = [0; driver::STATE_LEN];
+    if rng.one_in(4) {
         rng.fill(&mut state);
-        if rng.one_in(2) {
-            let zeros = rng.below(driver::STATE_LEN);
-            state[zeros..].fill(0);
-        }
-        let mut payload = vec![0; rng.below(2200)];
+        return state;
+    }
+    let (slot, limit, payload) = (rng.below(520), rng.below(4), vec![0; rng.below(9)]);
+    match rng.below(4) {
+        0 => driver::start_put(&mut state, 1_081_344, slot, limit, &payload),
+        1 => driver::start_patch(&mut state, 1_081_344, slot, limit, 3, &payload),
+        2 => driver::start_get(&mut state, 1_081_344, slot, limit, 2109),
+        _ => driver::start_wipe(&mut state, 1_081_344, slot, limit),
+    }
+    for _ in 0..rng.below(4) {
+        let at = rng.below(driver::STATE_LEN);
+        state[at] = if rng.one_in(2) {
+            rng.byte()
+        } else {
+            state[at] ^ 1 << rng.below(8)
+        };
+    }
+    state[4] = if rng.one_in(2) { state[4] } else { rng.byte() % 40 };
+    state
+}
+
+/// No state that a caller makes leads the driver astray: it gives frames of the call that it names, and
+/// has an answer exactly when it has none; it ends within the bound.
+#[test]
+fn any_state_gives_frames_of_its_call_and_ends() {
+    let mut rng = Rng::new(1);
+    let (mut going, mut longest) = (0, 0);
+    for _ in 0..60_000 {
+        let mut state = any_state(&mut rng);
+        let limit = u64::from_be_bytes(state[24..32].try_into().expect("eight bytes"));
+        let bound = 9 * limit.min(1000) + 26;
+        let mut payload = vec![0; rng.below(20)];
         rng.fill(&mut payload);
         let (mut staged, mut frame) = ([0; SLOT_LEN], [0; DRIVER_FRAME_LEN]);
-        for _ in 0..4 {
-            let len = driver::frame(&state, &payload, &staged, &mut frame);
-            assert!(
-                [0, 2, 4, 20, 268, 272].contains(&len),
-                "{state:02X?}: {len}"
-            );
-            assert!(len > 0 || driver::answer(&state) <= 13, "{state:02X?}");
-            let reply = vec![rng.byte(); rng.below(300)];
-            driver::next(&mut state, &payload, &reply, &mut staged, &mut frame);
+        let calm = rng.one_in(2);
+        let mut len = driver::frame(&state, &payload, &staged, &mut frame);
+        let mut steps = 0;
+        while len > 0 {
+            assert!([2, 4, 20, 268, 272].contains(&len), "{state:02X?}: {len}");
+            assert!(opcodes(state[0]).contains(&frame[0]), "{state:02X?}");
+            assert_eq!(driver::answer(&state), None, "{state:02X?}");
+            assert_eq!(driver::count(&state, &staged), 0, "{state:02X?}");
+            assert!(steps < bound, "{state:02X?}: {steps} frames");
+            // Of a chip that is busy or not, or of any bytes.
+            let reply = match (calm, rng.one_in(3)) {
+                (true, true) => vec![0x24; len],
+                (true, false) => vec![if len == 2 { 0xA4 } else { 0x00 }; len],
+                (false, _) => vec![rng.byte(); rng.below(300)],
+            };
+            len = driver::next(&mut state, &payload, &reply, &mut staged, &mut frame);
+            steps += 1;
         }
+        let answer = driver::answer(&state);
+        assert!(matches!(answer, Some(0..=13)), "{state:02X?}: {answer:?}");
+        assert!(driver::count(&state, &staged) <= 2109, "{state:02X?}");
+        going += u64::from(steps > 0);
+        longest = longest.max(steps);
+    }
+    say(&format!("any state: {going} of 60000 gave a frame, the longest {longest}"));
+    assert!(going > 10_000 && longest > 35);
+}
+
+/// A flipped bit of the byte that names the call makes no call another.
+#[test]
+fn a_flipped_bit_names_no_other_call() {
+    for (bit, call) in (0..8).flat_map(|bit| (0..4).map(move |call| (bit, call))) {
+        let mut state = [0; driver::STATE_LEN];
+        match call {
+            0 => driver::start_put(&mut state, 1_081_344, 0, 1, &[]),
+            1 => driver::start_patch(&mut state, 1_081_344, 0, 1, 0, &[]),
+            2 => driver::start_get(&mut state, 1_081_344, 0, 1, 2109),
+            _ => driver::start_wipe(&mut state, 1_081_344, 0, 1),
+        }
+        assert_eq!(driver::answer(&state), None);
+        state[0] ^= 1 << bit;
+        let mut frame = [0; DRIVER_FRAME_LEN];
+        let len = driver::frame(&state, &[], &[0; SLOT_LEN], &mut frame);
+        assert_eq!((len, driver::answer(&state)), (0, Some(1)), "{state:02X?}");
     }
 }
 

@@ -6,6 +6,9 @@ use crate::{DRIVER_FRAME_LEN, SLOT_LEN};
 /// Length of the driver's state.
 pub const STATE_LEN: usize = 48;
 
+/// What the library answers of a driver that has not ended.
+pub const RUNNING: u8 = 255;
+
 /// The driver's state as a block of bytes.
 pub type State = [u8; STATE_LEN];
 
@@ -65,6 +68,8 @@ pub mod raw {
         ) -> usize;
 
         pub fn slipknoll_driver_answer(state: *const u8) -> u8;
+
+        pub fn slipknoll_driver_count(state: *const u8, staged: *const u8) -> usize;
     }
 }
 
@@ -177,8 +182,19 @@ pub fn next(
     }
 }
 
-/// The answer, once the driver has come to the end.
-pub fn answer(state: &State) -> u8 {
+/// The answer; None while the driver is running.
+pub fn answer(state: &State) -> Option<u8> {
     // SAFETY: as in `start_put`.
-    unsafe { raw::slipknoll_driver_answer(state.as_ptr()) }
+    match unsafe { raw::slipknoll_driver_answer(state.as_ptr()) } {
+        RUNNING => None,
+        answer => Some(answer),
+    }
+}
+
+/// Of a get that has ended with 0 the recipe's length; else 0.
+///
+/// The recipe stands in `staged` behind its first three bytes.
+pub fn count(state: &State, staged: &[u8; SLOT_LEN]) -> usize {
+    // SAFETY: as in `start_put`.
+    unsafe { raw::slipknoll_driver_count(state.as_ptr(), staged.as_ptr()) }
 }

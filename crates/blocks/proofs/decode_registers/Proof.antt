@@ -55,7 +55,7 @@ returns c = λ i.
       protect = c .before .before .before .before .before .is-set2 .ensures i;
       wp = c .before .before .before .is-set3 .ensures i;
       deep = c .before .is-set4 .ensures i;
-      operation = c .operation .ensures i;
+      operation = c .operation .ensures .0 i;
     }
 
 pub decode-registers-spec : {M : Type 1} → statement M

@@ -1,5 +1,5 @@
 -- `blocks::encode` meets its contract: buffers and compare bit are stored behind the registers, and together they are as long as the block. Assumes nothing.
-use Rattle.blocks.specs.Holds.{Arrays}
+use Rattle.control.specs.Starts.{Lengths}
 use Rattle.blocks.specs.Block.{encodeRegisters, encodeChip}
 use mathlib.Core.List.{[], _∷_, _++_}
 use Rattle.blocks.proofs.Lengths.{length-encodeRegisters}
@@ -17,7 +17,7 @@ use Rattle.blocks.proofs.encode.Tie as tie
 long : (s : tie.Start) → (length (s .args .c .buffer1) ≡ 264) × (length (s .args .c .buffer2) ≡ 264)
 long s = (search needs, search needs)
 
-arrays : (s : tie.Start) → Arrays (s .args .c .registers)
+arrays : (s : tie.Start) → Lengths (s .args .c .registers)
 arrays s = record { protection = search needs; lockdown = search needs; user = search needs; factory = search needs }
 
 encode-registers-requires : tie.Need-encode-registers-requires

@@ -8,16 +8,14 @@ use native.Mathlib.Omega.{arith}
 use lib.ListN.{length, length-append}
 use Rattle.slices.specs.Lists.{over}
 use Rattle.blocks.specs.Block.{headOf, headBytes, flagged, dataBytes, encodeRegisters}
-use Rattle.blocks.specs.Holds.{Arrays}
+use Rattle.control.specs.Starts.{Lengths}
 use Rattle.blocks.proofs.Lengths.{length-headBytes, length-dataBytes}
 use Rattle.blocks.proofs.Stored.{stored-none, stored-more, five}
 use Rattle.blocks.proofs.encode_registers.Statement.{statement}
 use Rattle.blocks.proofs.encode_registers.Tie as tie
-use Rattle.blocks.proofs.put.Reads as put-reads
-use Rattle.blocks.proofs.put_operation.Reads as put-operation-reads
 
 -- the lengths of the arrays
-arrays : (s : tie.Start) → Arrays (s .args .r)
+arrays : (s : tie.Start) → Lengths (s .args .r)
 arrays s = record { protection = search needs; lockdown = search needs; user = search needs; factory = search needs }
 
 -- the block keeps its length

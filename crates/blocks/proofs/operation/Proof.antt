@@ -1,10 +1,17 @@
 -- `blocks::operation` meets its contract: tag and buffer 0 are no operation, and any other is told by `operation_in`.
 -- Assumes nothing.
 use mathlib.Core.Path.{refl}
+use native.Mathlib.Omega.{arith}
 use borrow.Author.Needs.{needs}
-use Rattle.blocks.specs.Block.{plainOf, operationOf, decodeOperation}
+use Rattle.blocks.specs.Block.{plainOf, operationOf, decodeOperation, decodeChip}
+use Rattle.blocks.specs.Holds.{Holds}
+use Rattle.blocks.proofs.Decoded.{holds-decode}
 use Rattle.blocks.proofs.operation.Statement.{statement}
 use Rattle.blocks.proofs.operation.Tie as tie
+
+-- its bytes are bytes
+holds : (p : tie.After-shared-slice-known) → Holds (decodeChip (p .before .args .block .now))
+holds p = holds-decode (p .before .args .block .now) (p .before .pre) (λ k _. omega (arith, p .shared-slice-known .given k))
 
 shared-slice-read-if1 : tie.Need-shared-slice-read-if1
 shared-slice-read-if1 c = search needs
@@ -14,13 +21,13 @@ shared-slice-read-if2 c = search needs
 
 returns : tie.Need-returns
 unfolding decodeOperation operationOf plainOf
-returns c = rw (c .before .before .if1 .taken) (rw (c .if2 .taken) refl)
+returns c = (rw (c .before .before .if1 .taken) (rw (c .if2 .taken) refl), holds (c .before .before .before .before))
 
 operation-in-requires : tie.Need-operation-in-requires
 operation-in-requires c κs = search needs
 
 returns-2 : tie.Need-returns-2
-returns-2 c = search needs
+returns-2 c = (c .operation-in .ensures, holds (c .before .before .before))
 
 pub operation-spec : {M : Type 1} → statement M
 operation-spec =

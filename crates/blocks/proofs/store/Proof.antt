@@ -1,5 +1,6 @@
 -- `blocks::store` meets its contract: the block is written where the answer is 0, and left alone elsewhere. Assumes nothing.
-use Rattle.blocks.specs.Promises.{answered, storedIn}
+use Rattle.state.specs.Answers.{numberOf}
+use Rattle.blocks.specs.Promises.{storedBy}
 use borrow.Author.Tests.{eq-eqb, ne-eqb}
 use mathlib.Core.Path.{sym, _∙_}
 use borrow.Author.Needs.{needs}
@@ -16,12 +17,12 @@ same-length : tie.Need-same-length
 same-length c = search needs
 
 returns : tie.Need-returns
-unfolding storedIn
-returns c = (c .before .before .before .before .before .before .number .ensures, simp (eq-eqb (answered (c .before .before .before .before .before .before .before .before .args .o)) 0 (sym (c .before .before .before .before .before .before .number .ensures) ∙ c .before .before .before .before .before .if1 .taken)) (c .before .before .encode .ensures))
+unfolding storedBy
+returns c = (c .before .before .before .before .before .before .number .ensures, simp (eq-eqb (numberOf (c .before .before .before .before .before .before .before .before .args .o .answer)) 0 (sym (c .before .before .before .before .before .before .number .ensures) ∙ c .before .before .before .before .before .if1 .taken)) (c .before .before .encode .ensures))
 
 returns-2 : tie.Need-returns-2
-unfolding storedIn
-returns-2 c = (c .before .number .ensures, simp (ne-eqb (answered (c .before .before .before .args .o)) 0 (λ e. c .if1 .left (c .before .number .ensures ∙ e))))
+unfolding storedBy
+returns-2 c = (c .before .number .ensures, simp (ne-eqb (numberOf (c .before .before .before .args .o .answer)) 0 (λ e. c .if1 .left (c .before .number .ensures ∙ e))))
 
 pub store-spec : {M : Type 1} → statement M
 store-spec = tie.close (tie.spec number-requires encode-requires same-length returns returns-2)

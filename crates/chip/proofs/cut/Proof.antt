@@ -1,9 +1,12 @@
 -- `chip::cut` meets its contract: the part is looked up, and a known one's chip does the rest.
 -- Assumes nothing.
 use mathlib.Core.Path.{sym, _∙_}
+use mathlib.Core.List.{[]}
 use borrow.Author.Needs.{needs}
 use Rattle.registers.proofs.Places.{placed-known, placed-sized}
-use Rattle.state.proofs.Accepted.{cut-known, cut-part, cut-array-known, cut-array-part}
+use Rattle.state.specs.declared.Answer.the-variants as Answers
+use Rattle.state.specs.Memory.{stateOf}
+use Rattle.state.proofs.Accepted.{leaves-as, leaves-refused, cut-known, cut-part}
 use Rattle.chip.proofs.cut.Statement.{statement}
 use Rattle.chip.proofs.cut.Tie as tie
 
@@ -25,16 +28,14 @@ same-length c = search needs
 returns : tie.Need-returns
 returns c =
     let a = c .before .before .before .before .before .before .before .before .before .before .before .args in
-    let e = sym (c .before .before .before .before .before .before .before .place .ensures) ∙ c .before .before .before .before .before .p .given .1 in (
-      c .before .before .cut-in .ensures .0 ∙ sym (cut-known (a .c) (a .array .now) (a .junk .now) _ e),
-      c .before .before .cut-in .ensures .1 ∙ sym (cut-array-known (a .c) (a .array .now) (a .junk .now) _ e),
-    )
+    let e = sym (c .before .before .before .before .before .before .before .place .ensures) ∙ c .before .before .before .before .before .p .given .1 in
+    leaves-as (cut-known (a .junk .now) (stateOf (a .c) (a .array .now)) _ e) (c .before .before .cut-in .ensures)
 
 returns-2 : tie.Need-returns-2
 returns-2 c =
     let a = c .before .before .before .before .before .before .args in
     let e = sym (c .before .before .place .ensures) ∙ c .enum-told .given .1 in
-    (sym (cut-part (a .c) (a .array .now) (a .junk .now) e), sym (cut-array-part (a .c) (a .array .now) (a .junk .now) e))
+    leaves-refused Answers.Part (a .c) (a .array .now) [] (cut-part (a .junk .now) (stateOf (a .c) (a .array .now)) e)
 
 pub cut-spec : {M : Type 1} → statement M
 cut-spec =

@@ -2,20 +2,16 @@
 -- Assumes nothing.
 use borrow.Author.Needs.{needs}
 use mathlib.Core.List.{List}
-use mathlib.Core.Path.{_≡_, ap, _∙_}
+use mathlib.Core.Path.{_≡_, refl, ap, _∙_}
 use Prim.Native.Nat.{ℕ}
 use lib.ListN.{length}
-use Rattle.state.specs.Memory.{Memory, memoryIn, chipOf}
+use Rattle.state.specs.Lent.{memoryIn}
+use Rattle.state.specs.Memory.{Memory, chipOf}
 use Rattle.state.specs.Completion.{completedMemory}
-use Rattle.state.specs.Outcomes.{outcome, endedIn, endedArray}
-use Rattle.state.specs.declared.Answer.the-variants as Answers
+use Rattle.state.specs.Outcomes.{endedState, endedBy}
 use Rattle.state.proofs.Lent.{memory-joined}
 use Rattle.completion.proofs.end_in.Statement.{statement}
 use Rattle.completion.proofs.end_in.Tie as tie
-use Rattle.completion.proofs.complete_memory.Reads as complete-memory-reads
-use Rattle.control.proofs.complete.Reads as complete-reads
-use Rattle.state.proofs.buffers_of.Reads as buffers-of-reads
-use Rattle.state.proofs.chip_of.Reads as chip-of-reads
 
 -- the lengths of the chip's buffers, and of both together
 long : (s : tie.Start) → (length (s .args .c .buffer1) ≡ 264) × (length (s .args .c .buffer2) ≡ 264)
@@ -45,14 +41,14 @@ same-length : tie.Need-same-length
 same-length c = search needs
 
 returns : tie.Need-returns
-unfolding endedIn endedArray
+unfolding endedBy endedState
 returns c =
     let s = c .before .before .before .before .before .before .before .before .before .before .before in
     let a = s .args in
     let w = long s in
     let j = ap (λ (bs : List ℕ). memoryIn (a .array .now) bs (a .c .compare)) (c .before .before .before .before .before .before .before .before .buffers-of .ensures) ∙ memory-joined (a .c) (a .array .now) (w .0) (w .1) in
     let m = c .before .before .before .before .before .complete-memory .ensures ∙ ap (completedMemory (a .g) (a .c .registers .operation)) j in
-    (ap (outcome Answers.Done) (c .chip-of .ensures ∙ (λ i. chipOf (c .before .complete .ensures i) (m i))), ap (λ (x : Memory). x .array) m)
+    record { answer = refl; chip = c .chip-of .ensures ∙ (λ i. chipOf (c .before .complete .ensures i) (m i)); array = ap (λ (x : Memory). x .array) m; reply = refl }
 
 pub end-in-spec : {M : Type 1} → statement M
 end-in-spec =

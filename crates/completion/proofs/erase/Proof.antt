@@ -1,27 +1,58 @@
--- `completion::erase` meets its contract: the run is the operation's.
+-- `completion::erase` meets its contract: what is erased is the operation's run, and the sectors of its set where there are any.
 -- Assumes nothing.
 use borrow.Author.Needs.{needs}
-use mathlib.Core.Path.{ap, _∙_}
-use Rattle.geometry.specs.declared.Run.{Run}
+use Rattle.geometry.proofs.Pages.{sized-own}
 use Rattle.memory.specs.Pages.{erased}
+use Rattle.state.proofs.Arms.{target-has, target-run, target-sectors}
 use Rattle.completion.proofs.erase.Statement.{statement}
 use Rattle.completion.proofs.erase.Tie as tie
-use Rattle.memory.proofs.erase.Reads as erase-reads
-use Rattle.registers.proofs.run_of.Reads as run-of-reads
 
-run-of-requires : tie.Need-run-of-requires
-run-of-requires c κs = search needs
+target-of-requires : tie.Need-target-of-requires
+target-of-requires c κs = search needs
+
+run-named-requires : tie.Need-run-named-requires
+run-named-requires c κs =
+    let s = c .before .before .before in
+    (sized-own (s .args .g) _ (s .pre .0), target-has (s .args .g) (s .args .o) (c .before .target-of .ensures) (s .pre .1))
 
 erase-requires : tie.Need-erase-requires
 erase-requires c κs = search needs
+
+set-named-requires : tie.Need-set-named-requires
+set-named-requires c κs = search needs
 
 same-length : tie.Need-same-length
 same-length c = search needs
 
 returns : tie.Need-returns
 returns c =
-    let a = c .before .before .before .before .before .before .args in
-    c .before .before .erase .ensures ∙ ap (λ (r : Run). erased (a .g) r (a .array .now)) (c .before .before .before .run-of .ensures .0)
+    let a = c .before .before .before .before .before .before .before .before .before .args in
+    target-run (a .g) (a .o) (c .before .before .before .before .before .before .before .target-of .ensures) (erased (a .g)) (a .array .now) _
+    (c .before .before .before .before .before .run-named .ensures .0) (c .before .set-named .ensures) (c .before .before .before .before .erase .ensures) (c .if1 .taken)
+
+erase-sectors-requires : tie.Need-erase-sectors-requires
+erase-sectors-requires c κs = search needs
+
+same-length-2 : tie.Need-same-length-2
+same-length-2 c = search needs
+
+returns-2 : tie.Need-returns-2
+returns-2 c =
+    let a = c .before .before .before .before .before .before .before .before .before .before .before .before .before .args in
+    target-sectors (a .g) (a .o) (c .before .before .before .before .before .before .before .before .before .before .before .target-of .ensures) (erased (a .g)) (a .array .now) _
+    (c .before .before .before .before .before .before .before .before .before .run-named .ensures .0) (c .before .before .before .before .before .set-named .ensures)
+    (c .before .before .before .before .before .before .before .before .erase .ensures) (c .before .before .erase-sectors .ensures)
 
 pub erase-spec : {M : Type 1} → statement M
-erase-spec = tie.close (tie.spec run-of-requires erase-requires same-length returns)
+erase-spec =
+    tie.close
+    (tie.spec
+    target-of-requires
+    run-named-requires
+    erase-requires
+    set-named-requires
+    same-length
+    returns
+    erase-sectors-requires
+    same-length-2
+    returns-2)

@@ -1,104 +1,32 @@
--- `driver::is_poll` meets its contract: each phase is told by its clause.
+-- `driver::is_poll` meets its contract: the part is looked up; without one nothing is sent.
 -- Assumes nothing.
-use mathlib.Core.Path.{sym, ap}
-use native.Mathlib.Omega.{arith}
+use mathlib.Core.Path.{sym, ap, _∙_}
+use Rattle.geometry.specs.declared.Part.{Part}
+use Rattle.worlds.specs.Step.{pollBy, pollIn}
 use borrow.Author.Needs.{needs}
-use Rattle.slots.specs.declared.Phase.{Phase}
-use Rattle.slots.specs.Driver.{isPoll}
 use Rattle.driver.proofs.is_poll.Statement.{statement}
 use Rattle.driver.proofs.is_poll.Tie as tie
+
+part-of-requires : tie.Need-part-of-requires
+part-of-requires c κs = search needs
+
+enum-known-p : tie.Need-enum-known-p
+enum-known-p c = search needs
+
+poll-on-requires : tie.Need-poll-on-requires
+poll-on-requires c κs = sym (c .before .before .before .part-of .ensures) ∙ c .before .p .given .1
 
 enum-told : tie.Need-enum-told
 enum-told c = search needs
 
-enum-told-2 : tie.Need-enum-told-2
-enum-told-2 c = search needs
-
-enum-told-3 : tie.Need-enum-told-3
-enum-told-3 c = search needs
-
-enum-told-4 : tie.Need-enum-told-4
-enum-told-4 c = search needs
-
-enum-told-5 : tie.Need-enum-told-5
-enum-told-5 c = search needs
-
-enum-told-6 : tie.Need-enum-told-6
-enum-told-6 c = search needs
-
-enum-told-7 : tie.Need-enum-told-7
-enum-told-7 c = search needs
-
-enum-told-8 : tie.Need-enum-told-8
-enum-told-8 c = search needs
-
-enum-told-9 : tie.Need-enum-told-9
-enum-told-9 c = search needs
-
-enum-told-10 : tie.Need-enum-told-10
-enum-told-10 c = search needs
-
 returns : tie.Need-returns
-unfolding isPoll
-returns c = (sym (ap (λ (p : Phase). isPoll p) (c .enum-told .given .1)), omega arith)
+unfolding pollIn
+returns c = c .poll-on .ensures ∙ ap (λ (q : Part). pollBy q (c .before .before .before .before .before .args .d)) (sym (c .before .before .p .given .1) ∙ c .before .before .before .before .part-of .ensures)
 
 returns-2 : tie.Need-returns-2
-unfolding isPoll
-returns-2 c = (sym (ap (λ (p : Phase). isPoll p) (c .enum-told2 .given .1)), omega arith)
-
-returns-3 : tie.Need-returns-3
-unfolding isPoll
-returns-3 c = (sym (ap (λ (p : Phase). isPoll p) (c .enum-told3 .given .1)), omega arith)
-
-returns-4 : tie.Need-returns-4
-unfolding isPoll
-returns-4 c = (sym (ap (λ (p : Phase). isPoll p) (c .enum-told4 .given .1)), omega arith)
-
-returns-5 : tie.Need-returns-5
-unfolding isPoll
-returns-5 c = (sym (ap (λ (p : Phase). isPoll p) (c .enum-told5 .given .1)), omega arith)
-
-returns-6 : tie.Need-returns-6
-unfolding isPoll
-returns-6 c = (sym (ap (λ (p : Phase). isPoll p) (c .enum-told6 .given .1)), omega arith)
-
-returns-7 : tie.Need-returns-7
-unfolding isPoll
-returns-7 c = (sym (ap (λ (p : Phase). isPoll p) (c .enum-told7 .given .1)), omega arith)
-
-returns-8 : tie.Need-returns-8
-unfolding isPoll
-returns-8 c = (sym (ap (λ (p : Phase). isPoll p) (c .enum-told8 .given .1)), omega arith)
-
-returns-9 : tie.Need-returns-9
-unfolding isPoll
-returns-9 c = (sym (ap (λ (p : Phase). isPoll p) (c .enum-told9 .given .1)), omega arith)
-
-returns-10 : tie.Need-returns-10
-unfolding isPoll
-returns-10 c = (sym (ap (λ (p : Phase). isPoll p) (c .enum-told10 .given .1)), omega arith)
+unfolding pollIn pollBy
+returns-2 c = ap (λ (q : Part). pollBy q (c .before .before .before .args .d)) (sym (c .enum-told .given .1) ∙ c .before .before .part-of .ensures)
 
 pub is-poll-spec : {M : Type 1} → statement M
 is-poll-spec =
-    tie.close
-    (tie.spec
-    enum-told
-    enum-told-2
-    enum-told-3
-    enum-told-4
-    enum-told-5
-    enum-told-6
-    enum-told-7
-    enum-told-8
-    enum-told-9
-    enum-told-10
-    returns
-    returns-2
-    returns-3
-    returns-4
-    returns-5
-    returns-6
-    returns-7
-    returns-8
-    returns-9
-    returns-10)
+    tie.close (tie.spec part-of-requires enum-known-p poll-on-requires enum-told returns returns-2)

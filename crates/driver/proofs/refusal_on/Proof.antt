@@ -1,36 +1,28 @@
--- `driver::refusal_on` meets its contract: the tests come in the definition's order.
+-- `driver::refusal_on` meets its contract: the tests are the definition's, 5 by what is to be stored and what is lent.
 -- Assumes nothing.
-use Prim.Native.Nat.{_/_}
-use borrow.Author.Tests.{le-leb, lt-leb}
-use Rattle.driver.specs.Start.{refusalBy}
+use mathlib.Core.Bool.{_||_, Bool}
+use mathlib.Core.Path.{_≡_, ap, _∙_}
+use Rattle.slots.specs.Refusals.{isOver, isShort, earlyRefusal}
+use Rattle.slots.specs.Lists.{asking}
+use Rattle.worlds.specs.Start.{startRefusal}
+use borrow.Author.Needs.{needs}
 use Rattle.driver.proofs.refusal_on.Statement.{statement}
 use Rattle.driver.proofs.refusal_on.Tie as tie
 
+is-oversize-requires : tie.Need-is-oversize-requires
+is-oversize-requires c κs = search needs
+
+early-refusal-requires : tie.Need-early-refusal-requires
+early-refusal-requires c κs = search needs
+
 returns : tie.Need-returns
-unfolding refusalBy
-returns c = let a = c .before .args in simp (le-leb (a .g .pages / 8) (a .slot) (c .if1 .taken))
-
-returns-2 : tie.Need-returns-2
-unfolding refusalBy
-returns-2 c = let a = c .before .before .args in simp (lt-leb (a .g .pages / 8) (a .slot) (c .before .if1 .left), lt-leb 1 (a .limit) (c .if2 .taken))
-
-returns-3 : tie.Need-returns-3
-unfolding refusalBy
-returns-3 c =
-    let a = c .before .before .before .args in
-    simp (lt-leb (a .g .pages / 8) (a .slot) (c .before .before .if1 .left), le-leb 1 (a .limit) (c .before .if2 .left), lt-leb (a .limit) 1000 (c .if3 .taken))
-
-returns-4 : tie.Need-returns-4
-unfolding refusalBy
-returns-4 c =
-    let a = c .before .before .before .before .args in
-    simp (lt-leb (a .g .pages / 8) (a .slot) (c .before .before .before .if1 .left), le-leb 1 (a .limit) (c .before .before .if2 .left), le-leb (a .limit) 1000 (c .before .if3 .left), c .if4 .taken)
-
-returns-5 : tie.Need-returns-5
-unfolding refusalBy
-returns-5 c =
-    let a = c .before .before .before .before .args in
-    simp (lt-leb (a .g .pages / 8) (a .slot) (c .before .before .before .if1 .left), le-leb 1 (a .limit) (c .before .before .if2 .left), le-leb (a .limit) 1000 (c .before .if3 .left), c .if4 .left)
+unfolding startRefusal
+returns c =
+    let a = c .before .before .args in
+    let b = c .before .is-oversize .result in
+    let five : b ≡ (isOver (a .kind) (a .g) (a .place) (a .n) || isShort (a .kind) (a .g) (a .lent)) = c .before .is-oversize .ensures in
+    let early : c .early-refusal .result ≡ earlyRefusal (a .g) (asking (a .kind) (a .slot) (a .limit)) b = c .early-refusal .ensures in
+    early ∙ ap (λ (z : Bool). earlyRefusal (a .g) (asking (a .kind) (a .slot) (a .limit)) z) five
 
 pub refusal-on-spec : {M : Type 1} → statement M
-refusal-on-spec = tie.close (tie.spec returns returns-2 returns-3 returns-4 returns-5)
+refusal-on-spec = tie.close (tie.spec is-oversize-requires early-refusal-requires returns)

@@ -1,38 +1,38 @@
--- `driver::start` meets its contract: the first phase goes by the refusal, all else is as given.
+-- `driver::start` meets its contract: the first state is put together from its parts, of which the stage goes by the refusal.
 -- Assumes nothing.
-use mathlib.Core.Bool.{false, cond}
-use mathlib.Core.Path.{ap, _∙_}
+use mathlib.Core.Path.{_≡_, ap, _∙_}
+use mathlib.Core.Bool.{cond}
 use lib.Dec.{eqb}
-use borrow.Author.Needs.{needs}
-use Rattle.slots.specs.declared.Verdict.the-variants.{Good}
-use Rattle.slots.specs.declared.Phase.the-variants.{Opening, Ended}
-use Rattle.state.specs.declared.Answer.{Answer}
+use Rattle.geometry.specs.Parts.{partOf}
 use Rattle.state.specs.Answers.{numberOf}
+use Rattle.state.specs.declared.Answer.{Answer}
+use Rattle.slots.specs.Lists.{asking}
+use Rattle.slots.specs.declared.Verdict.the-variants.{Good}
+use Rattle.slots.specs.declared.Stage.the-variants.{Going, Ended}
+use Rattle.slots.specs.declared.Stage.{Stage}
 use Rattle.slots.specs.Calls.{firstCourse}
-use Rattle.driver.specs.Start.{startDriver}
+use Rattle.worlds.specs.Start.{startRefusal, startDriver}
+use Rattle.worlds.specs.Step.{staged-at}
+use Rattle.worlds.specs.Turns.{with}
+use borrow.Author.Needs.{needs}
 use Rattle.driver.proofs.start.Statement.{statement}
 use Rattle.driver.proofs.start.Tie as tie
 
 refusal-requires : tie.Need-refusal-requires
 refusal-requires c κs = search needs
 
-first-phase-requires : tie.Need-first-phase-requires
-first-phase-requires c κs = search needs
+first-stage-requires : tie.Need-first-stage-requires
+first-stage-requires c κs = search needs
 
 returns : tie.Need-returns
 unfolding startDriver firstCourse
 returns c =
     let a = c .before .before .args in
-    let e = c .first-phase .ensures ∙ ap (λ (x : Answer). cond (eqb (numberOf x) 0) Opening (Ended x)) (c .before .refusal .ensures) in
-    λ i. record {
-      array = a .array;
-      kind = a .kind;
-      slot = a .slot;
-      limit = a .limit;
-      place = a .place;
-      verdict = Good;
-      course = record { phase = e i; page = 0; left = a .limit; listed = false; guarded = false };
-    }
+    let asked = asking (a .kind) (a .slot) (a .limit) in
+    let d = startDriver (a .array) asked (a .place) (a .n) (a .lent) in
+    let refused : c .before .refusal .result ≡ startRefusal (partOf (a .array)) asked (a .place) (a .n) (a .lent) = c .before .refusal .ensures in
+    ap (λ (s : Stage). with d Good (staged-at s (d .course)))
+    (c .first-stage .ensures ∙ ap (λ (x : Answer). cond (eqb (numberOf x) 0) Going (Ended x)) refused)
 
 pub start-spec : {M : Type 1} → statement M
-start-spec = tie.close (tie.spec refusal-requires first-phase-requires returns)
+start-spec = tie.close (tie.spec refusal-requires first-stage-requires returns)

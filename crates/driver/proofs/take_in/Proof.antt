@@ -1,12 +1,11 @@
 -- `driver::take_in` meets its contract: the part is looked up, and a known one's state takes the reply.
 -- Assumes nothing.
 use mathlib.Core.Path.{refl, sym, ap, _∙_}
+use Rattle.slots.specs.declared.Stage.{Stage}
+use Rattle.worlds.specs.Step.{staged-at, tookBy, stagedBy}
+use Rattle.worlds.specs.Turns.{with}
+use Rattle.driver.proofs.States.{took-in}
 use borrow.Author.Needs.{needs}
-use Rattle.state.specs.declared.Answer.the-variants.{Part}
-use Rattle.slots.specs.declared.Course.{Course}
-use Rattle.geometry.specs.declared.Part.the-variants.{Unknown}
-use Rattle.driver.specs.Step.{withCourse, settled, courseBy, heldBy}
-use Rattle.driver.proofs.Sound.{took-by}
 use Rattle.driver.proofs.take_in.Statement.{statement}
 use Rattle.driver.proofs.take_in.Tie as tie
 
@@ -22,22 +21,22 @@ take-on-requires c κs = (sym (c .before .before .before .before .part-of .ensur
 enum-told : tie.Need-enum-told
 enum-told c = search needs
 
-settle-requires : tie.Need-settle-requires
-settle-requires c κs = search needs
+stage-requires : tie.Need-stage-requires
+stage-requires c κs = sym (c .enum-told .given .1) ∙ c .before .before .part-of .ensures
 
-with-course-requires : tie.Need-with-course-requires
-with-course-requires c κs = search needs
+with-stage-requires : tie.Need-with-stage-requires
+with-stage-requires c κs = search needs
 
 returns : tie.Need-returns
-returns c = search needs
+returns c = let a = c .before .before .before .before .before .before .before .before .args in took-in (a .d) (sym (c .before .before .before .p .given .1) ∙ c .before .before .before .before .before .part-of .ensures) (a .payload .now) (a .staged .now) (a .reply .now) (c .take-on .ensures)
 
 returns-2 : tie.Need-returns-2
-unfolding courseBy heldBy
+unfolding tookBy stagedBy
 returns-2 c =
-    let a = c .before .before .before .before .before .before .before .before .args in
-    let t = took-by (a .d) (a .payload .now) (a .staged .now) (a .reply .now) Unknown (a .d .verdict) (settled Part (a .d .course))
-    (a .staged .now) (sym (c .before .before .before .before .before .part-of .ensures) ∙ c .before .before .before .enum-told .given .1) refl refl refl in
-    (c .with-course .ensures ∙ ap (λ (k : Course). withCourse (a .d) k) (c .before .settle .ensures) ∙ t .0, t .1)
+    let a = c .before .before .before .before .before .before .before .args in
+    let d = a .d in
+    took-in d (sym (c .before .before .enum-told .given .1) ∙ c .before .before .before .before .part-of .ensures) (a .payload .now) (a .staged .now) (a .reply .now)
+    (c .with-stage .ensures ∙ ap (λ (s : Stage). with d (d .verdict) (staged-at s (d .course))) (c .before .stage .ensures), refl)
 
 pub take-in-spec : {M : Type 1} → statement M
 take-in-spec =
@@ -47,7 +46,7 @@ take-in-spec =
     enum-known-p
     take-on-requires
     enum-told
-    settle-requires
-    with-course-requires
+    stage-requires
+    with-stage-requires
     returns
     returns-2)

@@ -1,27 +1,59 @@
--- `driver::take_on` meets its contract: verdict, bytes read and course are the definition's, one by one.
+-- `driver::take_on` meets its contract: a state that counts as ended takes nothing in, any other goes by its step.
 -- Assumes nothing.
-use borrow.Author.Needs.{needs}
+use mathlib.Core.Bool.{false}
+use mathlib.Core.Path.{_≡_, sym, ap, _∙_}
 use Rattle.geometry.specs.declared.Part.the-variants.{Known}
-use Rattle.driver.proofs.Sound.{took-by}
+use Rattle.slots.specs.Driver.{isEnded}
+use Rattle.turns.proofs.Turns.{sound-slot}
+use Rattle.worlds.specs.Step.{stageBy}
+use Rattle.driver.proofs.States.{ended-took, going-took, going-sound}
+use borrow.Author.Needs.{needs}
 use Rattle.driver.proofs.take_on.Statement.{statement}
 use Rattle.driver.proofs.take_on.Tie as tie
 
-take-held-requires : tie.Need-take-held-requires
-take-held-requires c κs = search needs
+-- behind the test the state counts as going
+going : (e : tie.Else1) → isEnded (stageBy (Known (e .before .before .before .before .before .before .args .g)) (e .before .before .before .before .before .before .args .d)) ≡ false
+going e = ap isEnded (sym (e .before .before .stage .ensures)) ∙ sym (e .before .has-ended .ensures) ∙ e .if1 .left
 
-take-course-requires : tie.Need-take-course-requires
-take-course-requires c κs = search needs
+stage-requires : tie.Need-stage-requires
+stage-requires c κs = sym (c .before .before .before .pre .0)
+
+has-ended-requires : tie.Need-has-ended-requires
+has-ended-requires c κs = search needs
+
+with-stage-requires : tie.Need-with-stage-requires
+with-stage-requires c κs = search needs
+
+returns : tie.Need-returns
+returns c =
+    let a = c .before .before .before .before .before .before .before .args in
+    ended-took (a .g) (a .d) (a .payload .now) (a .staged .now) (a .reply .now) (c .before .before .before .stage .ensures) (sym (c .before .before .has-ended .ensures) ∙ c .before .if1 .taken) (c .with-stage .ensures)
+
+step-at-requires : tie.Need-step-at-requires
+step-at-requires c κs = let s = c .before .before .before .before .before .before .before in sound-slot (going-sound (s .args .g) (s .args .d) (s .pre .0) (going (c .before)))
+
+take-step-requires : tie.Need-take-step-requires
+take-step-requires c κs =
+    let s = c .before .before .before .before .before .before .before .before .before in
+    (going-sound (s .args .g) (s .args .d) (s .pre .0) (going (c .before .before .before)), c .before .step-at .ensures .0 (s .args .g), s .pre .1)
 
 same-length : tie.Need-same-length
 same-length c = search needs
 
-returns : tie.Need-returns
-returns c =
-    let s = c .before .before .before .before .before .before .before .before in
-    let a = s .args in
-    let take-held = c .before .before .before .take-held in
-    took-by (a .d) (a .payload .now) (a .staged .now) (a .reply .now) (Known (a .g)) (take-held .result) (c .take-course .result)
-    (take-held .last .1 .1 .1 .1 .0) (s .pre .0) (take-held .ensures .0) (c .take-course .ensures) (take-held .ensures .1)
+returns-2 : tie.Need-returns-2
+returns-2 c =
+    let a = c .before .before .before .before .before .before .before .before .before .before .before .before .args in
+    going-took (a .g) (a .d) (a .payload .now) (a .staged .now) (a .reply .now) (going (c .before .before .before .before .before .before)) (c .before .before .take-step .ensures)
 
 pub take-on-spec : {M : Type 1} → statement M
-take-on-spec = tie.close (tie.spec take-held-requires take-course-requires same-length returns)
+take-on-spec =
+    tie.close
+    (tie.spec
+    stage-requires
+    has-ended-requires
+    with-stage-requires
+    returns
+    step-at-requires
+    take-step-requires
+    same-length
+    returns-2)

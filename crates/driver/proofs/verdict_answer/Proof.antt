@@ -1,7 +1,7 @@
--- `driver::verdict_answer` meets its contract: each verdict is told by its clause.
+-- `driver::verdict_answer` meets its contract: each verdict has its answer.
 -- Assumes nothing.
-use borrow.Author.Needs.{needs}
 use Rattle.slots.specs.Driver.{verdictAnswer}
+use borrow.Author.Needs.{needs}
 use Rattle.driver.proofs.verdict_answer.Statement.{statement}
 use Rattle.driver.proofs.verdict_answer.Tie as tie
 

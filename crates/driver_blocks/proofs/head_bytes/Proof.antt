@@ -10,8 +10,8 @@ kind-number-requires c κs = search needs
 verdict-number-requires : tie.Need-verdict-number-requires
 verdict-number-requires c κs = search needs
 
-phase-number-requires : tie.Need-phase-number-requires
-phase-number-requires c κs = search needs
+stage-number-requires : tie.Need-stage-number-requires
+stage-number-requires c κs = search needs
 
 end-number-requires : tie.Need-end-number-requires
 end-number-requires c κs = search needs
@@ -35,7 +35,7 @@ head-bytes-spec =
     (tie.spec
     kind-number-requires
     verdict-number-requires
-    phase-number-requires
+    stage-number-requires
     end-number-requires
     cast-t10
     flag-byte-requires

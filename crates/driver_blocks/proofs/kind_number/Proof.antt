@@ -18,19 +18,19 @@ enum-told-4 c = search needs
 
 returns : tie.Need-returns
 unfolding kindNumber
-returns c = rw (c .enum-told .given .1)
+returns c = search needs
 
 returns-2 : tie.Need-returns-2
 unfolding kindNumber
-returns-2 c = rw (c .enum-told2 .given .1)
+returns-2 c = search needs
 
 returns-3 : tie.Need-returns-3
 unfolding kindNumber
-returns-3 c = rw (c .enum-told3 .given .1)
+returns-3 c = search needs
 
 returns-4 : tie.Need-returns-4
 unfolding kindNumber
-returns-4 c = rw (c .enum-told4 .given .1)
+returns-4 c = search needs
 
 pub kind-number-spec : {M : Type 1} → statement M
 kind-number-spec =

@@ -12,7 +12,8 @@ use Rattle.slices.proofs.Laws.{over-append, length-over, splice-zero}
 use Rattle.commands.specs.declared.Buffer.the-variants.{One}
 use Rattle.registers.specs.Data.{bytes16, bytes64}
 use Rattle.registers.proofs.Data.{length-bytes16, length-bytes64}
-use Rattle.state.specs.Frames.{actedOn, bufferWritten, written}
+use Rattle.state.specs.Lent.{actedOn}
+use Rattle.state.specs.Frames.{bufferWritten, written}
 use Rattle.state.proofs.Arms.{names-write}
 use Rattle.state.proofs.Lent.{lent-same}
 use Rattle.frames.proofs.act.Statement.{statement}

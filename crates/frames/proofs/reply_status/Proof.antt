@@ -6,8 +6,7 @@ use lib.ListN.{length}
 use Rattle.control.specs.declared.Marks.{Marks}
 use Rattle.control.proofs.Bearing.{seals-of}
 use Rattle.memory.specs.Replies.{replied}
-use Rattle.state.specs.Frames.{isFree, statusOf}
-use Rattle.state.proofs.Arms.{free-idle}
+use Rattle.state.specs.Frames.{isFree, isIdle, statusOf}
 use Rattle.frames.proofs.reply_status.Statement.{statement}
 use Rattle.frames.proofs.reply_status.Tie as tie
 use Rattle.frames.proofs.is_free.Reads as is-free-reads
@@ -31,10 +30,11 @@ same-length : tie.Need-same-length
 same-length c = search needs
 
 returns : tie.Need-returns
+unfolding isIdle
 returns c =
     let a = c .before .before .before .before .before .before .before .before .before .args in
     λ r e.
-    let f = c .before .before .before .before .before .before .is-free .ensures ∙ ap (λ (x : Marks). isFree (x .usage)) (sym e) ∙ free-idle (r .operation) in
+    let f = c .before .before .before .before .before .before .is-free .ensures ∙ ap (λ (x : Marks). isFree (x .usage)) (sym e) in
     let p = c .before .before .before .before .before .is-guarded .ensures r (seals-of r (a .m) e) in
     c .before .before .reply-repeated .ensures
     ∙ (λ i. replied (length (a .reply .now)) (a .lead) (λ _. (c .before .before .before .before .status .ensures ∙ (λ j. statusOf (f j) (a .compare) (p j))) i))

@@ -11,7 +11,8 @@ use Rattle.commands.specs.declared.Buffer.the-variants.{One, Two}
 use Rattle.control.specs.declared.Marks.{Marks}
 use Rattle.memory.specs.Replies.{replied, onceData, ringData}
 use Rattle.state.specs.Frames.{dataOf}
-use Rattle.state.specs.Memory.{lent, either}
+use Rattle.state.specs.Lent.{lent}
+use Rattle.state.specs.Memory.{either}
 use Rattle.state.proofs.Arms.{names-page, names-array, names-read}
 use Rattle.frames.proofs.respond.Statement.{statement}
 use Rattle.frames.proofs.respond.Tie as tie

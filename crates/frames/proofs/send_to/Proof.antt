@@ -7,24 +7,17 @@ use mathlib.Core.Path.{_≡_, refl, sym, ap, _∙_}
 use lib.ListN.{length}
 use borrow.Author.Tests.{not-true, not-false}
 use Rattle.memory.specs.Replies.{replied}
-use Rattle.state.specs.Memory.{Memory, memoryIn, memoryOf, chipOf}
+use Rattle.state.specs.Lent.{memoryIn}
+use Rattle.state.specs.Memory.{Memory, memoryOf, stateOf, chipOf}
 use Rattle.state.specs.Frames.{dataOf}
-use Rattle.state.specs.Outcomes.{outcome}
+use Rattle.state.specs.Outcomes.{sentState}
 use Rattle.state.specs.declared.Answer.the-variants as Answers
 use Rattle.state.proofs.Arms.{decided-names, decided-lead, decided-reply, decided-registers, decided-memory}
 use Rattle.state.proofs.Lent.{memory-joined}
-use Rattle.state.proofs.Accepted.{framed-in, known-frame, known-sent, known-unreplied, known-replied}
+use Rattle.state.proofs.Accepted.{framed-in, leaves-as, leaves-refused, known-frame, known-sent}
+use Rattle.state.proofs.Lengths.{sent-array}
 use Rattle.frames.proofs.send_to.Statement.{statement}
 use Rattle.frames.proofs.send_to.Tie as tie
-use Rattle.control.proofs.apply.Reads as apply-reads
-use Rattle.control.proofs.control_frame.Reads as control-frame-reads
-use Rattle.control.proofs.marks_of.Reads as marks-of-reads
-use Rattle.frames.proofs.act.Reads as act-reads
-use Rattle.frames.proofs.is_framed.Reads as is-framed-reads
-use Rattle.frames.proofs.respond.Reads as respond-reads
-use Rattle.state.proofs.buffers_of.Reads as buffers-of-reads
-use Rattle.state.proofs.chip_of.Reads as chip-of-reads
-use Rattle.state.proofs.security_of.Reads as security-of-reads
 
 -- the lengths of the chip's buffers, and of both together
 long : (s : tie.Start) → (length (s .args .c .buffer1) ≡ 264) × (length (s .args .c .buffer2) ≡ 264)
@@ -39,10 +32,8 @@ is-framed-requires c κs = search needs
 returns : tie.Need-returns
 returns c =
     let a = c .before .before .before .before .before .args in
-    let t = sym (c .before .is-framed .ensures) ∙ not-true _ (c .if1 .taken) in (
-      sym (known-frame (a .c) (a .array .now) (a .frame .now) (length (a .reply .now)) (a .g) t),
-      sym (known-unreplied (a .c) (a .array .now) (a .frame .now) (a .reply .now) (a .g) t),
-    )
+    let t = sym (c .before .is-framed .ensures) ∙ not-true _ (c .if1 .taken) in
+    leaves-refused Answers.Frame (a .c) (a .array .now) (a .reply .now) (known-frame (stateOf (a .c) (a .array .now)) (a .frame .now) (a .reply .now) (a .g) t)
 
 marks-of-requires : tie.Need-marks-of-requires
 marks-of-requires c κs = search needs
@@ -112,6 +103,7 @@ same-length : tie.Need-same-length
 same-length c = search needs
 
 returns-2 : tie.Need-returns-2
+unfolding sentState
 returns-2 c =
     let a = c .before .before .before .before .before .before .before .before .before .before .before .before .before .before .before .before .before .before .before .before .before .before .args in
     let r = a .c .registers in
@@ -121,15 +113,18 @@ returns-2 c =
     let e = c .before .before .before .before .before .before .before .before .before .before .before .before .before .before .control-frame .ensures r m in
     let w = long (c .before .before .before .before .before .before .before .before .before .before .before .before .before .before .before .before .before .before .before .before .before .before) in
     let n = both (c .before .before .before .before .before .before .before .before .before .before .before .before) in
-    let j = ap (λ (bs : List ℕ). memoryIn (a .array .now) bs (a .c .compare)) (c .before .before .before .before .before .before .before .before .before .before .before .before .buffers-of .ensures) ∙ memory-joined (a .c) (a .array .now) (w .0) (w .1) in (
-      ap (outcome Answers.Done)
-          (c .chip-of .ensures
-          ∙ (λ i. chipOf ((c .before .apply .ensures ∙ decided-registers (a .g) r (a .frame .now) _ e) i) (decided-memory (a .g) r (a .frame .now) _ e (memoryOf (a .c) (a .array .now)) (a .array .now) _ _ (a .c .compare) n j (c .before .before .before .act .ensures) i)))
-          ∙ sym (known-sent (a .c) (a .array .now) (a .frame .now) (length (a .reply .now)) (a .g) t),
-      decided-reply (a .g) r (a .frame .now) _ e (memoryOf (a .c) (a .array .now)) _ _ (l .2)
-          (c .before .before .before .before .before .before .before .before .respond .ensures r m (c .before .before .before .before .before .before .before .before .before .before .before .before .before .security-of .ensures) ∙ ap (λ (x : Memory). replied (length (a .reply .now)) (c .before .before .before .before .before .before .before .before .before .before .before .before .before .before .control-frame .result .lead) (dataOf (a .g) r x (c .before .before .before .before .before .before .before .before .before .before .before .before .before .before .control-frame .result .action))) j)
-          ∙ sym (known-replied (a .c) (a .array .now) (a .frame .now) (a .reply .now) (a .g) t),
-    )
+    let j = ap (λ (bs : List ℕ). memoryIn (a .array .now) bs (a .c .compare)) (c .before .before .before .before .before .before .before .before .before .before .before .before .buffers-of .ensures) ∙ memory-joined (a .c) (a .array .now) (w .0) (w .1) in
+    leaves-as (known-sent (stateOf (a .c) (a .array .now)) (a .frame .now) (a .reply .now) (a .g) t)
+    (record {
+      answer = refl;
+      chip =
+          c .chip-of .ensures
+          ∙ (λ i. chipOf ((c .before .apply .ensures ∙ decided-registers (a .g) r (a .frame .now) _ e) i) (decided-memory (a .g) r (a .frame .now) _ e (memoryOf (a .c) (a .array .now)) (a .array .now) _ _ (a .c .compare) n j (c .before .before .before .act .ensures) i));
+      array = sym (sent-array (a .g) r (a .frame .now) (memoryOf (a .c) (a .array .now)));
+      reply =
+          decided-reply (a .g) r (a .frame .now) _ e (memoryOf (a .c) (a .array .now)) _ _ (l .2)
+          (c .before .before .before .before .before .before .before .before .respond .ensures r m (c .before .before .before .before .before .before .before .before .before .before .before .before .before .security-of .ensures) ∙ ap (λ (x : Memory). replied (length (a .reply .now)) (c .before .before .before .before .before .before .before .before .before .before .before .before .before .before .control-frame .result .lead) (dataOf (a .g) r x (c .before .before .before .before .before .before .before .before .before .before .before .before .before .before .control-frame .result .action))) j);
+    })
 
 pub send-to-spec : {M : Type 1} → statement M
 send-to-spec =

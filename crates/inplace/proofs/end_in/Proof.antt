@@ -10,21 +10,18 @@ use lib.ListN.{take, drop, set, length-set}
 use Rattle.slices.proofs.Laws.{run-length}
 use Rattle.registers.specs.declared.Operation.{Operation}
 use Rattle.registers.specs.declared.Operation.the-variants.{Idle}
-use Rattle.registers.specs.declared.Registers.{Registers}
-use Rattle.registers.specs.Fields.{withOperation}
+use Rattle.registers.specs.Facts.{updateOf}
 use Rattle.control.specs.declared.Change.the-variants.{Start}
-use Rattle.control.specs.Completion.{completedBy, completed}
 use Rattle.control.specs.Rulings.{changed}
-use Rattle.state.specs.Memory.{Memory, memoryIn, memoryOf, chipOf}
+use Rattle.control.proofs.Ends.{completed-keep}
+use Rattle.state.specs.Lent.{memoryIn}
+use Rattle.state.specs.Memory.{Memory, memoryOf, chipOf}
 use Rattle.state.specs.Completion.{completedMemory}
+use Rattle.state.specs.Outcomes.{endedState}
 use Rattle.blocks.specs.Block.{decodeRegisters, decodeChip, encodeChip}
-use Rattle.inplace.proofs.Held.{back-length, lent-both, back-bit}
+use Rattle.inplace.proofs.Held.{plain-keeps, back-length, lent-both, back-bit}
 use Rattle.inplace.proofs.end_in.Statement.{statement}
 use Rattle.inplace.proofs.end_in.Tie as tie
-use Rattle.blocks.proofs.flag_byte.Reads as flag-byte-reads
-use Rattle.blocks.proofs.is_set.Reads as is-set-reads
-use Rattle.blocks.proofs.rest.Reads as rest-reads
-use Rattle.completion.proofs.complete_memory.Reads as complete-memory-reads
 
 slice-read-is-set : tie.Need-slice-read-is-set
 slice-read-is-set c = search needs
@@ -68,7 +65,7 @@ same-length-2 : tie.Need-same-length-2
 same-length-2 c = search needs
 
 returns : tie.Need-returns
-unfolding completed changed decodeRegisters decodeChip
+unfolding endedState changed decodeRegisters decodeChip
 returns c =
     let s = c .before .before .before .before .before .before .before .before .before .before .before .before .before .before .before .before in
     let a = s .args in
@@ -86,7 +83,7 @@ returns c =
     ∙ ap (λ (x : Memory). completedMemory (a .g) (a .o) x) (ap (λ (bit : Bool). memoryIn xs (take 528 (drop 236 y)) bit) (c .before .before .before .before .before .before .before .before .before .before .before .before .is-set .ensures) ∙ lent-both b k l y h xs)
     ∙ ap (λ (o : Operation). completedMemory (a .g) o (memoryOf (decodeChip b) xs)) (s .pre .2)
     in
-    let q = ap (λ (x : Registers). withOperation x Idle) (sym (s .pre .4 r)) ∙ ap (λ (o : Operation). withOperation (completedBy o r) Idle) (s .pre .2) in (
+    let q = sym (completed-keep r (ap updateOf (sym (s .pre .2)) ∙ plain-keeps (updateOf (a .o)) (s .pre .4))) in (
       ap (λ (v : ℕ). set (take 236 y ++ (zs ++ drop 528 (drop 236 y))) 764 v) (c .flag-byte .ensures) ∙ back-bit b k l y h zs (c .before .before .before .before .before .complete-memory .result) (c .before .before .before .before .before .complete-memory .kept .1 .1 .0 ∙ n) ∙ (λ i. encodeChip (chipOf (q i) (m i))),
       ap (λ (x : Memory). x .array) m,
     )

@@ -7,20 +7,16 @@ use native.Mathlib.Omega.{arith}
 use lib.ListN.{length, take, drop}
 use Rattle.slices.proofs.Laws.{run-length}
 use Rattle.memory.specs.Replies.{replied}
-use Rattle.state.specs.Memory.{Memory, memoryIn, memoryOf, chipOf}
+use Rattle.state.specs.Lent.{memoryIn}
+use Rattle.state.specs.Memory.{Memory, memoryOf, chipOf}
 use Rattle.state.specs.Frames.{dataOf}
+use Rattle.state.specs.Outcomes.{sentState}
 use Rattle.state.proofs.Arms.{decided-names, decided-lead, decided-reply, decided-registers, decided-memory}
 use Rattle.blocks.specs.Block.{decodeRegisters, decodeChip, encodeChip}
 use Rattle.blocks.proofs.Lends.{security-lent, buffers-lent}
 use Rattle.inplace.proofs.Held.{lent-both, back}
 use Rattle.inplace.proofs.send_in.Statement.{statement}
 use Rattle.inplace.proofs.send_in.Tie as tie
-use Rattle.blocks.proofs.is_set.Reads as is-set-reads
-use Rattle.blocks.proofs.marks_at.Reads as marks-at-reads
-use Rattle.blocks.proofs.settle.Reads as settle-reads
-use Rattle.control.proofs.control_frame.Reads as control-frame-reads
-use Rattle.frames.proofs.act.Reads as act-reads
-use Rattle.frames.proofs.respond.Reads as respond-reads
 
 slice-read-is-set : tie.Need-slice-read-is-set
 slice-read-is-set c = search needs
@@ -110,6 +106,7 @@ same-length-2 : tie.Need-same-length-2
 same-length-2 c = search needs
 
 returns : tie.Need-returns
+unfolding sentState decodeChip
 returns c =
     let s = c .before .before .before .before .before .before .before .before .before .before .before .before .before .before .before .before .before .before .before .before .before .before .before .before .before in
     let a = s .args in

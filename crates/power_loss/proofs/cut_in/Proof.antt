@@ -1,15 +1,16 @@
 -- `power_loss::cut_in` meets its contract: junk of another length is refused; else array, buffers and registers go by the definitions.
 -- Assumes nothing.
-use mathlib.Core.Path.{sym, _∙_}
+use mathlib.Core.Path.{refl, _∙_}
+use mathlib.Core.List.{[]}
 use native.Mathlib.Omega.{arith}
 use borrow.Author.Needs.{needs}
 use Rattle.geometry.proofs.Pages.{sized-own}
 use Rattle.state.specs.PowerLoss.{lostMemory}
-use Rattle.state.specs.Memory.{withRegisters}
-use Rattle.state.specs.Outcomes.{outcome}
+use Rattle.state.specs.Memory.{stateOf, withRegisters}
+use Rattle.state.specs.Outcomes.{cutState}
 use Rattle.state.specs.declared.Answer.the-variants as Answers
 use Rattle.state.proofs.Arms.{sized-room}
-use Rattle.state.proofs.Accepted.{known-script, known-script-array, known-cut, known-cut-array}
+use Rattle.state.proofs.Accepted.{leaves-as, leaves-refused, known-script, known-cut}
 use Rattle.power_loss.proofs.cut_in.Statement.{statement}
 use Rattle.power_loss.proofs.cut_in.Tie as tie
 
@@ -22,7 +23,7 @@ add-if1 c = search needs
 returns : tie.Need-returns
 returns c =
     let a = c .before .before .before .before .args in
-    (sym (known-script (a .c) (a .array .now) (a .junk .now) (a .g) (c .if1 .taken)), sym (known-script-array (a .c) (a .array .now) (a .junk .now) (a .g) (c .if1 .taken)))
+    leaves-refused Answers.Script (a .c) (a .array .now) [] (known-script (a .junk .now) (stateOf (a .c) (a .array .now)) (a .g) (c .if1 .taken))
 
 spoil-array-requires : tie.Need-spoil-array-requires
 spoil-array-requires c κs = search needs
@@ -42,12 +43,16 @@ same-length : tie.Need-same-length
 same-length c = search needs
 
 returns-2 : tie.Need-returns-2
-unfolding lostMemory
+unfolding cutState lostMemory
 returns-2 c =
-    let a = c .before .before .before .before .before .before .before .before .before .before .before .before .args in (
-      (λ i. outcome Answers.Done ((c .with-registers .ensures ∙ (λ j. withRegisters (c .before .before .spoil-buffers .ensures j) (c .before .lose .ensures j))) i)) ∙ sym (known-cut (a .c) (a .array .now) (a .junk .now) (a .g) (c .before .before .before .before .before .before .before .before .if1 .left)),
-      c .before .before .before .before .before .spoil-array .ensures ∙ sym (known-cut-array (a .c) (a .array .now) (a .junk .now) (a .g) (c .before .before .before .before .before .before .before .before .if1 .left)),
-    )
+    let a = c .before .before .before .before .before .before .before .before .before .before .before .before .args in
+    leaves-as (known-cut (a .junk .now) (stateOf (a .c) (a .array .now)) (a .g) (c .before .before .before .before .before .before .before .before .if1 .left))
+    (record {
+      answer = refl;
+      chip = c .with-registers .ensures ∙ (λ i. withRegisters (c .before .before .spoil-buffers .ensures i) (c .before .lose .ensures i));
+      array = c .before .before .before .before .before .spoil-array .ensures;
+      reply = refl;
+    })
 
 pub cut-in-spec : {M : Type 1} → statement M
 cut-in-spec =

@@ -1,21 +1,26 @@
--- `power_loss::spoil_array` meets its contract: the run's bytes, then those of a Chip Erase's sectors.
+-- `power_loss::spoil_array` meets its contract: the bytes of the operation's run, then those of the sectors of its set.
 -- Assumes nothing.
-use mathlib.Core.Path.{ap, _∙_}
 use borrow.Author.Needs.{needs}
-use Rattle.geometry.specs.declared.Run.{Run}
-use Rattle.memory.specs.Pages.{junked, inSectors}
+use Rattle.geometry.proofs.Pages.{sized-own}
+use Rattle.memory.specs.Pages.{junked}
 use Rattle.state.specs.PowerLoss.{arrayLost}
+use Rattle.state.proofs.Arms.{target-has, target-sectors}
 use Rattle.power_loss.proofs.spoil_array.Statement.{statement}
 use Rattle.power_loss.proofs.spoil_array.Tie as tie
 
-run-of-requires : tie.Need-run-of-requires
-run-of-requires c κs = search needs
+target-of-requires : tie.Need-target-of-requires
+target-of-requires c κs = search needs
+
+run-named-requires : tie.Need-run-named-requires
+run-named-requires c κs =
+    let s = c .before .before .before .before in
+    (sized-own (s .args .g) _ (s .pre .0), target-has (s .args .g) (s .args .o) (c .before .target-of .ensures) (s .pre .1))
 
 spoil-requires : tie.Need-spoil-requires
 spoil-requires c κs = search needs
 
-sectors-of-requires : tie.Need-sectors-of-requires
-sectors-of-requires c κs = search needs
+set-named-requires : tie.Need-set-named-requires
+set-named-requires c κs = search needs
 
 spoil-sectors-requires : tie.Need-spoil-sectors-requires
 spoil-sectors-requires c κs = search needs
@@ -26,17 +31,19 @@ same-length c = search needs
 returns : tie.Need-returns
 unfolding arrayLost
 returns c =
-    let a = c .before .before .before .before .before .before .before .before .before .before .before .before .args in
-    c .before .before .spoil-sectors .ensures
-    ∙ (λ i. inSectors (junked (a .g) (a .junk .now)) (a .g) (c .before .before .before .sectors-of .ensures i) ((c .before .before .before .before .before .before .before .spoil .ensures ∙ ap (λ (r : Run). junked (a .g) (a .junk .now) r (a .array .now)) (c .before .before .before .before .before .before .before .before .run-of .ensures .0)) i))
+    let a = c .before .before .before .before .before .before .before .before .before .before .before .before .before .args in
+    target-sectors (a .g) (a .o) (c .before .before .before .before .before .before .before .before .before .before .target-of .ensures) (junked (a .g) (a .junk .now)) (a .array .now) _
+    (c .before .before .before .before .before .before .before .before .run-named .ensures .0) (c .before .before .before .set-named .ensures)
+    (c .before .before .before .before .before .before .before .spoil .ensures) (c .before .before .spoil-sectors .ensures)
 
 pub spoil-array-spec : {M : Type 1} → statement M
 spoil-array-spec =
     tie.close
     (tie.spec
-    run-of-requires
+    target-of-requires
+    run-named-requires
     spoil-requires
-    sectors-of-requires
+    set-named-requires
     spoil-sectors-requires
     same-length
     returns)

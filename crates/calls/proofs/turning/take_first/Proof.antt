@@ -1,0 +1,27 @@
+-- `calls::turning::take_first` meets its contract. Assumes nothing.
+use borrow.Author.Needs.{needs}
+use Rattle.calls.proofs.turning.take_first.Statement.{statement}
+use Rattle.calls.proofs.turning.take_first.Tie as tie
+use Rattle.calls.proofs.turning.take_first.Reads as reads
+use Rattle.calls.proofs.turning.take_first.Lts as lts
+use Rattle.turns.proofs.take_step.Reads as take-step-reads
+
+-- src/turning.rt:52:40
+slice-aggregate-take-step : tie.Need-slice-aggregate-take-step
+slice-aggregate-take-step c = search needs
+
+-- src/turning.rt:52:5
+take-step-requires : tie.Need-take-step-requires
+take-step-requires c κs = search needs
+
+-- src/turning.rt:40:1
+same-length : tie.Need-same-length
+same-length c = search needs
+
+-- src/turning.rt:40:1
+returns : tie.Need-returns
+returns c = search needs
+
+pub take-first-spec : {M : Type 1} → statement M
+take-first-spec =
+    tie.close (tie.spec slice-aggregate-take-step take-step-requires same-length returns)

@@ -1,0 +1,184 @@
+-- THE THREE DEMANDS OVER WHAT IS COMPILED: lists of calls of the C functions, each as its promise says. What a caller has after each is the outcome of its
+-- definition, and the state is the one that block and array hold; so the theorems of crate slots say it of the C functions.
+-- Assumes nothing.
+use Prim.Native.Nat.{ℕ, _*_, _≤_}
+use native.Mathlib.Omega.{arith}
+use mathlib.Core.Path.{_≡_, refl, sym, ap, subst, _∙_}
+use mathlib.Core.Bool.{true, false, cond, _&&_}
+use mathlib.Core.List.{List, [], _∷_}
+use mathlib.Core.Logic.{_⊎_, inl, inr}
+use lib.ListN.{length, take}
+use lib.Dec.{eqb, leb, lit≤}
+use borrow.Author.Tests.{le-leb, leb-true, ne-eqb}
+use Rattle.slices.specs.Lists.{over}
+use Rattle.slices.proofs.Laws.{over-nil}
+use Rattle.state.specs.declared.Answer.{Answer}
+use Rattle.state.specs.declared.Answer.the-variants as Answers
+use Rattle.state.specs.Answers.{numberOf}
+use Rattle.state.specs.Memory.{State, chipIn}
+use Rattle.state.specs.Outcomes.{Left, sendOutcome, endOutcome, cutOutcome, pinOutcome}
+use Rattle.blocks.specs.Block.{encodeChip}
+use Rattle.blocks.specs.Promises.{heldIn, storedBy, Met}
+use Rattle.blocks.proofs.Decoded.{whole-decode}
+use Rattle.slots.specs.declared.Kind.the-variants.{Put}
+use Rattle.slots.specs.Calls.{Out, refused}
+use Rattle.slots.specs.Lists.{Op, call, raw, straight, pin, busyEnd, cut, put, get, outOf, nextOf, runList, leftBy, boundOf, isRefusal, Untouched, logOf}
+use Rattle.slots.specs.Alike.{Twins, AlikeLists, Soft, Same, AllSame}
+use Rattle.slots.specs.Quiet.{QuietIn, Refuses, Returns}
+use Rattle.slots.proofs.Places.{never, both}
+use Rattle.slots.proofs.Accepted.{picked}
+use Rattle.slots.proofs.Driven.{other}
+use Rattle.slots.proofs.Bound.{within-bound}
+use Rattle.slots.proofs.TwoRuns.{two-runs}
+use Rattle.slots.proofs.Refused.{in-table, refusals}
+use Rattle.slots.proofs.ReadBack.{read-back}
+use Rattle.driver_blocks.specs.Block.{answerAt}
+use Rattle.driver_blocks.proofs.RoundTrip.{answer-back}
+use Rattle.runs.specs.Promises.{keptIn, Called}
+use Rattle.chains.specs.Chains.{Seen, Does, Chain, lastIn, framesIn, pollsIn, countIn, writtenIn, SoftNumber, SameSeen, AllSeen, ReturnsIn, Refused}
+use Rattle.chains.proofs.Seen.{Shows, shows}
+
+-- ---- demand 3
+
+pub soft-number : (a : Answer) (n : ℕ) → n ≡ numberOf a → Soft a → SoftNumber n
+unfolding numberOf
+soft-number a n e (inl (inl h)) = inl (inl (e ∙ ap numberOf h))
+soft-number a n e (inl (inr h)) = inl (inr (e ∙ ap numberOf h))
+soft-number a n e (inr h) = inr (e ∙ ap numberOf h)
+
+same-seen : {x y : Out} {s t : State} {l k : List ℕ} {z w : Seen} → Shows x s l z → Shows y t k w → Same x y → SameSeen z w
+same-seen {x} {y} {s} {t} {l} {k} {z} {w} a b e =
+    record {
+      written = a .written ∙ e .lines ∙ sym (b .written);
+      frames = a .frames ∙ e .frames ∙ sym (b .frames);
+      polls = a .polls ∙ e .polls ∙ sym (b .polls);
+      answer = go (e .answer);
+    }
+  where
+    go : (x .answer ≡ y .answer) ⊎ (Soft (x .answer) × Soft (y .answer)) → (z .number ≡ w .number) ⊎ (SoftNumber (z .number) × SoftNumber (w .number))
+    go (inl h) = inl (a .number ∙ ap numberOf h ∙ sym (b .number))
+    go (inr h) = inr (soft-number (x .answer) (z .number) (a .number) (h .0), soft-number (y .answer) (w .number) (b .number) (h .1))
+
+all-seen : (os us : List Op) (held xs kept ys : List ℕ) (zs ws : List Seen) → Chain held xs os zs → Chain kept ys us ws
+    → AllSame (runList os (heldIn held xs)) (runList us (heldIn kept ys)) → AllSeen zs ws
+unfolding runList
+all-seen [] [] held xs kept ys [] [] c d e = tt
+all-seen [] [] held xs kept ys [] (w ∷ ws) c d e = d
+all-seen [] [] held xs kept ys (z ∷ zs) ws c d e = absurd c
+all-seen [] (u ∷ us) held xs kept ys zs ws c d e = absurd e
+all-seen (o ∷ os) [] held xs kept ys zs ws c d e = absurd e
+all-seen (o ∷ os) (u ∷ us) held xs kept ys [] ws c d e = absurd c
+all-seen (o ∷ os) (u ∷ us) held xs kept ys (z ∷ zs) [] c d e = absurd d
+all-seen (o ∷ os) (u ∷ us) held xs kept ys (z ∷ zs) (w ∷ ws) c d e =
+    let a = shows o held xs z (c .0) in
+    let b = shows u kept ys w (d .0) in
+    (same-seen a b (e .0),
+    all-seen os us (z .block) (z .array) (w .block) (w .array) zs ws (c .1) (d .1)
+    (subst (λ (s : State). AllSame (runList os s) (runList us (heldIn (w .block) (w .array)))) (sym (a .holds))
+    (subst (λ (t : State). AllSame (runList os (nextOf o (heldIn held xs))) (runList us t)) (sym (b .holds)) (e .1))))
+
+-- TWO RUNS: two blocks that read as chips alike in registers, arrays of one length, arguments alike: then the written part of each log, frames, polls and
+-- answers agree
+pub two-runs-called : (os us : List Op) (held xs kept ys : List ℕ) (zs ws : List Seen) → Chain held xs os zs → Chain kept ys us ws
+    → Twins (heldIn held xs) (heldIn kept ys) → AlikeLists os us (heldIn held xs) (heldIn kept ys) → AllSeen zs ws
+two-runs-called os us held xs kept ys zs ws c d t a = all-seen os us held xs kept ys zs ws c d (two-runs os us (heldIn held xs) (heldIn kept ys) t a)
+
+-- ---- demand 2
+
+-- the state after a list
+left-held : (os : List Op) (z : Seen) (zs : List Seen) → Chain (z .block) (z .array) os zs
+    → heldIn (lastIn z zs .block) (lastIn z zs .array) ≡ leftBy os (heldIn (z .block) (z .array))
+unfolding leftBy lastIn
+left-held [] z [] c = refl
+left-held [] z (y ∷ ys) c = absurd c
+left-held (o ∷ os) z [] c = absurd c
+left-held (o ∷ os) z (y ∷ ys) c = left-held os y ys (c .1) ∙ ap (leftBy os) (shows o (z .block) (z .array) y (c .0) .holds)
+
+-- 0 is Done
+zero-done : (a : Answer) → numberOf a ≡ 0 → a ≡ Answers.Done
+unfolding answerAt
+zero-done a e = sym (answer-back a) ∙ ap answerAt e
+
+refuses-number : {a : Answer} (n : ℕ) → n ≡ numberOf a → Refuses a → ((1 ≤ n) × (n ≤ 9)) ⊎ (n ≡ 11)
+unfolding numberOf
+refuses-number n e Refuses.part = inl (omega (arith, e), omega (arith, e))
+refuses-number n e Refuses.frame = inl (omega (arith, e), omega (arith, e))
+refuses-number n e Refuses.slot = inl (omega (arith, e), omega (arith, e))
+refuses-number n e Refuses.limit = inl (omega (arith, e), omega (arith, e))
+refuses-number n e Refuses.size = inl (omega (arith, e), omega (arith, e))
+refuses-number n e Refuses.log = inl (omega (arith, e), omega (arith, e))
+refuses-number n e Refuses.script = inl (omega (arith, e), omega (arith, e))
+refuses-number n e Refuses.device = inl (omega (arith, e), omega (arith, e))
+refuses-number n e Refuses.busy = inl (omega (arith, e), omega (arith, e))
+refuses-number n e Refuses.lost = inr e
+
+returns-in : (recipe : List ℕ) {o : Out} {t : State} {log : List ℕ} (z : Seen) → Shows o t log z → Returns recipe o → ReturnsIn recipe z
+unfolding numberOf
+returns-in recipe z a (inl h) = inl (refuses-number (z .number) (a .number) h)
+returns-in recipe z a (inr h) =
+    inr (a .number ∙ ap numberOf (h .0), a .count ∙ h .1, (λ i. take (a .count i) (a .lent i)) ∙ h .2)
+
+-- READ BACK: a put that answered 0, then any list of calls and events none of whose frames programs or erases in its slot, then a get of it
+pub read-back-called : (slot limit : ℕ) (script recipe junk log held xs : List ℕ) (z : Seen) → length held ≡ 765
+    → Does (put slot limit script recipe junk log) held xs z → z .number ≡ 0
+    → (os : List Op) (zs : List Seen) → Chain (z .block) (z .array) os zs → QuietIn slot os (heldIn (z .block) (z .array))
+    → (limit' : ℕ) (script' junk' log' buffer : List ℕ) (y : Seen)
+    → Does (get slot limit' script' junk' log' buffer) (lastIn z zs .block) (lastIn z zs .array) y → ReturnsIn recipe y
+read-back-called slot limit script recipe junk log held xs z l w n os zs c q limit' script' junk' log' buffer y d =
+    let s = heldIn held xs in
+    let p = put slot limit script recipe junk log in
+    let o = get slot limit' script' junk' log' buffer in
+    let a = shows p held xs z w in
+    let e : outOf p s .answer ≡ Answers.Done = zero-done (outOf p s .answer) (sym (a .number) ∙ n) in
+    let t : heldIn (lastIn z zs .block) (lastIn z zs .array) ≡ leftBy os (nextOf p s) = left-held os z zs c ∙ ap (leftBy os) (a .holds) in
+    returns-in recipe y (shows o (lastIn z zs .block) (lastIn z zs .array) y d)
+    (subst (λ (u : State). Returns recipe (outOf o u)) (sym t)
+    (read-back slot limit script recipe junk log s (whole-decode held l) e os (subst (QuietIn slot os) (a .holds) q) limit' script' junk' log' buffer))
+
+-- ---- demand 1
+
+-- every answer is a number of the table, and no call sends more frames than its bound
+pub in-table-called : (o : Op) (held xs : List ℕ) (z : Seen) → Does o held xs z → (z .number ≤ 13) × (framesIn z ≤ boundOf o) × (pollsIn z ≤ framesIn z)
+in-table-called o held xs z d =
+    let a = shows o held xs z d in
+    let w = within-bound o (heldIn held xs) in
+    (subst (λ (n : ℕ). n ≤ 13) (sym (a .number)) (in-table (outOf o (heldIn held xs) .answer)), omega (arith, a .frames, w .frames), omega (arith, a .frames, a .polls, w .polls))
+
+refusal-is : (a : Answer) (n : ℕ) → n ≡ numberOf a → 1 ≤ n → n ≤ 7 → isRefusal a ≡ true
+refusal-is a n e h l = λ i. le-leb 1 (numberOf a) (omega arith) i && le-leb (numberOf a) 7 (omega arith) i
+
+some-refusal : (a : Answer) → isRefusal a ≡ true → eqb (numberOf a) 0 ≡ false
+some-refusal a e =
+    let l = leb-true 1 (numberOf a) (both (leb 1 (numberOf a)) (leb (numberOf a) 7) e) in
+    ne-eqb (numberOf a) 0 (λ z. omega arith)
+
+kept-met : {held : List ℕ} {o : Left} {r : ℕ} {kept xs ys : List ℕ} → Met held o r kept xs ys → isRefusal (o .answer) ≡ true → kept ≡ held
+unfolding storedBy
+kept-met {held} {o} w e = w .block ∙ other (eqb (numberOf (o .answer)) 0) (encodeChip (chipIn (o .state))) held (some-refusal (o .answer) e)
+
+-- the block of a call or event that is refused
+kept-called : (o : Op) (held xs : List ℕ) (z : Seen) → Does o held xs z → isRefusal (outOf o (heldIn held xs) .answer) ≡ true → z .block ≡ held
+unfolding outOf keptIn pinOutcome numberOf
+kept-called (call a place script payload junk log lent) held xs z d r = d .block ∙ picked (isRefusal (outOf (call a place script payload junk log lent) (heldIn held xs) .answer)) held _ r
+kept-called (raw frame script junk log reply) held xs z d r = d .block ∙ picked (isRefusal (outOf (raw frame script junk log reply) (heldIn held xs) .answer)) held _ r
+kept-called (straight frame reply) held xs z d r = kept-met (d .0) r
+kept-called (pin high) held xs z d r = never r
+kept-called busyEnd held xs z d r = kept-met (d .0) r
+kept-called (cut junk) held xs z d r = kept-met (d .0) r
+
+-- REFUSALS: a C function that answers 1 to 7 leaves block, array, log and what was lent as they were, and counts 0
+pub refusals-called : (o : Op) (held xs : List ℕ) (z : Seen) → Does o held xs z → 1 ≤ z .number → z .number ≤ 7 → Refused o held xs z
+refusals-called o held xs z d h l =
+    let s = heldIn held xs in
+    let a = shows o held xs z d in
+    let r = refusal-is (outOf o s .answer) (z .number) (a .number) h l in
+    let u = refusals o s r in
+    record {
+      block = kept-called o held xs z d r;
+      array = ap (λ (t : State). t .memory .array) (a .holds ∙ u .next);
+      log = a .log ∙ ap (λ (x : Out). over (x .lines) (logOf o)) (u .out) ∙ over-nil (logOf o);
+      lent = a .lent ∙ ap (λ (x : Out). x .lent) (u .out);
+      frames = a .frames ∙ ap (λ (x : Out). x .frames) (u .out);
+      polls = a .polls ∙ ap (λ (x : Out). x .polls) (u .out);
+      count = a .count ∙ ap (λ (x : Out). x .count) (u .out);
+    }

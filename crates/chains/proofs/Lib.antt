@@ -1,0 +1,4 @@
+pub mod Lines
+pub mod Seen
+pub mod Demands
+pub mod Drivers

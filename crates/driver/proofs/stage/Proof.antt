@@ -1,0 +1,37 @@
+-- `driver::stage` meets its contract: an end stands, and any other stage goes by the fault.
+-- Assumes nothing.
+use mathlib.Core.Bool.{cond}
+use mathlib.Core.Path.{sym, ap, _∙_}
+use lib.Dec.{eqb}
+use Rattle.state.specs.Answers.{numberOf}
+use Rattle.state.specs.declared.Answer.{Answer}
+use Rattle.slots.proofs.Driven.{other}
+use Rattle.slots.specs.declared.Stage.the-variants.{Going, Ended}
+use Rattle.worlds.proofs.Sane.{stage-ended}
+use Rattle.worlds.specs.Step.{stageBy}
+use borrow.Author.Needs.{needs}
+use Rattle.driver.proofs.stage.Statement.{statement}
+use Rattle.driver.proofs.stage.Tie as tie
+
+has-ended-requires : tie.Need-has-ended-requires
+has-ended-requires c κs = search needs
+
+returns : tie.Need-returns
+returns c = let a = c .before .before .before .args in sym (stage-ended (a .p) (a .d) (sym (c .before .has-ended .ensures) ∙ c .if1 .taken))
+
+fault-requires : tie.Need-fault-requires
+fault-requires c κs = search needs
+
+first-stage-requires : tie.Need-first-stage-requires
+first-stage-requires c κs = search needs
+
+returns-2 : tie.Need-returns-2
+unfolding stageBy
+returns-2 c =
+    c .first-stage .ensures
+    ∙ ap (λ (x : Answer). cond (eqb (numberOf x) 0) Going (Ended x)) (c .before .fault .ensures)
+    ∙ sym (other _ (c .before .before .before .before .before .args .d .course .stage) _ (sym (c .before .before .before .has-ended .ensures) ∙ c .before .before .if1 .left))
+
+pub stage-spec : {M : Type 1} → statement M
+stage-spec =
+    tie.close (tie.spec has-ended-requires returns fault-requires first-stage-requires returns-2)

@@ -1,0 +1,26 @@
+-- `driver_blocks::told_number` meets its contract: each arm is the case of its constructor. Assumes nothing.
+use Rattle.driver_blocks.specs.Block.{toldNumber}
+use borrow.Author.Needs.{needs}
+use Rattle.driver_blocks.proofs.told_number.Statement.{statement}
+use Rattle.driver_blocks.proofs.told_number.Tie as tie
+use Rattle.state.proofs.number.Reads as number-reads
+
+enum-told : tie.Need-enum-told
+enum-told c = search needs
+
+enum-known-t : tie.Need-enum-known-t
+enum-known-t c = search needs
+
+number-requires : tie.Need-number-requires
+number-requires c κs = search needs
+
+returns : tie.Need-returns
+unfolding toldNumber
+returns c = rw (c .enum-told .given .1)
+
+returns-2 : tie.Need-returns-2
+unfolding toldNumber
+returns-2 c = rw (c .before .before .t .given .1) (c .number .ensures)
+
+pub told-number-spec : {M : Type 1} → statement M
+told-number-spec = tie.close (tie.spec enum-told enum-known-t number-requires returns returns-2)

@@ -1,0 +1,55 @@
+-- `records::judge` meets its contract: each kind's verdict is the definition's clause for it.
+-- Assumes nothing.
+use borrow.Author.Needs.{needs}
+use Rattle.slots.specs.Driver.{judged}
+use Rattle.records.proofs.judge.Statement.{statement}
+use Rattle.records.proofs.judge.Tie as tie
+
+enum-told : tie.Need-enum-told
+enum-told c = search needs
+
+enum-told-2 : tie.Need-enum-told-2
+enum-told-2 c = search needs
+
+judge-patch-requires : tie.Need-judge-patch-requires
+judge-patch-requires c κs = search needs
+
+enum-told-3 : tie.Need-enum-told-3
+enum-told-3 c = search needs
+
+judge-get-requires : tie.Need-judge-get-requires
+judge-get-requires c κs = search needs
+
+enum-told-4 : tie.Need-enum-told-4
+enum-told-4 c = search needs
+
+returns : tie.Need-returns
+unfolding judged
+returns c v staged = rw (c .enum-told .given .1)
+
+returns-2 : tie.Need-returns-2
+unfolding judged
+returns-2 c v staged = rw (c .before .enum-told2 .given .1) (c .judge-patch .ensures)
+
+returns-3 : tie.Need-returns-3
+unfolding judged
+returns-3 c v staged = rw (c .before .enum-told3 .given .1) (c .judge-get .ensures)
+
+returns-4 : tie.Need-returns-4
+unfolding judged
+returns-4 c v staged = rw (c .enum-told4 .given .1)
+
+pub judge-spec : {M : Type 1} → statement M
+judge-spec =
+    tie.close
+    (tie.spec
+    enum-told
+    enum-told-2
+    judge-patch-requires
+    enum-told-3
+    judge-get-requires
+    enum-told-4
+    returns
+    returns-2
+    returns-3
+    returns-4)

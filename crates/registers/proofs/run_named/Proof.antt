@@ -1,0 +1,61 @@
+-- `registers::run_named` meets its contract: arm for arm the definition; what the part has ends in it (`runs`).
+-- Assumes nothing.
+use Rattle.registers.proofs.Operations.{named-block, named-sector, runs}
+use Rattle.geometry.proofs.Sectors.{sector-most}
+use native.Mathlib.Omega.{arith}
+use borrow.Author.Needs.{needs}
+use Rattle.registers.proofs.run_named.Statement.{statement}
+use Rattle.registers.proofs.run_named.Tie as tie
+
+enum-told : tie.Need-enum-told
+enum-told c = search needs
+
+enum-known-n : tie.Need-enum-known-n
+enum-known-n c = search needs
+
+enum-known-n-2 : tie.Need-enum-known-n-2
+enum-known-n-2 c = search needs
+
+mul-t7 : tie.Need-mul-t7
+mul-t7 c = omega (arith, named-block (c .before .before .before .args .g) (c .before .before .before .args .n) (c .before .before .before .pre .1) (c .before .n2 .given .0 .0) (c .before .n2 .given .1), c .before .before .before .pre .0 .few)
+
+enum-known-n-3 : tie.Need-enum-known-n-3
+enum-known-n-3 c = search needs
+
+sector-run-requires : tie.Need-sector-run-requires
+sector-run-requires c κs = omega (arith, named-sector (c .before .before .before .args .g) (c .before .before .before .args .n) (c .before .before .before .pre .1) (c .before .n3 .given .0 .0) (c .before .n3 .given .1), sector-most (c .before .before .before .args .g) (c .before .before .before .pre .0 .few))
+
+enum-told-2 : tie.Need-enum-told-2
+enum-told-2 c = search needs
+
+returns : tie.Need-returns
+returns c = runs (c .before .before .args .g) (c .before .before .args .n) _ (c .before .before .pre .1) (rw (c .enum-told .given .1))
+
+returns-2 : tie.Need-returns-2
+returns-2 c = runs (c .before .before .before .args .g) (c .before .before .before .args .n) _ (c .before .before .before .pre .1) (rw (c .before .n .given .1))
+
+returns-3 : tie.Need-returns-3
+returns-3 c = runs (c .before .before .before .args .g) (c .before .before .before .args .n) _ (c .before .before .before .pre .1) (rw (c .before .n2 .given .1))
+
+returns-4 : tie.Need-returns-4
+returns-4 c = runs (c .before .before .before .before .args .g) (c .before .before .before .before .args .n) (c .sector-run .result) (c .before .before .before .before .pre .1) (rw (c .before .before .n3 .given .1) (c .sector-run .ensures .0))
+
+returns-5 : tie.Need-returns-5
+returns-5 c = runs (c .before .before .args .g) (c .before .before .args .n) _ (c .before .before .pre .1) (rw (c .enum-told2 .given .1))
+
+pub run-named-spec : {M : Type 1} → statement M
+run-named-spec =
+    tie.close
+    (tie.spec
+    enum-told
+    enum-known-n
+    enum-known-n-2
+    mul-t7
+    enum-known-n-3
+    sector-run-requires
+    enum-told-2
+    returns
+    returns-2
+    returns-3
+    returns-4
+    returns-5)

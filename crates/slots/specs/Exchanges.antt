@@ -1,0 +1,181 @@
+-- The frames that a call sends, each with its reply and script byte, and what it is for them to follow a plan. This is said in bits of the replies and in
+-- numbers, and not by the tests that the driver makes.
+-- Assumes nothing.
+use Prim.Native.Nat.{ℕ, zero, suc, _+_, _-_, _*_, _/_, _%_, _<_, _≤_}
+use mathlib.Core.Path.{_≡_}
+use mathlib.Core.Bool.{Bool, true, false, cond, _&&_, _||_}
+use mathlib.Core.List.{List, [], _∷_, _++_}
+use mathlib.Core.Logic.{_⊎_}
+use lib.ListN.{length, getD}
+use lib.Dec.{eqb}
+use Rattle.geometry.specs.declared.Geometry.{Geometry}
+use Rattle.registers.specs.declared.Registers.{Registers}
+use Rattle.registers.specs.Protection.{hasBits, sealed}
+use Rattle.control.specs.Starts.{Ready, Lengths}
+use Rattle.state.specs.declared.Answer.{Answer}
+use Rattle.state.specs.declared.Answer.the-variants as Answers
+use Rattle.slots.specs.declared.Kind.{Kind}
+use Rattle.slots.specs.declared.Step.{Step}
+use Rattle.slots.specs.declared.Step.the-variants.{Wait, Protection, Lockdown, Read, Load, Send, End}
+use Rattle.slots.specs.declared.Verdict.{Verdict}
+use Rattle.slots.specs.declared.Verdict.the-variants.{Good, Blank, Beyond}
+use Rattle.slots.specs.Plans.{Asked, sectorFor, isAsking, bound, planOf, isWait, framesOf, pollsOf}
+use Rattle.slots.specs.Driver.{Holding, frameOf, registerIn, takenBy, isEnded, verdictAnswer}
+use Rattle.state.specs.Memory.{State}
+use Rattle.slots.specs.Calls.{Out, Request, Secret, Open, Closed, scripted, sends, replies, outline, stepOpen, stepClosed, startOpen, startClosed}
+
+-- a frame, its reply, and the script byte that acts after it
+pub record Exchange : Type 0 where
+  pub frame : List ℕ
+  pub reply : List ℕ
+  pub byte : ℕ
+
+-- those of the next n steps of a run: none once it has ended
+unfoldable pub exchangesOf : ℕ → Geometry → Request → Open → Closed → List Exchange
+exchangesOf zero g v p q = []
+exchangesOf (suc n) g v p q =
+    cond (isEnded (p .course .stage)) []
+    (record { frame = sends g v p q; reply = replies g v p q; byte = scripted (v .script) (p .frames) }
+    ∷ exchangesOf n g v (stepOpen g v p q) (stepClosed g v p q))
+
+-- all of a call
+unfoldable pub exchanges : Geometry → Request → Secret → State → List Exchange
+exchanges g v x s =
+    exchangesOf (bound g (v .asked)) g v (startOpen g (length (s .memory .array)) v (s .registers)) (startClosed g x (s .memory))
+
+-- their lines in the log
+unfoldable pub outlines : List Exchange → List ℕ
+outlines [] = []
+outlines (e ∷ es) = outline (e .frame) ++ outlines es
+
+-- ---- a wait
+
+abbrev pub statusFrame : List ℕ
+statusFrame = 0xD7 ∷ 0x00 ∷ []
+
+-- the status is the reply's second byte
+abbrev pub statusIn : Exchange → ℕ
+statusIn e = getD (e .reply) 1 255
+
+-- bits 5-2 are 1001
+abbrev pub Ours : ℕ → Type 0
+Ours status = status / 4 % 16 ≡ 9
+
+-- bit 7 is 1
+abbrev pub IsReady : ℕ → Type 0
+IsReady status = status / 128 % 2 ≡ 1
+
+-- bit 1
+abbrev pub guardedIn : Exchange → Bool
+guardedIn e = eqb (statusIn e / 2 % 2) 1
+
+-- a poll that is not cut
+abbrev pub Polled : Exchange → Type 0
+Polled e = (e .frame ≡ statusFrame) × (e .byte ≡ 2 → ⊥)
+
+-- a poll that finds the chip busy
+abbrev pub FoundBusy : Exchange → Type 0
+FoundBusy e = Polled e × Ours (statusIn e) × (IsReady (statusIn e) → ⊥)
+
+-- a wait finds the chip ready, or ends the call
+pub data Turn : Type 0 where
+  goes : (e : Exchange) → Turn
+  stops : (a : Answer) → Turn
+
+-- the polls of a wait that has so many left: until ready; 8 at the first status whose bits 5-2 are not 1001, whether or not it tells ready; 9 after the
+-- last of them, none ready; 11 at a cut
+pub data Polls : ℕ → List Exchange → Turn → Type 0 where
+  lost : {b : ℕ} {e : Exchange} → e .frame ≡ statusFrame → e .byte ≡ 2 → Polls b (e ∷ []) (stops Answers.Cut)
+  foreign : {b : ℕ} {e : Exchange} → Polled e → (Ours (statusIn e) → ⊥) → Polls b (e ∷ []) (stops Answers.Device)
+  ready : {b : ℕ} {e : Exchange} → Polled e → Ours (statusIn e) → IsReady (statusIn e) → Polls b (e ∷ []) (goes e)
+  busy : {b : ℕ} {e : Exchange} → FoundBusy e → b ≤ 1 → Polls b (e ∷ []) (stops Answers.Busy)
+  again : {b : ℕ} {e : Exchange} {es : List Exchange} {t : Turn} → FoundBusy e → 1 < b → Polls (b - 1) es t → Polls b (e ∷ es) t
+
+-- ---- a plan
+
+-- a call's end: at the plan's end with these data, or where it was stopped
+pub data Result : Type 0 where
+  finished : (h : Holding) → Result
+  stopped : (a : Answer) → Result
+
+-- its answer: at the plan's end 0, 12 or 13 by the data
+abbrev pub answerFor : Result → Answer
+answerFor (finished h) = verdictAnswer (h .verdict)
+answerFor (stopped a) = a
+
+-- the steps that send one frame, whose reply control does not go by
+unfoldable pub isPlain : Step → Bool
+isPlain Wait = false
+isPlain Protection = false
+isPlain Lockdown = false
+isPlain (Read p) = true
+isPlain (Load p) = true
+isPlain (Send c p) = true
+isPlain End = false
+
+module _ (g : Geometry) (a : Asked) where
+  -- the step's frame, not cut
+  abbrev pub Sent : Exchange → Step → Holding → Type 0
+  Sent e x h = (e .frame ≡ frameOf g (a .kind) h x) × (e .byte ≡ 2 → ⊥)
+
+  -- the sector's bits in a reply to 32 or 35 are not all 0
+  abbrev pub heldIn : Exchange → Bool
+  heldIn e = hasBits (registerIn (e .reply)) (sectorFor a)
+
+  -- the exchanges follow the steps in order: polls left for a wait at their head; whether the sector is listed, bit 1 of the last status; the
+  -- data; the exchanges, how many of them are polls, and the end
+  pub data Follows : ℕ → List Step → Bool → Bool → Holding → List Exchange → ℕ → Result → Type 0 where
+    done : {b : ℕ} {l d : Bool} {h : Holding} → Follows b [] l d h [] 0 (finished h)
+    waited : {b k m : ℕ} {xs : List Step} {l d : Bool} {h : Holding} {e : Exchange} {es fs : List Exchange} {t : Result}
+        → Polls b es (goes e) → Follows (a .limit) xs l (guardedIn e) h fs k t → m ≡ length es + k → Follows b (Wait ∷ xs) l d h (es ++ fs) m t
+    halted : {b : ℕ} {xs : List Step} {l d : Bool} {h : Holding} {es : List Exchange} {n : Answer}
+        → Polls b es (stops n) → Follows b (Wait ∷ xs) l d h es (length es) (stopped n)
+    cut : {b : ℕ} {x : Step} {xs : List Step} {l d : Bool} {h : Holding} {e : Exchange}
+        → isWait x ≡ false → e .frame ≡ frameOf g (a .kind) h x → e .byte ≡ 2 → Follows b (x ∷ xs) l d h (e ∷ []) 0 (stopped Answers.Cut)
+    listed : {b k : ℕ} {xs : List Step} {l d : Bool} {h : Holding} {e : Exchange} {es : List Exchange} {t : Result}
+        → Sent e Protection h → Follows (a .limit) xs (heldIn e) d h es k t → Follows b (Protection ∷ xs) l d h (e ∷ es) k t
+    shut : {b : ℕ} {xs : List Step} {l d : Bool} {h : Holding} {e : Exchange}
+        → Sent e Lockdown h → (heldIn e || (l && d)) ≡ true → Follows b (Lockdown ∷ xs) l d h (e ∷ []) 0 (stopped Answers.Sealed)
+    free : {b k : ℕ} {xs : List Step} {l d : Bool} {h : Holding} {e : Exchange} {es : List Exchange} {t : Result}
+        → Sent e Lockdown h → (heldIn e || (l && d)) ≡ false → Follows (a .limit) xs l d h es k t → Follows b (Lockdown ∷ xs) l d h (e ∷ es) k t
+    plain : {b k : ℕ} {x : Step} {xs : List Step} {l d : Bool} {h : Holding} {e : Exchange} {es : List Exchange} {t : Result}
+        → isPlain x ≡ true → Sent e x h → Follows (a .limit) xs l d (takenBy x g (a .kind) h (e .reply)) es k t → Follows b (x ∷ xs) l d h (e ∷ es) k t
+
+-- a call's frames, polls, log and answer, as its plan has them
+pub record AsPlanned (g : Geometry) (v : Request) (h : Holding) (es : List Exchange) (o : Out) : Type 0 where
+  pub result : Result
+  pub follows : Follows g (v .asked) (v .asked .limit) (planOf g (v .asked)) false false h es (o .polls) result
+  pub frames : o .frames ≡ length es
+  pub lines : o .lines ≡ outlines es
+  pub answer : o .answer ≡ answerFor result
+
+-- ---- 12 and 13: what the first page of a slot tells a patch that ends at `end`, or a get, of which nothing is asked beyond the record (end 0)
+
+pub data Judges (g : Geometry) (bytes : List ℕ) (end : ℕ) : Verdict → Type 0 where
+  no-record : ((getD bytes 0 0 ≡ 1 → ⊥) ⊎ (8 * g .size < 3 + (getD bytes 1 0 * 256 + getD bytes 2 0))) → Judges g bytes end Blank
+  too-far : getD bytes 0 0 ≡ 1 → 3 + (getD bytes 1 0 * 256 + getD bytes 2 0) ≤ 8 * g .size → getD bytes 1 0 * 256 + getD bytes 2 0 < end → Judges g bytes end Beyond
+  within : getD bytes 0 0 ≡ 1 → 3 + (getD bytes 1 0 * 256 + getD bytes 2 0) ≤ 8 * g .size → end ≤ getD bytes 1 0 * 256 + getD bytes 2 0 → Judges g bytes end Good
+
+-- ---- a call that nothing disturbs
+
+-- the exchanges are the steps' one by one: each wait one D7
+abbrev pub OneByOne : Geometry → Kind → Holding → List Step → List Exchange → Holding → Type 0
+OneByOne g k h [] [] h' = h ≡ h'
+OneByOne g k h [] (e ∷ es) h' = ⊥
+OneByOne g k h (x ∷ xs) [] h' = ⊥
+OneByOne g k h (x ∷ xs) (e ∷ es) h' = (e .frame ≡ frameOf g k h x) × OneByOne g k (takenBy x g k h (e .reply)) xs es h'
+
+-- an idle, awake chip, its registers of their lengths, and the slot's sector not sealed where the call asks
+pub record Undisturbed (a : Asked) (r : Registers) : Type 0 where
+  pub ready : Ready r
+  pub lengths : Lengths r
+  pub unsealed : isAsking (a .kind) ≡ true → sealed r (sectorFor a) ≡ false
+
+-- frames, polls, log and answer of such a call; the data after its last step in `left`
+pub record AsListed (g : Geometry) (a : Asked) (h : Holding) (es : List Exchange) (o : Out) : Type 0 where
+  pub left : Holding
+  pub sent : OneByOne g (a .kind) h (planOf g a) es left
+  pub frames : o .frames ≡ framesOf (a .kind)
+  pub polls : o .polls ≡ pollsOf (a .kind)
+  pub lines : o .lines ≡ outlines es
+  pub answer : o .answer ≡ verdictAnswer (left .verdict)

@@ -1,0 +1,43 @@
+-- What a reply does to the course, as the code has it: `last` says that the next step is the end, and a register's bits are read from the
+-- reply without its sixteen bytes being copied.
+-- Assumes nothing.
+use Prim.Native.Nat.{ℕ, _+_, _-_, _<_, _≤_}
+use native.Mathlib.Numerals.{add-one}
+use native.Mathlib.Omega.{arith}
+use mathlib.Core.Path.{_≡_, sym, ap, _∙_}
+use mathlib.Core.Bool.{Bool, cond, not}
+use mathlib.Core.List.{List}
+use lib.Dec.{eqb}
+use lib.ListN.{getD}
+use Rattle.slices.specs.Lists.{tabulate}
+use Rattle.slices.proofs.Laws.{getD-tabulate}
+use Rattle.registers.specs.Protection.{hasBits}
+use Rattle.registers.proofs.Protection.{bits-high}
+use Rattle.state.specs.declared.Answer.the-variants.{Done}
+use Rattle.slots.specs.declared.Course.{Course}
+use Rattle.slots.specs.declared.Stage.{Stage}
+use Rattle.slots.specs.declared.Stage.the-variants.{Going, Ended}
+use Rattle.slots.specs.declared.Step.{Step}
+use Rattle.slots.specs.Plans.{isEnd}
+use Rattle.slots.specs.Driver.{registerIn, heard, moved, marking, noted, courseBy}
+
+-- on to the next step
+pub goes-on : (c : Course) (limit : ℕ) (s : Stage) (last listed guarded : Bool) → s ≡ cond last (Ended Done) Going → (next : Step) → isEnd next ≡ last
+    → record { place = c .place + 1; left = limit; stage = s; listed = listed; guarded = guarded } ≡ moved next limit (marking guarded (noted listed c))
+goes-on c limit s last listed guarded h next e =
+    λ i. record { place = add-one (c .place) i; left = limit; stage = (h ∙ ap (λ (b : Bool). cond b (Ended Done) Going) (sym e)) i; listed = listed; guarded = guarded }
+
+-- the bits of a sector after 0b
+pub set-high : (reply : List ℕ) (s : ℕ) → 2 ≤ s → s < 17 → not (eqb (getD reply (3 + s) 255) 0) ≡ hasBits (registerIn reply) s
+unfolding hasBits registerIn
+set-high reply s h l =
+    let k : 4 + (s - 1) ≡ 3 + s = omega arith in
+    ap (λ (x : ℕ). not (eqb x 0))
+    (sym (bits-high (tabulate 16 (λ j. getD reply (4 + j) 255)) s h ∙ getD-tabulate 16 (λ j. getD reply (4 + j) 255) (s - 1) 0 (omega arith)
+    ∙ ap (λ (i : ℕ). getD reply i 255) k))
+
+-- a course by its step
+pub by-step : {x y : Step} {last : Bool} {r : Course} (c : Course) (limit sector : ℕ) (reply : List ℕ) → x ≡ y
+    → ((next : Step) → isEnd next ≡ last → r ≡ courseBy y next limit c (heard y sector reply))
+    → (next : Step) → isEnd next ≡ last → r ≡ courseBy x next limit c (heard x sector reply)
+by-step c limit sector reply e h next l = h next l ∙ ap (λ (z : Step). courseBy z next limit c (heard z sector reply)) (sym e)

@@ -1,0 +1,3 @@
+pub mod ByIndex
+pub mod Last
+pub mod Control

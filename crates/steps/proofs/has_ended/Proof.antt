@@ -1,0 +1,23 @@
+-- `steps::has_ended` meets its contract: the definition, stage by stage.
+-- Assumes nothing.
+use Rattle.slots.specs.Driver.{isEnded}
+use borrow.Author.Needs.{needs}
+use Rattle.steps.proofs.has_ended.Statement.{statement}
+use Rattle.steps.proofs.has_ended.Tie as tie
+
+enum-told : tie.Need-enum-told
+enum-told c = search needs
+
+enum-told-2 : tie.Need-enum-told-2
+enum-told-2 c = search needs
+
+returns : tie.Need-returns
+unfolding isEnded
+returns c = search needs
+
+returns-2 : tie.Need-returns-2
+unfolding isEnded
+returns-2 c = search needs
+
+pub has-ended-spec : {M : Type 1} → statement M
+has-ended-spec = tie.close (tie.spec enum-told enum-told-2 returns returns-2)

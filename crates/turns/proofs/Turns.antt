@@ -1,0 +1,64 @@
+-- What a turn's code goes by: a sound state's place lies in the plan, and its slot's pages in the part.
+-- Assumes nothing.
+use Prim.Native.Nat.{ℕ, _*_, _+_, _/_, _<_, _≤_}
+use native.Mathlib.Omega.{arith}
+use mathlib.Core.Path.{_≡_, refl}
+use mathlib.Core.Bool.{cond}
+use mathlib.Core.List.{List, [], _∷_}
+use types.Run.{OneOf, miss}
+use denote.Enum.Declared.{tagOf}
+use Rattle.geometry.specs.declared.Geometry.{Geometry}
+use Rattle.geometry.specs.declared.Part.the-variants.{Known}
+use Rattle.geometry.specs.Parts.{partOf}
+use Rattle.geometry.specs.Sectors.{sectorOf}
+use Rattle.geometry.proofs.Pages.{sized}
+use Rattle.slots.specs.declared.Driver.{Driver}
+use Rattle.slots.specs.declared.Kind.{Kind}
+use Rattle.slots.specs.declared.Step.{Step}
+use Rattle.slots.specs.declared.Step.the-variants.{Wait, Protection, Lockdown, Read, Load, Send, End}
+use Rattle.slots.proofs.Step.{the-type}
+use Rattle.slots.specs.Plans.{isWait}
+use Rattle.slots.specs.Driver.{Holding, takenBy}
+use Rattle.slots.proofs.Counts.{place-few}
+use Rattle.records.specs.Held.{Pages}
+use Rattle.worlds.specs.Turns.{Sound}
+
+pub part-pages : (n : ℕ) (g : Geometry) → partOf n ≡ Known g → Pages g
+part-pages n g p = let z = sized n g p in record { some = z .some; most = z .most }
+
+module _ {g : Geometry} {d : Driver} (s : Sound g d) where
+  pub sound-pages : Pages g
+  sound-pages = part-pages (d .array) g (s .part)
+
+  pub sound-slot : d .slot < 512
+  sound-slot = let z = sized (d .array) g (s .part) in omega (arith, s .slot, z .few)
+
+  pub sound-place : d .course .place < 1000
+  sound-place = omega (arith, place-few (d .kind) g (d .slot) (d .course .place) (s .step))
+
+-- its sector is one of seventeen
+pub sector-few : {s : ℕ} {slot : ℕ} → (s ≡ sectorOf (8 * slot)) × (s ≤ 8 * slot / 256 + 1) → slot < 512 → s < 17
+sector-few e h = omega (arith, e .1)
+
+-- ---- steps by their form
+
+-- a reply to any other step than a read carries no data
+pub taken-none : (x : Step) (g : Geometry) (k : Kind) (h : Holding) (reply : List ℕ) → OneOf (0 ∷ 1 ∷ 2 ∷ 4 ∷ 5 ∷ 6 ∷ []) (tagOf the-type x) → h ≡ takenBy x g k h reply
+unfolding takenBy
+taken-none Wait g k h reply e = refl
+taken-none Protection g k h reply e = refl
+taken-none Lockdown g k h reply e = refl
+taken-none (Read p) g k h reply e = absurd (miss (0 ∷ 1 ∷ 2 ∷ 4 ∷ 5 ∷ 6 ∷ []) 3 tt e)
+taken-none (Load p) g k h reply e = refl
+taken-none (Send c p) g k h reply e = refl
+taken-none End g k h reply e = refl
+
+pub no-wait : (x : Step) → OneOf (1 ∷ 2 ∷ 3 ∷ 4 ∷ 5 ∷ 6 ∷ []) (tagOf the-type x) → (_≡_ {A = ℕ} 0 (cond (isWait x) 1 0)) × (0 ≤ 1)
+unfolding isWait
+no-wait Wait e = absurd (miss (1 ∷ 2 ∷ 3 ∷ 4 ∷ 5 ∷ 6 ∷ []) 0 tt e)
+no-wait Protection e = (refl, omega arith)
+no-wait Lockdown e = (refl, omega arith)
+no-wait (Read p) e = (refl, omega arith)
+no-wait (Load p) e = (refl, omega arith)
+no-wait (Send c p) e = (refl, omega arith)
+no-wait End e = (refl, omega arith)

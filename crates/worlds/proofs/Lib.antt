@@ -1,0 +1,5 @@
+pub mod Talks
+pub mod Sane
+pub mod Chains
+pub mod Own
+pub mod Example

@@ -1,0 +1,6 @@
+pub mod Turns
+pub mod Start
+pub mod Step
+pub mod Chains
+pub mod Talks
+pub mod Own
