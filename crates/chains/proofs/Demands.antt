@@ -1,14 +1,14 @@
 -- THE THREE DEMANDS OVER WHAT IS COMPILED: lists of calls of the C functions, each as its promise says. What a caller has after each is the outcome of its
 -- definition, and the state is the one that block and array hold; so the theorems of crate slots say it of the C functions.
 -- Assumes nothing.
-use Prim.Native.Nat.{ℕ, _*_, _≤_}
+use Prim.Native.Nat.{ℕ, _≤_}
 use native.Mathlib.Omega.{arith}
 use mathlib.Core.Path.{_≡_, refl, sym, ap, subst, _∙_}
-use mathlib.Core.Bool.{true, false, cond, _&&_}
+use mathlib.Core.Bool.{true, false, _&&_}
 use mathlib.Core.List.{List, [], _∷_}
 use mathlib.Core.Logic.{_⊎_, inl, inr}
 use lib.ListN.{length, take}
-use lib.Dec.{eqb, leb, lit≤}
+use lib.Dec.{eqb, leb}
 use borrow.Author.Tests.{le-leb, leb-true, ne-eqb}
 use Rattle.slices.specs.Lists.{over}
 use Rattle.slices.proofs.Laws.{over-nil}
@@ -16,13 +16,12 @@ use Rattle.state.specs.declared.Answer.{Answer}
 use Rattle.state.specs.declared.Answer.the-variants as Answers
 use Rattle.state.specs.Answers.{numberOf}
 use Rattle.state.specs.Memory.{State, chipIn}
-use Rattle.state.specs.Outcomes.{Left, sendOutcome, endOutcome, cutOutcome, pinOutcome}
+use Rattle.state.specs.Outcomes.{Left, pinOutcome}
 use Rattle.blocks.specs.Block.{encodeChip}
 use Rattle.blocks.specs.Promises.{heldIn, storedBy, Met}
 use Rattle.blocks.proofs.Decoded.{whole-decode}
-use Rattle.slots.specs.declared.Kind.the-variants.{Put}
-use Rattle.slots.specs.Calls.{Out, refused}
-use Rattle.slots.specs.Lists.{Op, call, raw, straight, pin, busyEnd, cut, put, get, outOf, nextOf, runList, leftBy, boundOf, isRefusal, Untouched, logOf}
+use Rattle.slots.specs.Calls.{Out}
+use Rattle.slots.specs.Lists.{Op, call, raw, straight, pin, busyEnd, cut, put, get, outOf, nextOf, runList, leftBy, boundOf, isRefusal, logOf}
 use Rattle.slots.specs.Alike.{Twins, AlikeLists, Soft, Same, AllSame}
 use Rattle.slots.specs.Quiet.{QuietIn, Refuses, Returns}
 use Rattle.slots.proofs.Places.{never, both}
@@ -34,8 +33,8 @@ use Rattle.slots.proofs.Refused.{in-table, refusals}
 use Rattle.slots.proofs.ReadBack.{read-back}
 use Rattle.driver_blocks.specs.Block.{answerAt}
 use Rattle.driver_blocks.proofs.RoundTrip.{answer-back}
-use Rattle.runs.specs.Promises.{keptIn, Called}
-use Rattle.chains.specs.Chains.{Seen, Does, Chain, lastIn, framesIn, pollsIn, countIn, writtenIn, SoftNumber, SameSeen, AllSeen, ReturnsIn, Refused}
+use Rattle.runs.specs.Promises.{keptIn}
+use Rattle.chains.specs.Chains.{Seen, Does, Chain, lastIn, framesIn, pollsIn, SoftNumber, SameSeen, AllSeen, ReturnsIn, Refused}
 use Rattle.chains.proofs.Seen.{Shows, shows}
 
 -- ---- demand 3

@@ -4,8 +4,8 @@
 use Prim.Native.Nat.{ℕ, zero, suc, _+_, _^_, _≤_, _<_}
 use native.Mathlib.Omega.{arith}
 use mathlib.Core.Path.{_≡_, refl, sym, ap, subst, _∙_}
-use mathlib.Core.Bool.{Bool, true, false, cond, not, _||_}
-use mathlib.Core.List.{List, [], _∷_, _++_}
+use mathlib.Core.Bool.{Bool, true, false, cond, _||_}
+use mathlib.Core.List.{List, [], _++_}
 use mathlib.Core.Logic.{_⊎_, inl, inr}
 use lib.ListN.{length, getD}
 use lib.Dec.{eqb}
@@ -20,8 +20,7 @@ use Rattle.state.specs.Answers.{numberOf}
 use Rattle.slots.specs.declared.Driver.{Driver}
 use Rattle.slots.specs.declared.Stage.{Stage}
 use Rattle.slots.specs.declared.Stage.the-variants.{Going, Ended}
-use Rattle.slots.specs.declared.Told.{Told}
-use Rattle.slots.specs.declared.Told.the-variants.{Running, Answered}
+use Rattle.slots.specs.declared.Told.the-variants.{Answered}
 use Rattle.slots.specs.declared.Verdict.{Verdict}
 use Rattle.slots.specs.Plans.{Asked, stated}
 use Rattle.slots.specs.Refusals.{isOver, isShort}
@@ -36,7 +35,7 @@ use Rattle.worlds.specs.Start.{startDriver}
 use Rattle.worlds.specs.Step.{stageBy, stageIn, frameBy, frameIn, pollIn, tookIn, stagedIn, toldIn}
 use Rattle.worlds.specs.Chains as W
 use Rattle.worlds.proofs.Sane.{ended-off, going-facts}
-use Rattle.worlds.proofs.Own.{shape-some}
+use Rattle.worlds.proofs.Shapes.{shape-some}
 use Rattle.worlds.proofs.Chains.{any-world-called, any-state-ends}
 use Rattle.driver_blocks.specs.Block.{toldNumber, decodeDriver, encodeDriver, Fits}
 use Rattle.driver_blocks.proofs.RoundTrip.{decode-encode}

@@ -1,9 +1,9 @@
 -- What a caller has after a C function is the outcome of its definition: each field of the promise is one of it.
 -- Assumes nothing.
-use Prim.Native.Nat.{ℕ, _*_, _≤_}
+use Prim.Native.Nat.{ℕ, _*_}
 use native.Mathlib.Omega.{arith}
-use mathlib.Core.Path.{_≡_, refl, sym, ap, _∙_}
-use mathlib.Core.List.{List, [], _∷_, _++_}
+use mathlib.Core.Path.{_≡_, sym, ap, _∙_}
+use mathlib.Core.List.{List, []}
 use lib.ListN.{length, getD, take, drop}
 use lib.Seq.{take-at, take-nil}
 use Rattle.slices.specs.Lists.{over}
@@ -12,7 +12,7 @@ use Rattle.state.specs.Answers.{numberOf}
 use Rattle.state.specs.Memory.{State, stateOf}
 use Rattle.state.specs.Outcomes.{Left, pinOutcome, sendOutcome, endOutcome, cutOutcome}
 use Rattle.blocks.specs.Block.{decodeChip}
-use Rattle.blocks.specs.Promises.{heldIn, Met, MetPin}
+use Rattle.blocks.specs.Promises.{heldIn}
 use Rattle.slots.specs.Calls.{Out}
 use Rattle.slots.specs.Lists.{Op, call, raw, straight, pin, busyEnd, cut, met, outOf, nextOf, logOf}
 use Rattle.runs.specs.Promises.{Called}

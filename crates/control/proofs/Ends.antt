@@ -9,7 +9,6 @@ use lib.ListN.{length, getD, replicate}
 use Rattle.slices.specs.Lists.{over, andOver}
 use Rattle.slices.proofs.Laws.{length-over, length-andOver}
 use Rattle.commands.specs.declared.Buffer.{Buffer}
-use Rattle.registers.specs.declared.Operation.{Operation}
 use Rattle.registers.specs.declared.Operation.the-variants.{Idle, Program, EraseBlock}
 use Rattle.registers.specs.declared.Registers.{Registers}
 use Rattle.registers.specs.declared.Update.{Update}

@@ -1,6 +1,6 @@
 -- Aid: an action names pages of the part and bytes of a page alone, which is what the memory's functions ask of it; no rule of the chip.
 -- Assumes nothing.
-use Prim.Native.Nat.{ℕ, _*_, _<_}
+use Prim.Native.Nat.{_*_, _<_}
 use Rattle.geometry.specs.declared.Geometry.{Geometry}
 use Rattle.control.specs.declared.Action.{Action}
 use Rattle.control.specs.declared.Action.the-variants.{Silent, ReadPage, ReadArray, ReadBuffer, WriteBuffer, LoadProtection, LoadSecurity, ReadProtection, ReadLockdown, ReadSecurity, ReadStatus, ReadId}

@@ -5,22 +5,20 @@ use native.Mathlib.Omega.{arith}
 use mathlib.Core.Path.{_≡_, refl, sym, ap, _∙_}
 use mathlib.Core.Bool.{Bool, true, false}
 use mathlib.Core.List.{List, []}
-use lib.ListN.{length, take, drop}
-use lib.Seq.{take-at}
+use lib.ListN.{length, take}
 use Rattle.slices.specs.Lists.{over}
-use Rattle.slices.proofs.Laws.{length-tabulate, over-nil, over-append}
+use Rattle.slices.proofs.Laws.{over-nil, over-front}
 use Rattle.geometry.specs.declared.Geometry.{Geometry}
 use Rattle.geometry.specs.declared.Part.{Part}
 use Rattle.geometry.specs.declared.Part.the-variants.{Known}
 use Rattle.geometry.specs.Parts.{partOf}
 use Rattle.slots.specs.declared.Driver.{Driver}
 use Rattle.slots.specs.declared.Step.{Step}
-use Rattle.slots.specs.declared.Step.the-variants.{Wait, Protection, Lockdown, Read, Load, Send, End}
-use Rattle.slots.specs.Driver.{shapeOf, frameByte, loaded, frameOf, isEnded}
+use Rattle.slots.specs.Driver.{shapeOf, frameOf, isEnded}
 use Rattle.slots.proofs.Accepted.{picked}
 use Rattle.slots.proofs.Driven.{other}
-use Rattle.records.specs.Held.{Pages}
 use Rattle.turns.proofs.Turns.{part-pages}
+use Rattle.worlds.proofs.Shapes.{frame-length, shape-fits}
 use Rattle.worlds.specs.Turns.{holdingOf, stepIn}
 use Rattle.worlds.specs.Step.{stageBy, frameBy, frameIn, tookIn, stagedIn, nextIn}
 
@@ -28,21 +26,6 @@ use Rattle.worlds.specs.Step.{stageBy, frameBy, frameIn, tookIn, stagedIn, next
 
 pub nothing : (f xs : List ℕ) → f ≡ [] → (0 ≡ length f) × (xs ≡ over f xs)
 nothing f xs e = (ap length (sym e), sym (over-nil xs) ∙ ap (λ (l : List ℕ). over l xs) (sym e))
-
--- the beginning of the buffer is the frame
-front : (f xs ys : List ℕ) (n : ℕ) → n ≡ length f → length f ≤ length xs → ys ≡ over f xs → take n ys ≡ f
-front f xs ys n e h q =
-    (λ i. take (e i) (q i)) ∙ ap (λ (l : List ℕ). take (length f) l) (over-append f xs h) ∙ take-at f (drop (length f) xs) (length f) refl
-
-shape-fits : (g : Geometry) (x : Step) → Pages g → shapeOf g x .length ≤ 272
-unfolding shapeOf
-shape-fits g Wait z = omega arith
-shape-fits g Protection z = omega arith
-shape-fits g Lockdown z = omega arith
-shape-fits g (Read p) z = omega (arith, z .most)
-shape-fits g (Load p) z = omega (arith, z .most)
-shape-fits g (Send c p) z = omega arith
-shape-fits g End z = omega arith
 
 module _ (d : Driver) (payload staged : List ℕ) where
   -- ---- the frame by the stage as it counts
@@ -55,9 +38,6 @@ module _ (d : Driver) (payload staged : List ℕ) where
   unfolding frameBy
   going-frame g e = other (isEnded (stageBy (Known g) d)) [] _ e
 
-  step-length : (g : Geometry) (x : Step) → length (frameOf g (d .kind) (holdingOf d payload staged) x) ≡ shapeOf g x .length
-  step-length g x = length-tabulate (shapeOf g x .length) (frameByte (shapeOf g x) (loaded g (d .kind) (holdingOf d payload staged) x))
-
   -- what was written for the step at the place is the state's frame
   pub written : (g : Geometry) (xs : List ℕ) {x : Step} {n : ℕ} {ys : List ℕ} → isEnded (stageBy (Known g) d) ≡ false → x ≡ stepIn g d
       → (n ≡ shapeOf g x .length) × (ys ≡ over (frameOf g (d .kind) (holdingOf d payload staged) x) xs)
@@ -65,7 +45,7 @@ module _ (d : Driver) (payload staged : List ℕ) where
   written g xs {x} e s w =
       let f : frameOf g (d .kind) (holdingOf d payload staged) x ≡ frameBy (Known g) d payload staged =
       ap (λ (y : Step). frameOf g (d .kind) (holdingOf d payload staged) y) s ∙ sym (going-frame g e) in
-      (w .0 ∙ sym (step-length g x) ∙ ap (λ (l : List ℕ). length l) f, w .1 ∙ ap (λ (l : List ℕ). over l xs) f)
+      (w .0 ∙ sym (frame-length g (d .kind) (holdingOf d payload staged) x) ∙ ap (λ (l : List ℕ). length l) f, w .1 ∙ ap (λ (l : List ℕ). over l xs) f)
 
   -- ---- the frame's length
 
@@ -75,7 +55,7 @@ module _ (d : Driver) (payload staged : List ℕ) where
       go : (b : Bool) → isEnded (stageBy (Known g) d) ≡ b → length (frameBy (Known g) d payload staged) ≤ 272
       go true e = omega (arith, ap (λ (l : List ℕ). length l) (ended-frame g e))
       go false e =
-          omega (arith, ap (λ (l : List ℕ). length l) (going-frame g e), step-length g (stepIn g d), shape-fits g (stepIn g d) (part-pages (d .array) g p))
+          omega (arith, ap (λ (l : List ℕ). length l) (going-frame g e), frame-length g (d .kind) (holdingOf d payload staged) (stepIn g d), shape-fits g (stepIn g d) (part-pages (d .array) g p .most))
 
   -- the buffer after a frame by the array's part
   pub framed : (xs : List ℕ) {p : Part} {n : ℕ} {ys : List ℕ} → p ≡ partOf (d .array) → length (frameBy p d payload staged) ≤ length xs
@@ -85,7 +65,7 @@ module _ (d : Driver) (payload staged : List ℕ) where
   framed xs {p} {n} {ys} e h w =
       let f : frameBy p d payload staged ≡ frameIn d payload staged = ap (λ (q : Part). frameBy q d payload staged) e in (
         w .0 ∙ ap (λ (z : List ℕ). length z) f,
-        front (frameBy p d payload staged) xs ys n (w .0) h (w .1) ∙ f,
+        over-front (frameBy p d payload staged) xs (w .0) h (w .1) ∙ f,
         w .1 ∙ ap (λ (z : List ℕ). over z xs) f,
       )
 

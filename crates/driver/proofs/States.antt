@@ -1,15 +1,15 @@
 -- A state that counts as going is sound: the test of states asks for a slot of the part and for a step at the place, and a part has at most 512 slots.
 -- Assumes nothing.
-use Prim.Native.Nat.{ℕ, _<_, _≤_}
+use Prim.Native.Nat.{ℕ, _<_}
 use native.Mathlib.Omega.{arith}
 use mathlib.Core.Path.{_≡_, sym, ap, _∙_}
-use mathlib.Core.Bool.{Bool, true, false, cond}
+use mathlib.Core.Bool.{true, false}
 use mathlib.Core.List.{List}
 use lib.Dec.{eqb}
 use borrow.Author.Tests.{eq-eqb, ne-eqb}
 use Rattle.geometry.specs.declared.Geometry.{Geometry}
 use Rattle.geometry.specs.declared.Part.{Part}
-use Rattle.geometry.specs.declared.Part.the-variants.{Known, Unknown}
+use Rattle.geometry.specs.declared.Part.the-variants.{Known}
 use Rattle.geometry.specs.Parts.{partOf}
 use Rattle.geometry.proofs.Pages.{sized}
 use Rattle.state.specs.declared.Answer.{Answer}
@@ -31,20 +31,6 @@ none a e z = eq-eqb (numberOf a) 0 (sym e ∙ z)
 
 pub some : (a : Answer) {n : ℕ} → n ≡ numberOf a → (n ≡ 0 → ⊥) → eqb (numberOf a) 0 ≡ false
 some a e z = ne-eqb (numberOf a) 0 (λ h. z (e ∙ h))
-
--- ---- a known part
-
-pub known-field : (n : ℕ) (g : Geometry) → partOf n ≡ Known g → g .field ≤ 512
-unfolding partOf
-known-field n g = go (eqb n 1081344) (eqb n 33792)
-  where
-    of : ℕ → Geometry
-    of p = record { size = 264; pages = p; field = 512 }
-
-    go : (b d : Bool) → cond b (Known (of 4096)) (cond d (Known (of 128)) Unknown) ≡ Known g → g .field ≤ 512
-    go true d k = let e : of 4096 ≡ g = cc in omega (arith, ap (λ (z : Geometry). z .field) e)
-    go false true k = let e : of 128 ≡ g = cc in omega (arith, ap (λ (z : Geometry). z .field) e)
-    go false false k = let z : _≡_ {A = ℕ} 0 1 = cc in absurd (omega arith)
 
 -- ---- states
 

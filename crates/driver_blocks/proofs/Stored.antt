@@ -1,7 +1,7 @@
 -- The head and five words stored one behind the other from a block's first byte on are the whole block, since a part laid right
 -- behind another is the two laid as one, and together they have 48 bytes.
 -- Assumes nothing.
-use mathlib.Core.Path.{_≡_, refl, sym, ap, _∙_}
+use mathlib.Core.Path.{_≡_, refl, sym, _∙_}
 use mathlib.Core.List.{List, _++_}
 use Prim.Native.Nat.{ℕ}
 use lib.ListN.{length}

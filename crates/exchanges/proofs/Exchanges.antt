@@ -1,8 +1,8 @@
 -- One frame, a busy end and a cut on a chip whose part is known, in its block: they are accepted, so the block has the form of a stored chip, and the chip
 -- that it holds is the state that the run's definitions name.
 -- Assumes nothing.
-use mathlib.Core.Path.{_≡_, refl, sym, ap, _∙_}
-use mathlib.Core.Bool.{Bool, true, false, cond}
+use mathlib.Core.Path.{_≡_, sym, ap, _∙_}
+use mathlib.Core.Bool.{Bool, true, cond}
 use mathlib.Core.List.{List, []}
 use Prim.Native.Nat.{ℕ, _+_, _*_}
 use lib.ListN.{length}

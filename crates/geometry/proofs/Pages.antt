@@ -4,34 +4,50 @@ use Prim.Native.Nat.{ℕ, _+_, _*_, _/_, _%_, _≤_, _<_}
 use native.Mathlib.Nat.{zero-mul, add-mul, mul-le-mul, mul-le-mul-right, div-lt-iff-lt-mul}
 use native.Mathlib.Omega.{arith}
 use lib.Arith.{digits-div}
-use lib.Dec.{eqb}
+use lib.Dec.{eqb, leb}
 use lib.ListN.{length, getD, length-take, length-drop}
 use lib.Seq.{getD-take, getD-drop}
 use mathlib.Core.Bool.{Bool, true, false, cond}
 use mathlib.Core.List.{List}
-use mathlib.Core.Path.{_≡_, refl, subst}
-use borrow.Author.Tests.{eqb-true}
+use mathlib.Core.Path.{_≡_, refl, subst, subst⁻¹}
+use borrow.Author.Tests.{eqb-true, leb-true}
 use Rattle.geometry.specs.declared.Geometry.{Geometry}
 use Rattle.geometry.specs.declared.Part.the-variants.{Known, Unknown}
 use Rattle.geometry.specs.Parts.{partOf, Sized, pageStart, pageOf}
 
--- a known part's array holds its pages and nothing else
-pub sized : (n : ℕ) (g : Geometry) → partOf n ≡ Known g → Sized g n
+-- what holds of each row of the table of parts holds of a known part
+pub known-case : (Q : ℕ → Geometry → Type 0) → Q 1081344 (record { size = 264; pages = 4096; field = 512 }) → Q 33792 (record { size = 264; pages = 128; field = 512 })
+    → (n : ℕ) (g : Geometry) → partOf n ≡ Known g → Q n g
 unfolding partOf
-sized n g = go (eqb n 1081344) (eqb n 33792) refl refl
+known-case Q full short n g = go (eqb n 1081344) (eqb n 33792) refl refl
   where
     of : ℕ → Geometry
     of p = record { size = 264; pages = p; field = 512 }
 
-    holds : (p : ℕ) → 8 ≤ p → p ≤ 4096 → n ≡ p * 264 → p % 8 ≡ 0 → of p ≡ g → Sized g n
-    holds p l m w q e =
-        subst (λ (z : Geometry). Sized z n) e
-        (record { some = omega arith; most = omega arith; addressed = omega arith; blocks = l; eights = q; few = m; whole = w })
+    at : (k p : ℕ) → n ≡ k → of p ≡ g → Q k (of p) → Q n g
+    at k p e f q = subst⁻¹ (λ (m : ℕ). Q m g) e (subst (Q k) f q)
 
-    go : (b d : Bool) → eqb n 1081344 ≡ b → eqb n 33792 ≡ d → cond b (Known (of 4096)) (cond d (Known (of 128)) Unknown) ≡ Known g → Sized g n
-    go true d e f k = holds 4096 (omega arith) (omega arith) (eqb-true n 1081344 e) refl (cc)
-    go false true e f k = holds 128 (omega arith) (omega arith) (eqb-true n 33792 f) refl (cc)
+    go : (b d : Bool) → eqb n 1081344 ≡ b → eqb n 33792 ≡ d → cond b (Known (of 4096)) (cond d (Known (of 128)) Unknown) ≡ Known g → Q n g
+    go true d e f k = at 1081344 4096 (eqb-true n 1081344 e) (cc) full
+    go false true e f k = at 33792 128 (eqb-true n 33792 f) (cc) short
     go false false e f k = let z : _≡_ {A = ℕ} 0 1 = cc in absurd (omega arith)
+
+-- a known part's array holds its pages and nothing else
+pub sized : (n : ℕ) (g : Geometry) → partOf n ≡ Known g → Sized g n
+sized = known-case (λ n g. Sized g n) (of 4096 refl refl refl) (of 128 refl refl refl)
+  where
+    of : (p : ℕ) → leb 8 p ≡ true → leb p 4096 ≡ true → p % 8 ≡ 0 → Sized (record { size = 264; pages = p; field = 512 }) (p * 264)
+    of p l m q =
+        record {
+          some = omega arith;
+          most = omega arith;
+          addressed = omega arith;
+          narrow = omega arith;
+          blocks = leb-true 8 p l;
+          eights = q;
+          few = leb-true p 4096 m;
+          whole = refl;
+        }
 
 -- .. and is short enough for every index to fit
 pub sized-small : (g : Geometry) (n : ℕ) → Sized g n → g .pages * g .size ≤ 1081344

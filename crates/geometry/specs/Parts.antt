@@ -52,6 +52,7 @@ pub record Sized (g : Geometry) (n : ℕ) : Type 0 where
   pub some : 64 ≤ g .size
   pub most : g .size ≤ 264
   pub addressed : 0 < g .field
+  pub narrow : g .field ≤ 512
   pub blocks : 8 ≤ g .pages
   pub eights : g .pages % 8 ≡ 0
   pub few : g .pages ≤ 4096

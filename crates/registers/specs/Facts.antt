@@ -11,7 +11,6 @@ use Rattle.registers.specs.declared.Operation.{Operation}
 use Rattle.registers.specs.declared.Operation.the-variants as O
 use Rattle.registers.specs.declared.Update.{Update}
 use Rattle.registers.specs.declared.Update.the-variants.{Keep, FillProtection, MaskProtection, Lock, WriteUser}
-use Rattle.registers.specs.declared.Usage.{Usage}
 use Rattle.registers.specs.declared.Usage.the-variants.{Free, Uses, NoBuffer, Exclusive}
 use Rattle.registers.specs.declared.Work.{Work}
 use Rattle.registers.specs.declared.Work.the-variants.{Rest, Program, ProgramOver, Transfer, Compare, Erase}

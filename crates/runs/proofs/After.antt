@@ -11,7 +11,6 @@ use Rattle.registers.specs.declared.Registers.{Registers}
 use Rattle.registers.specs.Operations.{placed}
 use Rattle.control.specs.Control.{control}
 use Rattle.state.specs.Memory.{Memory, State}
-use Rattle.state.specs.Frames.{sentMemory}
 use Rattle.state.specs.Outcomes.{partIn, sentState}
 use Rattle.state.proofs.Lengths.{completed-array-length, sent-array}
 use Rattle.state.proofs.Placed.{control-placed, completed-placed}

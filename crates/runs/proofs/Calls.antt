@@ -1,39 +1,39 @@
 -- A whole call: refused, or begun where its run begins, driven to the run's end, and finished as the run's outcome says.
 -- Assumes nothing.
 use mathlib.Core.Path.{_≡_, refl, sym, ap, subst, subst⁻¹, _∙_}
-use mathlib.Core.Bool.{Bool, true, false, cond, _||_}
+use mathlib.Core.Bool.{true, false, cond}
 use mathlib.Core.List.{List, [], _++_}
-use Prim.Native.Nat.{ℕ, _*_, _/_, _<_, _≤_}
+use Prim.Native.Nat.{ℕ, _*_, _≤_}
 use native.Mathlib.Omega.{arith}
 use lib.ListN.{length, take, drop, replicate, take-append-drop}
 use lib.Seq.{length-take-le}
 use lib.Dec.{eqb}
-use borrow.Author.Tests.{eq-eqb, ne-eqb, eqb-true}
+use borrow.Author.Tests.{eq-eqb, ne-eqb}
 use Rattle.slices.specs.Lists.{over}
 use Rattle.slices.proofs.Laws.{over-append}
 use Rattle.geometry.specs.declared.Geometry.{Geometry}
 use Rattle.geometry.specs.declared.Part.{Part}
 use Rattle.geometry.specs.declared.Part.the-variants.{Known, Unknown}
 use Rattle.geometry.specs.Parts.{partOf, Sized}
+use Rattle.geometry.proofs.Pages.{known-case}
 use Rattle.registers.proofs.Places.{placed-known, placed-sized}
 use Rattle.state.specs.declared.Answer.{Answer}
 use Rattle.state.specs.declared.Answer.the-variants as Answers
 use Rattle.state.specs.Answers.{numberOf}
 use Rattle.state.specs.Memory.{State}
 use Rattle.state.specs.Outcomes.{partIn, cutFits, cutState}
-use Rattle.slots.specs.declared.Course.{Course}
 use Rattle.slots.specs.declared.Driver.{Driver}
 use Rattle.slots.specs.declared.Stage.the-variants.{Going, Ended}
 use Rattle.slots.specs.declared.Verdict.the-variants.{Good}
 use Rattle.slots.specs.Records.{slotSize}
-use Rattle.slots.specs.Plans.{Asked, planBy, stated, bound}
-use Rattle.slots.specs.Refusals.{isOver, isShort, earlyRefusal, lateRefusal, callRefusal}
+use Rattle.slots.specs.Plans.{Asked, stated}
+use Rattle.slots.specs.Refusals.{earlyRefusal, callRefusal}
 use Rattle.slots.specs.Calls.{Out, Request, Secret, Open, Closed, refused, run, firstCourse, refusalOf, startOpen, startClosed, ran, reached, countOf, delivered, outFrom, answerAt, callOut, callNext}
 use Rattle.slots.specs.Lists.{Op, call, asks, secret, callBy, calledBy, outOf, nextOf, isRefusal, logOf}
 use Rattle.slots.proofs.Counts.{bounds}
 use Rattle.slots.proofs.Accepted.{Accepted, accepted, neither-applies}
 use Rattle.slots.proofs.Refused.{refused-call, accepted-late}
-use Rattle.worlds.specs.Turns.{askedOf, holdingOf}
+use Rattle.worlds.specs.Turns.{askedOf}
 use Rattle.worlds.specs.Start.{startRefusal, startDriver}
 use Rattle.runs.specs.declared.Done.{Done}
 use Rattle.runs.specs.declared.Session.{Session}
@@ -87,16 +87,7 @@ module _ (a : Asked) (place : ℕ) (payload buffer script junk log held xs : Lis
 -- ---- a slot's bytes before any is read: 264 bytes a page
 
 known-size : (n : ℕ) (g : Geometry) → partOf n ≡ Known g → g .size ≡ 264
-unfolding partOf
-known-size n g = go (eqb n 1081344) (eqb n 33792)
-  where
-    of : ℕ → Geometry
-    of p = record { size = 264; pages = p; field = 512 }
-
-    go : (b d : Bool) → cond b (Known (of 4096)) (cond d (Known (of 128)) Unknown) ≡ Known g → g .size ≡ 264
-    go true d k = let e : of 4096 ≡ g = cc in sym (ap (λ (z : Geometry). z .size) e)
-    go false true k = let e : of 128 ≡ g = cc in sym (ap (λ (z : Geometry). z .size) e)
-    go false false k = let z : _≡_ {A = ℕ} 0 1 = cc in absurd (omega arith)
+known-size = known-case (λ n g. g .size ≡ 264) refl refl
 
 -- ---- the run, and what comes behind it
 module _ (g : Geometry) (d : Driver) (payload buffer script junk log held xs : List ℕ) (p : partIn (heldIn held xs) ≡ Known g)

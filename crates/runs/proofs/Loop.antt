@@ -8,7 +8,6 @@ use Prim.Native.Nat.{ℕ, suc, _+_, _-_, _*_, _/_, _<_, _≤_}
 use native.Mathlib.Omega.{arith}
 use lib.ListN.{length, drop}
 use lib.Seq.{drop-drop}
-use lib.Dec.{eqb}
 use borrow.Author.Tests.{eqb-true}
 use Rattle.geometry.specs.declared.Geometry.{Geometry}
 use Rattle.geometry.specs.declared.Part.the-variants.{Known}
@@ -24,7 +23,7 @@ use Rattle.slots.specs.declared.Kind.the-variants.{Put, Patch, Get, Wipe}
 use Rattle.slots.specs.Plans.{planBy, planOf, stated, stepAt, isEnd}
 use Rattle.slots.specs.Driver.{isEnded}
 use Rattle.slots.specs.Refusals.{hasCut}
-use Rattle.slots.specs.Calls.{Request, Open, Closed, scripted, stepOpen, stepClosed, run, firstCourse}
+use Rattle.slots.specs.Calls.{Request, Open, scripted, stepOpen, stepClosed, run, firstCourse}
 use Rattle.slots.proofs.Places.{never}
 use Rattle.slots.proofs.Counts.{bounds}
 use Rattle.slots.proofs.Accepted.{first-some, run-ended}

@@ -1,6 +1,6 @@
 -- A raw call: refused, or one frame with its script byte, and a cut behind it where that is 2.
 -- Assumes nothing.
-use mathlib.Core.Path.{_≡_, refl, sym, ap, subst, subst⁻¹, _∙_}
+use mathlib.Core.Path.{_≡_, refl, sym, ap, subst⁻¹, _∙_}
 use mathlib.Core.Bool.{Bool, true, false, cond}
 use mathlib.Core.List.{List}
 use Prim.Native.Nat.{ℕ, _≤_}
@@ -17,7 +17,7 @@ use Rattle.state.specs.Answers.{numberOf}
 use Rattle.state.specs.Memory.{State}
 use Rattle.state.specs.Outcomes.{partIn, framed, cutFits, sentState, cutState}
 use Rattle.slots.specs.Refusals.{badScript, lateRefusal, rawRefusal}
-use Rattle.slots.specs.Calls.{Out, refused, outline, scripted, registersAfter, memoryAfter, stateAfter, rawSent, rawOut, rawNext}
+use Rattle.slots.specs.Calls.{refused, outline, scripted, registersAfter, memoryAfter, stateAfter, rawSent, rawOut, rawNext}
 use Rattle.slots.specs.Lists.{raw, rawBy, rawLeft, outOf, nextOf, isRefusal, logOf}
 use Rattle.slots.proofs.Places.{never}
 use Rattle.slots.proofs.Accepted.{picked, late}

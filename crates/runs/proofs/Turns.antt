@@ -6,11 +6,11 @@ use mathlib.Core.Bool.{true, cond}
 use mathlib.Core.List.{List, _++_}
 use Prim.Native.Nat.{ℕ, _+_, _*_, _≤_}
 use native.Mathlib.Omega.{arith}
-use lib.ListN.{length, take, length-take}
+use lib.ListN.{length, take}
 use lib.Seq.{take-add, take-at}
 use lib.Dec.{eqb}
 use Rattle.slices.specs.Lists.{splice}
-use Rattle.slices.proofs.Laws.{length-splice, length-tabulate, splice-part, take-splice, drop-splice}
+use Rattle.slices.proofs.Laws.{length-splice, splice-part, take-splice, drop-splice}
 use Rattle.geometry.specs.declared.Geometry.{Geometry}
 use Rattle.state.specs.declared.Answer.the-variants as Answers
 use Rattle.state.specs.Memory.{State}
@@ -22,13 +22,12 @@ use Rattle.slots.specs.declared.Course.{Course}
 use Rattle.slots.specs.declared.Driver.{Driver}
 use Rattle.slots.specs.declared.Step.{Step}
 use Rattle.slots.specs.declared.Step.the-variants.{Wait, Protection, Lockdown, Read, Load, Send, End}
-use Rattle.slots.specs.Plans.{isWait, isEnd}
-use Rattle.slots.specs.Driver.{Holding, shapeOf, frameByte, loaded, frameOf, ended}
+use Rattle.slots.specs.Plans.{isWait}
+use Rattle.slots.specs.Driver.{shapeOf, frameOf, ended}
 use Rattle.slots.specs.Calls.{outline, scripted, stateAfter, openAfter, closedAfter, stepOpen, stepClosed}
-use Rattle.slots.proofs.Places.{never}
-use Rattle.worlds.specs.Turns.{askedOf, holdingOf, with, stepIn, dataAfter, courseAfter, tookOn}
+use Rattle.worlds.specs.Turns.{holdingOf, with, stepIn, dataAfter, courseAfter, tookOn}
 use Rattle.worlds.proofs.Chains.{data-held}
-use Rattle.worlds.proofs.Own.{shape-some}
+use Rattle.worlds.proofs.Shapes.{shape-some, shape-fits}
 use Rattle.runs.specs.declared.Session.{Session}
 use Rattle.runs.specs.Exchange.{Exchanged}
 use Rattle.runs.specs.Runs.{openOf, closedOf, requestOf, Going, Turned}
@@ -37,17 +36,6 @@ use Rattle.runs.proofs.Steps.{step-open, step-closed}
 
 -- ---- lengths
 
--- every frame fits the buffer
-shape-fits : (g : Geometry) (x : Step) → g .size ≤ 264 → shapeOf g x .length ≤ 272
-unfolding shapeOf
-shape-fits g Wait h = omega arith
-shape-fits g Protection h = omega arith
-shape-fits g Lockdown h = omega arith
-shape-fits g (Read p) h = omega arith
-shape-fits g (Load p) h = omega arith
-shape-fits g (Send c p) h = omega arith
-shape-fits g End h = omega arith
-
 -- a frame that was written is taken by the chip, with a reply as long
 pub frame-taken : (g : Geometry) (t : State) (s : Session) (log : List ℕ) (n : ℕ) → Going g t s log → g .size ≤ 264
     → n ≡ shapeOf g (stepIn g (s .driver)) .length → (n ≤ 272) × (framed n n ≡ true)
@@ -55,9 +43,6 @@ frame-taken g t s log n h l e =
     let some = shape-some g (stepIn g (s .driver)) (h .sound .step) in
     let few = shape-fits g (stepIn g (s .driver)) l in
     (omega arith, in-framed n n (omega arith) (omega arith) refl)
-
-pub frame-length : (g : Geometry) (d : Driver) (payload staged : List ℕ) (x : Step) → length (frameOf g (d .kind) (holdingOf d payload staged) x) ≡ shapeOf g x .length
-frame-length g d payload staged x = length-tabulate (shapeOf g x .length) (frameByte (shapeOf g x) (loaded g (d .kind) (holdingOf d payload staged) x))
 
 -- the reply as it lies in its buffer
 module _ {g : Geometry} {b at : ℕ} {f : List ℕ} {s : State} {l₀ : List ℕ} {t : State} {rp l : List ℕ} (x : Exchanged g b at f s l₀ t rp l) where

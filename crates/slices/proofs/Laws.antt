@@ -8,7 +8,7 @@ use Prim.Native.Nat.{ℕ, zero, suc, _+_, _-_, _<_, _≤_}
 use native.Mathlib.Nat.{not-suc-le-zero, le-of-suc-le-suc, suc-inj, suc-add, zero-add, add-sub-cancel-left}
 use native.Mathlib.Omega.{arith}
 use lib.ListN.{length, set, take, drop, getD, replicate, length-drop, length-take, drop-of-length-le}
-use lib.Seq.{take-all, getD-drop}
+use lib.Seq.{take-all, take-at, getD-drop}
 use lib.Bits.{bitAnd}
 use lib.Dec.{eqb}
 use borrow.Author.Tests.{eqb-true, eq-eqb}
@@ -87,6 +87,10 @@ over-append (y ∷ ys) (x ∷ xs) h = ap (λ (l : List ℕ). y ∷ l) (over-appe
 pub over-whole : (ys xs : List ℕ) → length ys ≡ length xs → over ys xs ≡ ys
 over-whole ys xs e =
     over-append ys xs (omega arith) ∙ ap (λ (l : List ℕ). ys ++ l) (drop-of-length-le xs {i = length ys} (omega arith)) ∙ append-nil ys
+
+-- the part comes first
+pub over-front : (ys xs : List ℕ) {n : ℕ} {zs : List ℕ} → n ≡ length ys → length ys ≤ length xs → zs ≡ over ys xs → take n zs ≡ ys
+over-front ys xs e h q = (λ i. take (e i) (q i)) ∙ ap (take (length ys)) (over-append ys xs h) ∙ take-at ys (drop (length ys) xs) (length ys) refl
 
 pub over-in : (ys xs : List ℕ) (k d : ℕ) → k < length ys → k < length xs → getD (over ys xs) k d ≡ getD ys k d
 unfolding over

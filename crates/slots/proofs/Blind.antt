@@ -1,10 +1,10 @@
 -- Of a run's state the open half goes its way alone: whatever the closed half holds, the next open half is the same. Frames are alike
 -- but for the data of an 84, which neither the outline shows nor the registers heed; of replies control hears no compare bit and no data.
 -- Assumes nothing.
-use Prim.Native.Nat.{ℕ, zero, suc, _+_, _-_, _/_, _%_}
+use Prim.Native.Nat.{ℕ, zero, suc, _-_, _/_, _%_}
 use mathlib.Core.Path.{_≡_, refl, sym, ap, subst, _∙_}
 use mathlib.Core.Bool.{Bool, true, false, cond}
-use mathlib.Core.List.{List, [], _∷_, _++_}
+use mathlib.Core.List.{List, [], _∷_}
 use lib.ListN.{length, getD, replicate}
 use lib.Dec.{eqb, lit<, lit≤}
 use Rattle.slices.specs.Lists.{tabulate}
@@ -15,7 +15,6 @@ use Rattle.commands.specs.Decode.{decodeOf}
 use Rattle.commands.proofs.Frames.{decode-protection, decode-lockdown}
 use Rattle.registers.specs.declared.Registers.{Registers}
 use Rattle.registers.specs.Protection.{guarded}
-use Rattle.control.specs.declared.Decision.{Decision}
 use Rattle.control.specs.Control.{control, rowOf, rowDecided}
 use Rattle.control.proofs.Rows.{control-cases}
 use Rattle.control.proofs.Frames.{load-keeps}
@@ -26,7 +25,7 @@ use Rattle.state.proofs.Replies.{status-byte, reply-status-deep}
 use Rattle.slots.specs.declared.Kind.{Kind}
 use Rattle.slots.specs.declared.Step.{Step}
 use Rattle.slots.specs.declared.Step.the-variants.{Wait, Protection, Lockdown, Read, Load, Send, End}
-use Rattle.slots.specs.Driver.{Heard, Shape, Holding, shapeOf, frameByte, loaded, frameOf, statusHeard, heard, stepOf, isEnded}
+use Rattle.slots.specs.Driver.{Shape, Holding, shapeOf, frameByte, loaded, frameOf, statusHeard, heard, stepOf, isEnded}
 use Rattle.slots.specs.Plans.{sectorFor}
 use Rattle.slots.specs.Calls.{Request, Open, Closed, outline, openAfter, stepOpen, stepClosed, run}
 

@@ -1,13 +1,13 @@
 -- A call ends within its bound: from every place on at most the plan's rest is sent, each wait up to its polls, and each frame makes
 -- that less.
 -- Assumes nothing.
-use Prim.Native.Nat.{ℕ, zero, suc, _+_, _*_, _-_, _<_, _≤_, zero-le}
+use Prim.Native.Nat.{ℕ, zero, suc, _+_, _-_, _<_, _≤_}
 use mathlib.Core.Path.{_≡_, refl, sym, ap, subst, _∙_}
-use mathlib.Core.Bool.{Bool, true, false, cond, not, _&&_, _||_}
-use mathlib.Core.List.{List, [], _∷_, _++_}
+use mathlib.Core.Bool.{Bool, true, false, cond}
+use mathlib.Core.List.{List, [], _∷_}
 use native.Mathlib.Omega.{arith}
 use lib.ListN.{length}
-use lib.Dec.{T, eqb, leb}
+use lib.Dec.{eqb}
 use Rattle.geometry.specs.declared.Geometry.{Geometry}
 use Rattle.geometry.specs.declared.Part.{Part}
 use Rattle.geometry.specs.declared.Part.the-variants.{Known, Unknown}
@@ -15,10 +15,9 @@ use Rattle.state.specs.declared.Answer.{Answer}
 use Rattle.state.specs.declared.Answer.the-variants as Answers
 use Rattle.state.specs.Answers.{numberOf}
 use Rattle.slots.specs.declared.Course.{Course}
-use Rattle.slots.specs.declared.Stage.{Stage}
 use Rattle.slots.specs.declared.Stage.the-variants.{Going, Ended}
 use Rattle.slots.specs.declared.Step.{Step}
-use Rattle.slots.specs.Plans.{Asked, planOf, stepAt, isEnd, isWait, framesMost, bound, stated}
+use Rattle.slots.specs.Plans.{planOf, stepAt, isEnd, isWait, framesMost, bound, stated}
 use Rattle.slots.specs.Driver.{Heard, ended, fewer, courseBy, stepOf, isEnded}
 use Rattle.slots.specs.Refusals.{rawRefusal}
 use Rattle.slots.specs.Calls.{Out, Request, Secret, Open, Closed, refused, scripted, openAfter, stepOpen, stepClosed, run, firstCourse, refusalOf, startOpen, startClosed, ran, outFrom, callOut, rawSent, rawOut}

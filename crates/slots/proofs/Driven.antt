@@ -2,13 +2,12 @@
 -- where the call ended: for any machine that drives a plan.
 -- Assumes nothing.
 use Prim.Native.Nat.{ℕ, zero, suc, _+_, _-_, _/_, _%_, _<_, _≤_}
-use native.Mathlib.Nat.{not-suc-le-zero}
 use native.Mathlib.Omega.{arith}
 use mathlib.Core.Path.{_≡_, refl, sym, ap, subst, _∙_}
 use mathlib.Core.Bool.{Bool, true, false, cond, not, _&&_, _||_}
-use mathlib.Core.List.{List, [], _∷_, _++_, append-assoc, append-nil}
+use mathlib.Core.List.{List, [], _∷_}
 use mathlib.Core.Logic.{_⊎_, inl, inr}
-use lib.ListN.{length, getD}
+use lib.ListN.{length}
 use lib.Dec.{eqb, leb}
 use borrow.Author.Tests.{leb-true, leb-false, eqb-true, eqb-false}
 use Rattle.slices.specs.Lists.{tabulate}
@@ -17,13 +16,12 @@ use Rattle.state.specs.declared.Answer.{Answer}
 use Rattle.state.specs.declared.Answer.the-variants as Answers
 use Rattle.state.specs.Answers.{numberOf}
 use Rattle.slots.specs.declared.Course.{Course}
-use Rattle.slots.specs.declared.Stage.{Stage}
 use Rattle.slots.specs.declared.Stage.the-variants.{Going, Ended}
 use Rattle.slots.specs.declared.Step.{Step}
 use Rattle.slots.specs.declared.Step.the-variants.{Wait, Protection, Lockdown, Read, Load, Send, End}
 use Rattle.slots.specs.Plans.{Asked, planOf, sectorFor, stepAt, isEnd, isWait}
-use Rattle.slots.specs.Driver.{Heard, Holding, shapeOf, frameByte, loaded, frameOf, statusHeard, heard, ended, moved, noted, marking, fewer, courseBy, takenBy, stepOf, isEnded}
-use Rattle.slots.specs.Exchanges.{Exchange, statusFrame, statusIn, guardedIn, Polled, FoundBusy, Turn, goes, stops, Polls, lost, foreign, ready, busy, again, Result, finished, stopped, isPlain, Sent, heldIn, Follows, done, waited, halted, cut, listed, shut, free, plain}
+use Rattle.slots.specs.Driver.{Holding, shapeOf, frameByte, frameOf, heard, ended, moved, noted, marking, fewer, courseBy, takenBy, stepOf, isEnded}
+use Rattle.slots.specs.Exchanges.{Exchange, statusIn, guardedIn, Polled, FoundBusy, Turn, goes, stops, Polls, lost, foreign, ready, busy, again, Result, finished, stopped, isPlain, heldIn, Follows, done, waited, halted, cut, listed, shut, free, plain}
 use Rattle.slots.proofs.Places.{never, restAt, rest-step, rest-none, plan-proper}
 use Rattle.slots.proofs.Accepted.{picked}
 use Rattle.slots.proofs.Bound.{Ok, stop-ok, after-ok, some-left}

@@ -5,7 +5,7 @@ use Prim.Native.Nat.{ℕ, zero, suc, _+_, _*_, _/_, _%_, _<_, _≤_}
 use native.Mathlib.Omega.{arith}
 use mathlib.Core.Path.{_≡_, refl, sym, ap, subst, _∙_}
 use mathlib.Core.Bool.{Bool, true, false, cond, _&&_}
-use mathlib.Core.List.{List, [], _∷_, _++_}
+use mathlib.Core.List.{List, [], _∷_}
 use mathlib.Core.Logic.{_⊎_, inl, inr}
 use lib.ListN.{length, replicate}
 use lib.Dec.{eqb}
@@ -40,17 +40,16 @@ use Rattle.state.proofs.Status.{idle-is}
 use Rattle.slots.specs.declared.Kind.{Kind}
 use Rattle.slots.specs.declared.Kind.the-variants.{Put, Patch, Get, Wipe}
 use Rattle.slots.specs.declared.Command.the-variants as C
-use Rattle.slots.specs.declared.Stage.the-variants.{Going, Ended}
 use Rattle.slots.specs.declared.Step.{Step}
 use Rattle.slots.specs.declared.Step.the-variants.{Wait, Protection, Lockdown, Read, Load, Send, End}
 use Rattle.state.specs.Memory.{State, chipIn}
 use Rattle.state.specs.Outcomes.{partIn}
 use Rattle.state.specs.Whole.{Whole}
 use Rattle.slots.specs.Plans.{Asked, opening, isAsking, pageSteps, pages, runBy, planBy, planOf, bound, stepAt, isEnd}
-use Rattle.slots.specs.Driver.{Holding, opcodeOf, shapeOf, frameByte, frameOf, stepOf, isEnded}
-use Rattle.slots.specs.Calls.{Request, Secret, Open, Closed, firstCourse, refusalOf, stepOpen, stepClosed, sends, startOpen, startClosed}
+use Rattle.slots.specs.Driver.{Holding, opcodeOf, shapeOf, frameByte, frameOf, isEnded}
+use Rattle.slots.specs.Calls.{Request, Secret, Open, Closed, refusalOf, stepOpen, stepClosed, startOpen, startClosed}
 use Rattle.slots.specs.Lists.{Op, call, put, get, pin, busyEnd, cut, asks, secret, outOf, nextOf, leftBy}
-use Rattle.slots.specs.Quiet.{Spares, Kept, startedBy, QuietFrames, QuietCall, QuietBy, Quiet, QuietIn, Returns}
+use Rattle.slots.specs.Quiet.{Spares, startedBy, QuietFrames, QuietCall, QuietBy, QuietIn, Returns}
 use Rattle.slots.proofs.Parts.{cases}
 use Rattle.slots.proofs.Places.{never, both, second, every, every-append}
 use Rattle.slots.proofs.Accepted.{step-ended, accepted}

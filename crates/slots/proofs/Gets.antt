@@ -6,13 +6,13 @@ use native.Mathlib.Omega.{arith}
 use native.Mathlib.Nat.{mul-le-mul-left, div-lt-iff-lt-mul, div-add-mod, mod-lt}
 use mathlib.Core.Path.{_≡_, refl, sym, ap, subst, _∙_}
 use mathlib.Core.Bool.{Bool, true, false, cond}
-use mathlib.Core.List.{List, [], _∷_, _++_}
-use mathlib.Core.Logic.{_⊎_, inl, inr}
+use mathlib.Core.List.{List, [], _∷_}
+use mathlib.Core.Logic.{inr}
 use lib.ListN.{length, getD, length-replicate}
 use lib.Dec.{eqb}
 use borrow.Author.Tests.{eqb-true, eqb-false}
 use Rattle.slices.specs.Lists.{tabulate, splice}
-use Rattle.slices.proofs.Laws.{length-tabulate, getD-tabulate, length-splice, splice-at, splice-before, splice-after}
+use Rattle.slices.proofs.Laws.{length-tabulate, getD-tabulate, length-splice, splice-at, splice-before}
 use Rattle.geometry.specs.declared.Geometry.{Geometry}
 use Rattle.geometry.specs.declared.Part.the-variants.{Known}
 use Rattle.geometry.specs.Parts.{partOf}
@@ -31,8 +31,7 @@ use Rattle.slots.specs.declared.Stage.the-variants.{Going, Ended}
 use Rattle.slots.specs.declared.Step.{Step}
 use Rattle.slots.specs.declared.Step.the-variants.{Wait, Read}
 use Rattle.slots.specs.declared.Verdict.{Verdict}
-use Rattle.state.specs.Outcomes.{partIn}
-use Rattle.slots.specs.Plans.{Asked, isAsking, pageSteps, pages, runBy, planBy, planOf, sectorFor, bound, stepAt, isEnd}
+use Rattle.slots.specs.Plans.{isAsking, pageSteps, pages, runBy, planBy, sectorFor, bound, stepAt, isEnd}
 use Rattle.slots.specs.Records.{slotSize, getVerdict}
 use Rattle.slots.specs.Driver.{Holding, frameOf, heard, moved, courseBy, judged, readIn, takenBy, isEnded}
 use Rattle.slots.specs.Calls.{Request, Secret, firstCourse, refusalOf, startOpen, startClosed, ran}

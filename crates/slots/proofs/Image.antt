@@ -2,19 +2,18 @@
 -- the record is storing the patched recipe.
 -- Assumes nothing.
 use Prim.Native.Nat.{ℕ, zero, suc, _+_, _-_, _*_, _/_, _%_, _≤_, _<_}
-use mathlib.Core.Path.{_≡_, refl, sym, ap, subst, _∙_}
+use mathlib.Core.Path.{_≡_, refl, sym, ap, _∙_}
 use mathlib.Core.Bool.{Bool, true, false, cond, _&&_}
-use mathlib.Core.List.{List, [], _∷_}
+use mathlib.Core.List.{List}
 use native.Mathlib.Omega.{arith}
 use lib.ListN.{length, getD, take, drop}
 use lib.Dec.{eqb, ltb, leb, lit<}
 use borrow.Author.Tests.{leb-true, leb-false, ltb-true, ltb-false, le-leb, lt-leb, ne-eqb}
-use Rattle.slices.specs.Lists.{tabulate, splice}
-use Rattle.slices.proofs.Laws.{getD-tabulate, tabulate-same, tabulate-getD, tabulate-part, length-splice, splice-before, splice-in, splice-after}
+use Rattle.slices.specs.Lists.{splice}
+use Rattle.slices.proofs.Laws.{tabulate-same, tabulate-getD, tabulate-part, length-splice, splice-before, splice-in, splice-after}
 use Rattle.geometry.specs.declared.Geometry.{Geometry}
-use Rattle.slots.specs.declared.Verdict.{Verdict}
 use Rattle.slots.specs.declared.Verdict.the-variants.{Good, Blank, Beyond}
-use Rattle.slots.specs.Records.{slotSize, headSize, limitOf, lengthIn, isRecord, image, patched, getVerdict, patchVerdict}
+use Rattle.slots.specs.Records.{headSize, limitOf, lengthIn, isRecord, image, patched, getVerdict, patchVerdict}
 
 -- ---- the first three bytes
 

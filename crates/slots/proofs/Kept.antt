@@ -1,7 +1,7 @@
 -- Pages in which nothing is programmed or erased keep their bytes: a frame leaves the array, and a busy end or a cut leaves the pages that the
 -- operation under way does not write. So what spares them at each frame spares them through every list.
 -- Assumes nothing.
-use Prim.Native.Nat.{ℕ, zero, suc, _+_, _*_, _≤_, _<_}
+use Prim.Native.Nat.{ℕ, zero, suc, _<_}
 use mathlib.Core.Path.{_≡_, refl, sym, ap, subst, _∙_}
 use mathlib.Core.Bool.{Bool, true, false, cond}
 use mathlib.Core.List.{List, [], _∷_}
@@ -10,7 +10,7 @@ use lib.ListN.{length}
 use lib.Dec.{eqb}
 use Rattle.geometry.specs.declared.Geometry.{Geometry}
 use Rattle.geometry.specs.declared.Part.{Part}
-use Rattle.geometry.specs.declared.Part.the-variants.{Known, Unknown}
+use Rattle.geometry.specs.declared.Part.the-variants.{Known}
 use Rattle.geometry.specs.Parts.{pageOf}
 use Rattle.registers.specs.declared.Operation.{Operation}
 use Rattle.registers.specs.declared.Operation.the-variants.{Idle}

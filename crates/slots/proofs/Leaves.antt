@@ -1,12 +1,12 @@
 -- WHAT A CALL LEAVES: an undisturbed call comes to its end, so its slot is written as `Stores` has it, every other page is spared, and byte by byte the array
 -- is the old one with the slot's bytes in their place.
 -- Assumes nothing.
-use Prim.Native.Nat.{ℕ, zero, suc, _+_, _-_, _*_, _/_, _%_, _<_, _≤_}
+use Prim.Native.Nat.{ℕ, _+_, _-_, _*_, _/_, _%_, _<_, _≤_}
 use native.Mathlib.Omega.{arith}
-use native.Mathlib.Nat.{mul-comm, mul-add, add-mul, mul-assoc, div-add-mod, div-add-mod', mod-lt, div-lt-iff-lt-mul, mul-le-mul-left, mul-le-mul-right}
+use native.Mathlib.Nat.{mul-comm, add-mul, div-add-mod', mod-lt, mul-le-mul-left}
 use mathlib.Core.Path.{_≡_, refl, sym, ap, subst, _∙_}
 use mathlib.Core.Bool.{Bool, true, false, cond}
-use mathlib.Core.List.{List, [], _∷_}
+use mathlib.Core.List.{List, []}
 use mathlib.Core.Logic.{_⊎_, inl, inr}
 use lib.ListN.{length, getD, length-replicate}
 use lib.Seq.{ext-getD}
@@ -17,7 +17,7 @@ use Rattle.slices.proofs.Laws.{length-tabulate, getD-tabulate, tabulate-same, t
 use Rattle.geometry.specs.declared.Geometry.{Geometry}
 use Rattle.geometry.specs.declared.Part.{Part}
 use Rattle.geometry.specs.declared.Part.the-variants.{Known}
-use Rattle.geometry.specs.Parts.{partOf, Sized, pageOf, pageStart}
+use Rattle.geometry.specs.Parts.{Sized, pageOf, pageStart}
 use Rattle.geometry.proofs.Pages.{length-pageOf, getD-pageOf, page-few, start-mono, start-next, start-add}
 use Rattle.geometry.specs.Sectors.{sectorOf}
 use Rattle.registers.specs.declared.Operation.{Operation}
@@ -25,7 +25,6 @@ use Rattle.registers.specs.declared.Operation.the-variants.{Idle}
 use Rattle.registers.specs.Operations.{writes}
 use Rattle.registers.proofs.Operations.{writes-idle}
 use Rattle.registers.proofs.Places.{placed-sized}
-use Rattle.state.specs.declared.Answer.the-variants as Answers
 use Rattle.state.specs.Answers.{numberOf}
 use Rattle.slots.specs.declared.Kind.{Kind}
 use Rattle.slots.specs.declared.Kind.the-variants.{Put, Patch, Get, Wipe}
@@ -36,8 +35,8 @@ use Rattle.state.specs.Whole.{Whole}
 use Rattle.slots.specs.Plans.{Asked, planBy}
 use Rattle.slots.specs.Records.{slotSize, image, changed, patchVerdict}
 use Rattle.slots.specs.Driver.{verdictAnswer, weighed, toldBy}
-use Rattle.slots.specs.Calls.{Out, Request, Secret, refusalOf, startClosed, ran, reached, outFrom, answerIn, callOut, callNext}
-use Rattle.slots.specs.Lists.{Op, call, asking, asks, secret, callBy, outOf, calledBy, nextOf}
+use Rattle.slots.specs.Calls.{Request, Secret, refusalOf, startClosed, ran, reached, outFrom, answerIn, callOut, callNext}
+use Rattle.slots.specs.Lists.{call, asking, asks, secret, callBy, outOf, calledBy, nextOf}
 use Rattle.slots.specs.Exchanges.{Undisturbed}
 use Rattle.slots.specs.Quiet.{pageIn, KeptSlot}
 use Rattle.slots.specs.Leaves.{slotByte, verdictFor, leftIn, Leaves}

@@ -5,9 +5,8 @@ use Prim.Native.Nat.{ℕ, zero, suc, _+_, _/_, _%_, _<_}
 use borrow.Author.Tests.{eqb-true}
 use native.Mathlib.Omega.{arith}
 use mathlib.Core.Path.{_≡_, refl, sym, ap, subst, _∙_}
-use mathlib.Core.Bool.{Bool, true, false, cond, not, _&&_, _||_}
+use mathlib.Core.Bool.{Bool, true, false, cond, _&&_, _||_}
 use mathlib.Core.List.{List, [], _∷_, _++_}
-use mathlib.Core.Logic.{_⊎_, inl, inr}
 use lib.ListN.{length, getD, replicate}
 use lib.Dec.{eqb, lit<, lit≤}
 use Rattle.slices.specs.Lists.{tabulate}
@@ -43,7 +42,7 @@ use Rattle.slots.proofs.Accepted.{step-ended}
 use Rattle.slots.proofs.Bound.{Ok, step-ok, begin-ok}
 use Rattle.slots.proofs.Sent.{read-keeps, send-returns}
 use Rattle.slots.proofs.Driven.{Ends}
-use Rattle.slots.proofs.Planned.{ended-none, first, open-is, Came, comes, isFree, onChip}
+use Rattle.slots.proofs.Planned.{ended-none, first, open-is, comes, isFree, onChip}
 
 module _ (g : Geometry) (r : Registers) (y : Ready r) (n : Lengths r) where
   -- ---- what the chip's replies tell

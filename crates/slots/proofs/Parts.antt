@@ -1,9 +1,7 @@
 -- What calls and events do, by the part: it is looked up first, so a proof may go by it.
 -- Assumes nothing.
-use Prim.Native.Nat.{ℕ}
 use mathlib.Core.Path.{_≡_, refl}
 use mathlib.Core.Bool.{Bool, true, false, cond}
-use mathlib.Core.List.{List}
 use Rattle.geometry.specs.declared.Part.{Part}
 use Rattle.state.specs.Memory.{State}
 use Rattle.state.specs.Outcomes.{partIn, sentBy, sendOutcome, endedBy, endOutcome, pinOutcome, cutBy, cutOutcome}

@@ -1,12 +1,12 @@
 -- Places in a plan, and what a reply can do to a course, whatever the step: the one place where the transition is opened by steps.
 -- Assumes nothing.
-use Prim.Native.Nat.{ℕ, zero, suc, _+_, _-_, _<_, _≤_}
+use Prim.Native.Nat.{ℕ, zero, suc, _+_, _-_, _<_}
 use mathlib.Core.Path.{_≡_, refl, sym, ap, subst, _∙_}
 use mathlib.Core.Bool.{Bool, true, false, cond, not, _&&_, _||_}
 use mathlib.Core.List.{List, [], _∷_, _++_}
 use native.Mathlib.Omega.{arith}
 use borrow.Author.Tests.{leb-false}
-use lib.Dec.{T, eqb, leb, lit<}
+use lib.Dec.{T, leb, lit<}
 use Rattle.geometry.specs.declared.Geometry.{Geometry}
 use Rattle.state.specs.declared.Answer.{Answer}
 use Rattle.state.specs.declared.Answer.the-variants as Answers
@@ -19,7 +19,7 @@ use Rattle.slots.specs.declared.Stage.the-variants.{Going, Ended}
 use Rattle.slots.specs.declared.Step.{Step}
 use Rattle.slots.specs.declared.Step.the-variants.{Wait, Protection, Lockdown, Read, Load, Send, End}
 use Rattle.slots.specs.Plans.{pages, opening, isAsking, pageSteps, runBy, planBy, stepAt, isEnd, isWait}
-use Rattle.slots.specs.Driver.{Heard, ended, moved, noted, marking, fewer, courseBy, isEnded}
+use Rattle.slots.specs.Driver.{Heard, ended, fewer, courseBy, isEnded}
 use Rattle.slots.proofs.Parts.{cases}
 
 pub never : {A : Type 0} → false ≡ true → A

@@ -5,7 +5,7 @@ use native.Mathlib.Omega.{arith}
 use mathlib.Core.Path.{_≡_, refl, sym, ap, subst, _∙_}
 use mathlib.Core.Bool.{Bool, true, false, cond}
 use mathlib.Core.List.{List, [], _∷_, _++_, append-assoc, append-nil}
-use mathlib.Core.Logic.{_⊎_, inl, inr}
+use mathlib.Core.Logic.{inl}
 use lib.ListN.{length}
 use lib.Dec.{eqb}
 use Rattle.geometry.specs.declared.Geometry.{Geometry}
@@ -19,7 +19,7 @@ use Rattle.slots.specs.declared.Step.{Step}
 use Rattle.state.specs.Memory.{State}
 use Rattle.slots.specs.Plans.{Asked, planOf, sectorFor, bound, stepAt, isWait}
 use Rattle.slots.specs.Driver.{Holding, heard, ended, courseBy, takenBy, stepOf, isEnded, weighed, toldBy}
-use Rattle.slots.specs.Calls.{Out, Request, Secret, Open, Closed, scripted, sends, leaves, replies, hears, outline, openAfter, closedAfter, stepOpen, stepClosed, run, firstCourse, refusalOf, startOpen, startClosed, ran, outFrom, answerIn, answerAt, callOut}
+use Rattle.slots.specs.Calls.{Request, Secret, Open, Closed, scripted, sends, leaves, replies, hears, outline, openAfter, closedAfter, stepOpen, stepClosed, run, firstCourse, refusalOf, startOpen, startClosed, ran, outFrom, answerIn, answerAt, callOut}
 use Rattle.slots.specs.declared.Step.the-variants.{Wait, Protection, Lockdown, Read, Load, Send, End}
 use Rattle.slots.specs.Exchanges as P
 use Rattle.slots.specs.Exchanges.{Exchange, exchangesOf, exchanges, outlines, Turn, goes, stops, Polls, Result, finished, stopped, answerFor, Follows, done, waited, halted, cut, listed, shut, free, plain, AsPlanned}

@@ -6,31 +6,26 @@ use Prim.Native.Nat.{ℕ, _+_, _*_, _/_, _%_, _<_, _≤_}
 use native.Mathlib.Omega.{arith}
 use mathlib.Core.Path.{_≡_, refl, sym, ap, subst, _∙_}
 use mathlib.Core.Bool.{Bool, true, false, cond, not, _&&_, _||_}
-use mathlib.Core.List.{List, [], _∷_}
-use mathlib.Core.Logic.{_⊎_, inl, inr}
+use mathlib.Core.List.{List, []}
+use mathlib.Core.Logic.{inl, inr}
 use lib.ListN.{length, getD, take, drop, length-replicate}
 use lib.Dec.{eqb, ltb, leb}
 use borrow.Author.Tests.{ltb-false}
-use Rattle.slices.specs.Lists.{over, splice, tabulate}
+use Rattle.slices.specs.Lists.{over, splice}
 use Rattle.slices.proofs.Laws.{getD-tabulate, tabulate-same, length-splice, splice-zero, splice-part}
 use Rattle.geometry.specs.declared.Geometry.{Geometry}
 use Rattle.geometry.specs.declared.Part.{Part}
 use Rattle.geometry.specs.declared.Part.the-variants.{Known, Unknown}
-use Rattle.geometry.specs.Parts.{partOf, Sized, pageOf}
-use Rattle.geometry.specs.Sectors.{sectorOf}
-use Rattle.geometry.proofs.Pages.{sized}
+use Rattle.geometry.specs.Parts.{partOf, Sized}
 use Rattle.registers.specs.declared.Operation.{Operation}
 use Rattle.registers.specs.declared.Operation.the-variants.{Idle}
-use Rattle.registers.specs.declared.Registers.{Registers}
 use Rattle.registers.specs.Operations.{within, placed}
-use Rattle.registers.proofs.Places.{placed-known, known-placed, placed-sized}
-use Rattle.control.specs.Starts.{Ready}
+use Rattle.registers.proofs.Places.{known-placed, placed-sized}
 use Rattle.state.specs.declared.Answer.{Answer}
 use Rattle.state.specs.declared.Answer.the-variants as Answers
 use Rattle.state.specs.Answers.{numberOf}
-use Rattle.state.specs.Memory.{Memory, State, chipIn}
-use Rattle.slots.specs.declared.Kind.{Kind}
-use Rattle.slots.specs.declared.Kind.the-variants.{Put, Patch, Get, Wipe}
+use Rattle.state.specs.Memory.{State, chipIn}
+use Rattle.slots.specs.declared.Kind.the-variants.{Put, Patch, Get}
 use Rattle.slots.specs.declared.Stage.{Stage}
 use Rattle.slots.specs.declared.Stage.the-variants.{Going, Ended}
 use Rattle.slots.specs.declared.Verdict.{Verdict}
@@ -38,25 +33,25 @@ use Rattle.slots.specs.declared.Verdict.the-variants.{Good, Blank, Beyon
 use Rattle.state.specs.Outcomes.{partIn, cutState}
 use Rattle.state.specs.Whole.{Whole}
 use Rattle.slots.specs.Plans.{bound, isAsking, pageSteps, planBy}
-use Rattle.slots.specs.Records.{slotSize, headSize, limitOf, lengthIn, image, patched, changed, getVerdict, patchVerdict}
+use Rattle.slots.specs.Records.{slotSize, headSize, limitOf, image, changed, getVerdict, patchVerdict}
 use Rattle.slots.specs.Refusals.{isOver, isShort, badScript, earlyRefusal, lateRefusal, orElse, callRefusal}
 use Rattle.slots.specs.Driver.{Holding, verdictAnswer, weighed, toldBy}
 use Rattle.slots.specs.Calls.{Out, Request, Secret, Open, Closed, refusalOf, startClosed, ran, reached, countBy, countOf, delivered, outFrom, answerIn, answerAt, callOut, callNext}
 use Rattle.slots.specs.Lists.{Op, put, patch, get, call, asking, asks, secret, callBy, outOf, calledBy, nextOf, leftBy}
 use Rattle.slots.specs.Exchanges.{Result, finished, stopped, answerFor}
-use Rattle.slots.specs.Quiet.{pageIn, Kept, KeptSlot, Holds, Quiet, QuietIn, Refuses, part, frame, slot, limit, size, log, script, device, busy, lost, Returns}
-use Rattle.slots.proofs.Parts.{cases, out-at, next-at, outAt, nextAt}
+use Rattle.slots.specs.Quiet.{pageIn, KeptSlot, Holds, QuietIn, Refuses, part, slot, limit, size, log, script, device, busy, lost, Returns}
+use Rattle.slots.proofs.Parts.{cases}
 use Rattle.slots.proofs.Places.{never, every, every-plan}
 use Rattle.slots.proofs.Steady.{whole-op, whole-list}
-use Rattle.slots.proofs.Accepted.{early, accepted}
-use Rattle.slots.proofs.Refused.{refused-call, weighed-other}
+use Rattle.slots.proofs.Accepted.{accepted}
+use Rattle.slots.proofs.Refused.{refused-call}
 use Rattle.slots.proofs.Driven.{Ends}
-use Rattle.slots.proofs.Planned.{Came, comes, onChip, isFree, Halts, ResultHalts, free-halts}
+use Rattle.slots.proofs.Planned.{comes, onChip, isFree, Halts, ResultHalts, free-halts}
 use Rattle.slots.proofs.Planned as H
 use Rattle.slots.proofs.Kept.{idle-spares, list-kept}
-use Rattle.slots.proofs.Stores.{Writer, Wrote, call-stores, slot-sector, cold}
-use Rattle.slots.proofs.Written.{putWriter, put-lawful, patchWriter, patch-lawful, Before, verdictOn}
-use Rattle.slots.proofs.Gets.{Got, call-reads}
+use Rattle.slots.proofs.Stores.{Writer, Wrote, call-stores, slot-sector}
+use Rattle.slots.proofs.Written.{putWriter, put-lawful, patchWriter, patch-lawful}
+use Rattle.slots.proofs.Gets.{call-reads}
 use Rattle.slots.proofs.Image.{length-told, get-good, patch-ends, recipe-told, image-patched}
 
 -- ---- what an answer tells of the end

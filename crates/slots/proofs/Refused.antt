@@ -2,11 +2,10 @@
 -- call starts at its end, and a run never leaves its end; an accepted one can only end with 0 or 8 to 13.
 -- Assumes nothing.
 use Prim.Native.Nat.{ℕ, zero, suc, _<_, _≤_}
-use native.Mathlib.Omega.{arith}
 use mathlib.Core.Path.{_≡_, refl, sym, ap, subst, _∙_}
-use mathlib.Core.Bool.{Bool, true, false, cond, _&&_, _||_}
+use mathlib.Core.Bool.{Bool, true, false, cond, _&&_}
 use mathlib.Core.List.{List, []}
-use lib.ListN.{length, take, drop}
+use lib.ListN.{length}
 use lib.Dec.{eqb, leb, lit≤}
 use borrow.Author.Tests.{lt-leb}
 use Rattle.slices.specs.Lists.{over}
@@ -16,17 +15,16 @@ use Rattle.geometry.specs.declared.Part.the-variants.{Known, Unknown}
 use Rattle.state.specs.declared.Answer.{Answer}
 use Rattle.state.specs.declared.Answer.the-variants as Answers
 use Rattle.state.specs.Answers.{numberOf}
-use Rattle.state.specs.Outcomes.{framed, Left, partIn, cutState, sentBy, endedBy, pinOutcome, cutFits, cutBy, left}
+use Rattle.state.specs.Outcomes.{framed, partIn, cutState, sentBy, endedBy, pinOutcome, cutFits, cutBy, left}
 use Rattle.slots.specs.declared.Course.{Course}
 use Rattle.slots.specs.declared.Kind.{Kind}
 use Rattle.slots.specs.declared.Stage.{Stage}
 use Rattle.slots.specs.declared.Stage.the-variants.{Going, Ended}
-use Rattle.slots.specs.declared.Step.{Step}
 use Rattle.slots.specs.declared.Verdict.{Verdict}
 use Rattle.slots.specs.declared.Verdict.the-variants.{Good, Blank, Beyond}
 use Rattle.state.specs.Memory.{State}
 use Rattle.slots.specs.Plans.{planOf, stepAt, isEnd, bound}
-use Rattle.slots.specs.Driver.{Heard, ended, courseBy, isEnded, verdictAnswer, weighed, toldBy}
+use Rattle.slots.specs.Driver.{isEnded, verdictAnswer, weighed, toldBy}
 use Rattle.slots.specs.Refusals.{rawRefusal}
 use Rattle.slots.specs.Calls.{Out, Request, Secret, Open, Closed, refused, scripted, hears, openAfter, stepOpen, stepClosed, run, firstCourse, refusalOf, startOpen, startClosed, ran, reached, countBy, countOf, delivered, outFrom, answerIn, answerAt, callOut, callNext, rawSent, rawOut, rawNext}
 use Rattle.slots.specs.Lists.{Op, call, raw, straight, pin, busyEnd, cut, asks, secret, met, callBy, rawBy, outOf, calledBy, rawLeft, nextOf, isRefusal, lentTo, Untouched}

@@ -1,11 +1,11 @@
 -- The premise of two-runs can be met: lists with the same junk are alike along any two runs, whatever the recipes are. An example puts
 -- recipes of 1 and of 2,109 bytes.
 -- Assumes nothing.
-use Prim.Native.Nat.{ℕ, _+_, _-_, _*_}
+use Prim.Native.Nat.{ℕ, _-_, _*_}
 use mathlib.Core.Path.{_≡_, refl, sym, ap, subst, _∙_}
 use mathlib.Core.Bool.{Bool, true, false, cond, _&&_}
 use mathlib.Core.List.{List, [], _∷_}
-use lib.ListN.{length, replicate, length-replicate}
+use lib.ListN.{length, replicate}
 use lib.Dec.{eqb, ltb}
 use native.Mathlib.Omega.{arith}
 use Rattle.geometry.specs.declared.Geometry.{Geometry}
@@ -21,7 +21,7 @@ use Rattle.state.specs.Memory.{State}
 use Rattle.state.specs.Outcomes.{partIn, cutFits}
 use Rattle.slots.specs.Records.{slotSize, limitOf}
 use Rattle.slots.specs.Refusals.{isOver}
-use Rattle.slots.specs.Calls.{ran, scripted}
+use Rattle.slots.specs.Calls.{scripted}
 use Rattle.slots.specs.Lists.{Op, asking, call, put, raw, straight, pin, busyEnd, cut, secret, runList, nextOf}
 use Rattle.slots.specs.Alike.{Twins, Given, calls, raws, straights, pins, ends, cuts, oversize, callJunk, rawJunk, cutJunk, junkBy, junkOf, Alike, AlikeLists, AllSame}
 use Rattle.slots.proofs.TwoRuns.{request-same, ran-blind, raw-refusal, part-same, next-twins, two-runs}

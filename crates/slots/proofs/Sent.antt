@@ -3,30 +3,25 @@
 -- Assumes nothing.
 use Prim.Native.Nat.{ℕ, zero, suc, _+_, _-_, _*_, _/_, _%_, _≤_, _<_}
 use mathlib.Core.Path.{_≡_, refl, sym, ap, subst, _∙_}
-use mathlib.Core.Bool.{Bool, true, false, cond, not, _||_}
-use mathlib.Core.List.{List, [], _∷_, _++_}
+use mathlib.Core.Bool.{Bool, true, false, cond, not}
+use mathlib.Core.List.{List, [], _∷_}
 use mathlib.Core.Logic.{_⊎_, inl, inr}
 use native.Mathlib.Omega.{arith}
-use native.Mathlib.Nat.{mul-le-mul}
 use lib.ListN.{length, getD, take, drop, replicate}
 use lib.Dec.{eqb, leb, lit<, lit≤}
-use borrow.Author.Tests.{eqb-true, ne-eqb}
+use borrow.Author.Tests.{ne-eqb}
 use Rattle.slices.specs.Lists.{tabulate}
 use Rattle.slices.proofs.Laws.{length-tabulate, getD-tabulate, tabulate-append, tabulate-same, tabulate-part}
 use Rattle.geometry.specs.declared.Geometry.{Geometry}
-use Rattle.geometry.specs.declared.Part.{Part}
 use Rattle.geometry.specs.declared.Part.the-variants.{Known, Unknown}
 use Rattle.geometry.specs.Parts.{partOf, Sized, addressAt, pageAt, pageOf}
 use Rattle.geometry.specs.Sectors.{sectorOf}
 use Rattle.geometry.proofs.Pages.{length-pageOf, sized}
-use Rattle.geometry.proofs.Sectors.{block-sector}
 use Rattle.geometry.proofs.Addresses.{address-bytes, page-address}
 use Rattle.commands.specs.declared.Buffer.the-variants.{One}
 use Rattle.registers.specs.declared.Registers.{Registers}
 use Rattle.registers.specs.Fields.{withOperation}
-use Rattle.registers.specs.Operations.{placed}
 use Rattle.registers.specs.Protection.{bitsOf, hasBits, guarded, sealed}
-use Rattle.registers.proofs.Places.{placed-known, placed-sized}
 use Rattle.control.specs.Control.{control, started, startedOn}
 use Rattle.control.specs.Starts.{Ready}
 use Rattle.memory.specs.Replies.{replied, onceData}
@@ -38,15 +33,14 @@ use Rattle.state.proofs.Replies.{reply-protection, reply-lockdown, page-read}
 use Rattle.commands.specs.declared.Decoded.{Decoded}
 use Rattle.commands.specs.declared.Effect.{Effect}
 use Rattle.commands.specs.declared.Effect.the-variants as E
-use Rattle.commands.specs.Table.{commands, rowAt}
 use Rattle.commands.specs.Decode.{decodeOf}
-use Rattle.commands.proofs.Frames.{decode-row, decode-program, decode-erase}
+use Rattle.commands.proofs.Frames.{decode-program, decode-erase}
 use Rattle.registers.specs.declared.Operation.{Operation}
 use Rattle.registers.specs.declared.Operation.the-variants as O
 use Rattle.control.specs.declared.Decision.{Decision}
 use Rattle.control.specs.Control.{ignored, rowOf, rowDecided}
 use Rattle.control.specs.Completion.{completed, completedBy}
-use Rattle.control.proofs.Frames.{ready-obeys, status-keeps, protection-keeps, lockdown-keeps, page-keeps, load-keeps}
+use Rattle.control.proofs.Frames.{ready-obeys, page-keeps}
 use Rattle.control.proofs.Ends.{completed-idle}
 use Rattle.state.specs.Frames.{isIdle, sentMemory, acted, bufferWritten, written}
 use Rattle.state.proofs.Status.{idle-is}
@@ -58,7 +52,7 @@ use Rattle.slots.specs.declared.Kind.{Kind}
 use Rattle.slots.specs.declared.Command.{Command}
 use Rattle.slots.specs.declared.Command.the-variants as C
 use Rattle.slots.specs.declared.Step.{Step}
-use Rattle.slots.specs.declared.Step.the-variants.{Wait, Protection, Lockdown, Read, Load, Send, End}
+use Rattle.slots.specs.declared.Step.the-variants.{Wait, Read, Load, Send}
 use Rattle.slots.specs.Driver.{Heard, Shape, Holding, opcodeOf, shapeOf, frameByte, loaded, frameOf, statusHeard, registerIn, ended, moved, marking, fewer, courseBy}
 use Rattle.slots.proofs.Blind.{status-heard}
 use Rattle.slots.proofs.Parts.{cases}

@@ -4,17 +4,17 @@
 use Prim.Native.Nat.{ℕ, zero, suc, _+_, _-_, _*_, _/_, _%_, _<_, _≤_}
 use native.Mathlib.Omega.{arith}
 use mathlib.Core.Path.{_≡_, refl, sym, ap, subst, _∙_}
-use mathlib.Core.Bool.{Bool, true, false, cond, not, _&&_, _||_}
+use mathlib.Core.Bool.{Bool, true, false, cond, _&&_, _||_}
 use mathlib.Core.List.{List, [], _∷_, _++_}
 use mathlib.Core.Logic.{_⊎_, inl, inr}
 use lib.ListN.{length, getD, take, replicate}
-use lib.Dec.{eqb, leb, ltb, lit<}
+use lib.Dec.{eqb, ltb, lit<}
 use borrow.Author.Tests.{eqb-true, eqb-false}
 use Rattle.slices.specs.Lists.{tabulate}
 use Rattle.slices.proofs.Laws.{length-tabulate, tabulate-same, tabulate-const}
 use Rattle.geometry.specs.declared.Geometry.{Geometry}
 use Rattle.geometry.specs.declared.Part.the-variants.{Known}
-use Rattle.geometry.specs.Parts.{partOf, Sized, pageOf, run}
+use Rattle.geometry.specs.Parts.{partOf, pageOf, run}
 use Rattle.geometry.specs.Sectors.{sectorOf}
 use Rattle.geometry.proofs.Pages.{sized}
 use Rattle.geometry.proofs.Runs.{pages-run}
@@ -25,14 +25,11 @@ use Rattle.registers.specs.declared.Operation.the-variants as O
 use Rattle.registers.specs.declared.Registers.{Registers}
 use Rattle.registers.specs.Fields.{withOperation}
 use Rattle.registers.specs.Protection.{hasBits, guarded, sealed}
-use Rattle.registers.specs.Operations.{bufferUsed}
 use Rattle.registers.proofs.Places.{placed-known}
-use Rattle.control.specs.Control.{control}
 use Rattle.control.specs.Completion.{completed, completedBy}
 use Rattle.control.specs.Starts.{Ready}
 use Rattle.control.proofs.Frames.{protection-keeps, lockdown-keeps}
 use Rattle.memory.proofs.Pages.{erased-page}
-use Rattle.state.specs.declared.Answer.{Answer}
 use Rattle.state.specs.declared.Answer.the-variants as Answers
 use Rattle.state.specs.Answers.{numberOf}
 use Rattle.state.specs.Memory.{Memory, State}
@@ -43,12 +40,11 @@ use Rattle.state.proofs.Loads.{protection-memory, lockdown-memory, load-first, 
 use Rattle.slots.specs.declared.Course.{Course}
 use Rattle.slots.specs.declared.Kind.{Kind}
 use Rattle.slots.specs.declared.Command.the-variants as C
-use Rattle.slots.specs.declared.Stage.{Stage}
 use Rattle.slots.specs.declared.Stage.the-variants.{Going, Ended}
 use Rattle.slots.specs.declared.Step.{Step}
-use Rattle.slots.specs.declared.Step.the-variants.{Wait, Protection, Lockdown, Read, Load, Send, End}
+use Rattle.slots.specs.declared.Step.the-variants.{Wait, Protection, Lockdown, Read, Load, Send}
 use Rattle.state.specs.Outcomes.{partIn}
-use Rattle.slots.specs.Plans.{pages, planOf, sectorFor, bound, stepAt, isEnd}
+use Rattle.slots.specs.Plans.{pages, planOf, bound, stepAt, isEnd}
 use Rattle.slots.specs.Driver.{Holding, shapeOf, frameByte, frameOf, storedBy, loaded, registerIn, heard, moved, noted, courseBy, readIn, takenBy, isEnded}
 use Rattle.slots.specs.Calls.{Request, Secret, Open, Closed, firstCourse, refusalOf, startOpen, startClosed, ran}
 use Rattle.slots.specs.Quiet.{pageIn}
@@ -57,7 +53,7 @@ use Rattle.slots.proofs.Blind.{load-registers}
 use Rattle.slots.proofs.Bound.{begin-ok}
 use Rattle.slots.proofs.Sent.{read-keeps, read-memory, load-form, page-told, operationOf, protection-free, lockdown-free}
 use Rattle.slots.proofs.Steady.{Steady, array-steady, buffer-steady, both-steady}
-use Rattle.slots.proofs.Track.{Facts, Next, Turned, Tracked, idle-stays, stop, carry, wait-next, sent-next, run-tracked}
+use Rattle.slots.proofs.Track.{Facts, Next, Turned, idle-stays, stop, carry, wait-next, sent-next, run-tracked}
 
 -- ---- sealed or not
 

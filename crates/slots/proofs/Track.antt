@@ -1,12 +1,11 @@
 -- How to follow a call on the chip step by step: what is known between two steps (`Know`, `Holds`), which steps may come then (`Lawful`), and
 -- how each step takes one to the next. A wait keeps what is known while it lasts; a busy end must keep it always.
 -- Assumes nothing.
-use Prim.Native.Nat.{ℕ, zero, suc, _≤_, _<_}
-use mathlib.Core.Path.{_≡_, refl, sym, ap, subst, _∙_}
+use Prim.Native.Nat.{ℕ, zero, suc, _<_}
+use mathlib.Core.Path.{_≡_, refl, sym, subst, _∙_}
 use mathlib.Core.Bool.{Bool, true, false, cond}
-use mathlib.Core.List.{List, [], _∷_, _++_}
+use mathlib.Core.List.{List, [], _∷_}
 use mathlib.Core.Logic.{_⊎_, inl, inr}
-use native.Mathlib.Omega.{arith}
 use lib.ListN.{length}
 use lib.Dec.{eqb, lit<}
 use Rattle.slices.specs.Lists.{tabulate}
@@ -36,11 +35,11 @@ use Rattle.slots.specs.declared.Course.{Course}
 use Rattle.slots.specs.declared.Kind.{Kind}
 use Rattle.slots.specs.declared.Command.{Command}
 use Rattle.slots.specs.declared.Stage.{Stage}
-use Rattle.slots.specs.declared.Stage.the-variants.{Going, Ended}
+use Rattle.slots.specs.declared.Stage.the-variants.{Ended}
 use Rattle.slots.specs.declared.Step.{Step}
-use Rattle.slots.specs.declared.Step.the-variants.{Wait, Protection, Lockdown, Read, Load, Send, End}
+use Rattle.slots.specs.declared.Step.the-variants.{Wait, Send}
 use Rattle.slots.specs.Plans.{planOf, sectorFor, stepAt, isEnd}
-use Rattle.slots.specs.Driver.{Holding, shapeOf, frameByte, frameOf, heard, ended, moved, marking, courseBy, takenBy, stepOf, isEnded}
+use Rattle.slots.specs.Driver.{Holding, shapeOf, frameByte, frameOf, heard, ended, courseBy, takenBy, stepOf, isEnded}
 use Rattle.slots.specs.Calls.{Request, Open, Closed, scripted, sends, leaves, replies, hears, registersAfter, memoryAfter, openAfter, closedAfter, stepOpen, stepClosed, outline, run}
 use Rattle.slots.proofs.Steady.{Steady, step-keeps}
 use Rattle.slots.proofs.Places.{never, restAt, rest-step, not-done, Over, course-over}

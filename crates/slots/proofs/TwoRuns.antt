@@ -30,7 +30,7 @@ use Rattle.state.specs.Memory.{State}
 use Rattle.slots.specs.Plans.{Asked, bound}
 use Rattle.slots.specs.Driver.{verdictAnswer, weighed, toldBy}
 use Rattle.slots.specs.Refusals.{isOver, isShort, rawRefusal}
-use Rattle.slots.specs.Calls.{Out, Request, Secret, Open, Closed, refused, scripted, registersAfter, stateAfter, run, startOpen, startClosed, ran, reached, answerIn, answerAt, outFrom, callOut, callNext, rawSent, rawOut, rawNext}
+use Rattle.slots.specs.Calls.{Out, Request, Secret, Open, refused, scripted, registersAfter, stateAfter, run, startOpen, startClosed, ran, reached, answerIn, answerAt, outFrom, callOut, callNext, rawSent, rawOut, rawNext}
 use Rattle.slots.specs.Lists.{Op, asks, secret, met, callBy, rawBy, outOf, calledBy, rawLeft, nextOf, runList}
 use Rattle.slots.specs.Alike.{Twins, Given, calls, raws, straights, pins, ends, cuts, oversize, callJunk, rawJunk, cutJunk, junkBy, junkOf, Alike, AlikeLists, Soft, Same, AllSame}
 use Rattle.slots.proofs.Parts.{outAt, out-at, nextAt, next-at}

@@ -1,19 +1,18 @@
 -- 12 and 13, exactly: the driver's tests of a slot's first bytes say what the rules say of their numbers.
 -- Assumes nothing.
-use Prim.Native.Nat.{ℕ, _+_, _-_, _*_, _<_, _≤_}
+use Prim.Native.Nat.{ℕ, _+_, _-_, _*_, _≤_}
 use native.Mathlib.Omega.{arith}
 use mathlib.Core.Path.{_≡_, refl}
 use mathlib.Core.Bool.{Bool, true, false, cond, _&&_}
 use mathlib.Core.List.{List}
-use mathlib.Core.Logic.{_⊎_, inl, inr}
+use mathlib.Core.Logic.{inl, inr}
 use lib.ListN.{length, getD}
 use lib.Dec.{eqb, leb}
 use borrow.Author.Tests.{eqb-true, eqb-false, leb-true, leb-false}
 use Rattle.geometry.specs.declared.Geometry.{Geometry}
 use Rattle.slots.specs.declared.Kind.the-variants.{Patch, Get}
-use Rattle.slots.specs.declared.Verdict.{Verdict}
 use Rattle.slots.specs.declared.Verdict.the-variants.{Good, Blank, Beyond}
-use Rattle.slots.specs.Records.{slotSize, headSize, limitOf, lengthIn, isRecord, getVerdict, patchVerdict}
+use Rattle.slots.specs.Records.{slotSize, limitOf, lengthIn, isRecord, getVerdict, patchVerdict}
 use Rattle.slots.specs.Driver.{Holding, judged}
 use Rattle.slots.specs.Exchanges.{Judges, no-record, too-far, within}
 

@@ -2,21 +2,20 @@
 -- All three are `Stores`, once it is said what is known before each page: of a put and a wipe nothing, of a patch that the pages not yet programmed are
 -- as before.
 -- Assumes nothing.
-use Prim.Native.Nat.{ℕ, zero, suc, _+_, _*_, _%_, _<_, _≤_}
+use Prim.Native.Nat.{ℕ, _+_, _*_, _%_, _<_, _≤_}
 use native.Mathlib.Omega.{arith}
 use native.Mathlib.Nat.{mul-le-mul-left}
-use mathlib.Core.Path.{_≡_, refl, sym, ap, subst, _∙_}
+use mathlib.Core.Path.{_≡_, refl, ap, _∙_}
 use mathlib.Core.Bool.{Bool, true, false, cond}
-use mathlib.Core.List.{List, [], _∷_, _++_}
-use lib.ListN.{length, getD, replicate, length-replicate}
+use mathlib.Core.List.{List}
+use lib.ListN.{length, getD}
 use lib.Dec.{eqb}
 use borrow.Author.Tests.{eqb-true, eqb-false}
-use Rattle.slices.specs.Lists.{tabulate, splice}
+use Rattle.slices.specs.Lists.{tabulate}
 use Rattle.slices.proofs.Laws.{length-tabulate, getD-tabulate, length-splice, splice-at}
 use Rattle.geometry.specs.declared.Geometry.{Geometry}
 use Rattle.geometry.specs.Sectors.{sectorOf}
-use Rattle.slots.specs.declared.Kind.{Kind}
-use Rattle.slots.specs.declared.Kind.the-variants.{Put, Patch, Get, Wipe}
+use Rattle.slots.specs.declared.Kind.the-variants.{Put, Patch, Wipe}
 use Rattle.slots.specs.declared.Verdict.{Verdict}
 use Rattle.slots.specs.declared.Verdict.the-variants.{Good}
 use Rattle.slots.specs.Plans.{isAsking, pageSteps, runBy, pages, planBy}
@@ -25,7 +24,7 @@ use Rattle.slots.specs.Driver.{Holding, storedBy, judged, readIn}
 use Rattle.slots.specs.Quiet.{pageIn, Kept}
 use Rattle.slots.proofs.Parts.{cases}
 use Rattle.slots.proofs.Kept.{end-kept}
-use Rattle.slots.proofs.Stores.{Writer, Know, cold, opened, fresh, Lawful, opens, lists, frees, reads, loads, puts, programs, waited, erases, blanks, finish, pages-lawful}
+use Rattle.slots.proofs.Stores.{Writer, cold, Lawful, opens, lists, frees, reads, loads, puts, programs, waited, erases, blanks, finish, pages-lawful}
 
 -- ---- put
 

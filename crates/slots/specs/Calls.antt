@@ -2,15 +2,14 @@
 -- nothing, 2 cuts the supply and ends the call with 11 before anything of the reply is looked at; past its end it counts as 0.
 -- A run's state has a half that the wire may show (`Open`) and one that it may not (`Closed`).
 -- Assumes nothing.
-use Prim.Native.Nat.{ℕ, zero, suc, _+_, _*_, _/_, _%_}
-use mathlib.Core.Bool.{Bool, true, false, cond, _&&_}
+use Prim.Native.Nat.{ℕ, zero, suc, _+_, _/_, _%_}
+use mathlib.Core.Bool.{Bool, false, cond}
 use mathlib.Core.List.{List, [], _∷_, _++_}
 use lib.ListN.{length, getD, take, drop, replicate}
 use lib.Dec.{eqb}
 use Rattle.slices.specs.Lists.{over}
 use Rattle.geometry.specs.declared.Geometry.{Geometry}
 use Rattle.registers.specs.declared.Registers.{Registers}
-use Rattle.control.specs.declared.Decision.{Decision}
 use Rattle.control.specs.Control.{control}
 use Rattle.control.specs.Completion.{completed}
 use Rattle.state.specs.declared.Answer.{Answer}
@@ -22,7 +21,6 @@ use Rattle.state.specs.Completion.{completedMemory}
 use Rattle.slots.specs.declared.Course.{Course}
 use Rattle.slots.specs.declared.Kind.{Kind}
 use Rattle.slots.specs.declared.Kind.the-variants.{Put, Patch, Get, Wipe}
-use Rattle.slots.specs.declared.Stage.{Stage}
 use Rattle.slots.specs.declared.Stage.the-variants.{Going, Ended}
 use Rattle.slots.specs.declared.Told.{Told}
 use Rattle.slots.specs.declared.Told.the-variants.{Running, Answered}

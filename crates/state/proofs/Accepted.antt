@@ -17,7 +17,7 @@ use Rattle.state.specs.declared.Answer.{Answer}
 use Rattle.state.specs.declared.Answer.the-variants as Answers
 use Rattle.state.specs.declared.Chip.{Chip}
 use Rattle.state.specs.declared.Outcome.{Outcome}
-use Rattle.state.specs.Memory.{State, stateOf, chipIn}
+use Rattle.state.specs.Memory.{State, stateOf}
 use Rattle.state.specs.Frames.{replyOf}
 use Rattle.state.specs.Outcomes.{Left, left, Leaves, partIn, freshState, freshBy, freshOutcome, framed, sentState, sentBy, sendOutcome, endedState, endedBy, endOutcome, cutState, cutFits, cutBy, cutOutcome}
 

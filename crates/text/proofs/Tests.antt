@@ -1,7 +1,7 @@
 -- Laws of tests over the bytes of a list. A loop that tests byte i has still to test what lies behind it, so each law takes one byte
 -- off the list that is left.
 -- Assumes nothing.
-use mathlib.Core.Path.{_≡_, refl, sym, ap, _∙_}
+use mathlib.Core.Path.{_≡_, refl}
 use mathlib.Core.Bool.{Bool, true, false}
 use mathlib.Core.List.{List}
 use Prim.Native.Nat.{ℕ, suc, _+_, _≤_, _<_}

@@ -8,7 +8,7 @@ use mathlib.Core.Bool.{false}
 use mathlib.Core.List.{List, [], _∷_, _++_}
 use mir.Val.{Fits}
 use mir.Syntax.{w64}
-use lib.ListN.{length, set, take, drop, replicate, length-replicate}
+use lib.ListN.{length, set, take, drop, replicate}
 use Rattle.slices.specs.Lists.{tabulate, over, splice}
 use Rattle.slices.proofs.Laws.{tabulate-same, tabulate-append, length-over, over-two, spliced, run-length}
 use Rattle.geometry.specs.declared.Geometry.{Geometry}
@@ -16,7 +16,7 @@ use Rattle.slots.specs.declared.Driver.{Driver}
 use Rattle.slots.specs.declared.Kind.{Kind}
 use Rattle.slots.specs.declared.Command.{Command}
 use Rattle.slots.specs.declared.Step.{Step}
-use Rattle.slots.specs.declared.Step.the-variants.{Wait, Protection, Lockdown, Read, Load, Send, End}
+use Rattle.slots.specs.declared.Step.the-variants.{Wait, Protection, Lockdown, Read, Send, End}
 use Rattle.slots.specs.Driver.{Holding, addressed, opcodeOf, shapeOf, frameByte, loaded, frameOf}
 use Rattle.slots.proofs.Sent.{data-byte}
 use Rattle.steps.specs.Places.{pageBy}

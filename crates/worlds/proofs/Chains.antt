@@ -1,46 +1,38 @@
 -- WHAT PEOPLE CALL: the driver's functions called in turn do what the driver of the definitions does, so the outlines go by what is heard alone; and any
 -- state at all, made up or damaged, comes to an end within its bound and gives frames of its own plan only.
 -- Assumes nothing.
-use Prim.Native.Nat.{ℕ, zero, suc, _+_, _≤_, _<_}
+use Prim.Native.Nat.{ℕ, zero, suc, _+_, _≤_}
 use native.Mathlib.Omega.{arith}
 use mathlib.Core.Path.{_≡_, refl, sym, ap, subst, _∙_}
 use mathlib.Core.Bool.{Bool, true, false, cond, not, _&&_, _||_}
 use mathlib.Core.List.{List, [], _∷_, _++_}
-use mathlib.Core.Logic.{_⊎_, inl, inr}
-use lib.ListN.{length, getD}
-use lib.Dec.{eqb}
-use Rattle.slices.specs.Lists.{tabulate}
+use lib.ListN.{length}
 use Rattle.geometry.specs.declared.Geometry.{Geometry}
 use Rattle.geometry.specs.declared.Part.{Part}
 use Rattle.geometry.specs.declared.Part.the-variants.{Known, Unknown}
 use Rattle.geometry.specs.Parts.{partOf}
-use Rattle.state.specs.declared.Answer.{Answer}
-use Rattle.state.specs.Answers.{numberOf}
-use Rattle.slots.specs.declared.Course.{Course}
 use Rattle.slots.specs.declared.Driver.{Driver}
 use Rattle.slots.specs.declared.Kind.{Kind}
-use Rattle.slots.specs.declared.Kind.the-variants.{Put, Patch, Get, Wipe}
 use Rattle.slots.specs.declared.Stage.{Stage}
 use Rattle.slots.specs.declared.Step.{Step}
 use Rattle.slots.specs.declared.Step.the-variants.{Wait, Protection, Lockdown, Read, Load, Send, End}
-use Rattle.slots.specs.declared.Told.the-variants.{Answered}
 use Rattle.slots.specs.declared.Verdict.the-variants.{Good}
-use Rattle.slots.specs.Plans.{Asked, planOf, stated, stepAt, isEnd, isWait, framesMost, bound}
-use Rattle.slots.specs.Refusals.{isOver, isShort, earlyRefusal}
-use Rattle.slots.specs.Driver.{Holding, frameOf, takenBy, readIn, stepOf, isEnded, toldBy}
+use Rattle.slots.specs.Plans.{Asked, planOf, stated, isWait, framesMost}
+use Rattle.slots.specs.Refusals.{isOver, isShort}
+use Rattle.slots.specs.Driver.{Holding, frameOf, takenBy, readIn, isEnded, toldBy}
 use Rattle.slots.specs.Calls.{outline, firstCourse}
-use Rattle.slots.proofs.Places.{never, restAt, rest-step, every, every-plan}
+use Rattle.slots.proofs.Places.{never, restAt, rest-step}
 use Rattle.slots.proofs.Accepted.{picked}
 use Rattle.slots.proofs.Counts.{bounds}
-use Rattle.slots.proofs.Bound.{Ok, costOf, some-left}
+use Rattle.slots.proofs.Bound.{Ok, costOf}
 use Rattle.slots.proofs.Driven.{other}
-use Rattle.worlds.specs.Talks.{Talk, opened, hearing, talked, talk, HeardAlike, SameTalk}
-use Rattle.worlds.specs.Turns.{askedOf, holdingOf, with, stepIn, dataAfter, courseAfter, tookOn}
+use Rattle.worlds.specs.Talks.{Talk, opened, talked, talk, HeardAlike, SameTalk}
+use Rattle.worlds.specs.Turns.{askedOf, holdingOf, stepIn, dataAfter, courseAfter, tookOn}
 use Rattle.worlds.specs.Start.{startRefusal, startDriver}
-use Rattle.worlds.specs.Step.{stageBy, stageIn, frameBy, frameIn, pollBy, pollIn, staged-at, tookIn, stagedBy, stagedIn, toldIn}
-use Rattle.worlds.specs.Chains.{Chain, begun, linked, chain, heardIn, AgreeIn, SameChain}
-use Rattle.worlds.proofs.Talks.{any-world, stands, talk-ends, stays-ended}
-use Rattle.worlds.proofs.Sane.{Facts, Sane, stage-ended, going-facts, sane-stage, took-going, took-keeps, start-sane, ended-off}
+use Rattle.worlds.specs.Step.{stageBy, stageIn, frameBy, frameIn, pollBy, pollIn, stagedBy, stagedIn, toldIn}
+use Rattle.worlds.specs.Chains.{Chain, begun, linked, chain, AgreeIn, SameChain}
+use Rattle.worlds.proofs.Talks.{any-world, talk-ends}
+use Rattle.worlds.proofs.Sane.{Facts, Sane, going-facts, sane-stage, took-going, took-keeps, start-sane, ended-off}
 
 -- ---- one link is one exchange of the definitions' driver
 

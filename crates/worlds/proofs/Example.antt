@@ -16,7 +16,7 @@ use Rattle.slots.specs.declared.Told.the-variants.{Answered}
 use Rattle.slots.specs.Plans.{isAsking, pageSteps, runBy, pages, planBy, stepAt, isEnd}
 use Rattle.slots.specs.Refusals.{isOver, isShort, earlyRefusal, orElse}
 use Rattle.slots.specs.Calls.{firstCourse}
-use Rattle.slots.specs.Driver.{opcodeOf, shapeOf, frameByte, loaded, frameOf, registerIn, heard, courseBy, takenBy, isEnded, weighed, verdictAnswer, toldBy}
+use Rattle.slots.specs.Driver.{opcodeOf, shapeOf, frameByte, loaded, registerIn, heard, courseBy, takenBy, isEnded, weighed, verdictAnswer, toldBy}
 use Rattle.slots.specs.Lists.{asking}
 use Rattle.worlds.specs.Start.{startRefusal, startDriver}
 use Rattle.worlds.specs.Step.{strayRefusal, faultBy, stageBy, stageIn, frameBy, frameIn, tookBy, tookIn, toldIn}

@@ -1,8 +1,7 @@
 -- WHATEVER THE STATE, its frame is that of a step of its call's plan, or none: the frame is looked up in the plan.
 -- Assumes nothing.
-use Prim.Native.Nat.{ℕ, zero, suc, _+_, _≤_}
-use native.Mathlib.Omega.{arith}
-use mathlib.Core.Path.{_≡_, refl, sym, ap, subst, _∙_}
+use Prim.Native.Nat.{ℕ, zero, suc}
+use mathlib.Core.Path.{_≡_, refl, sym, ap, _∙_}
 use mathlib.Core.Bool.{Bool, true, false}
 use mathlib.Core.List.{List, [], _∷_}
 use mathlib.Core.Logic.{_⊎_, inl, inr}
@@ -16,7 +15,6 @@ use Rattle.slots.specs.declared.Driver.{Driver}
 use Rattle.slots.specs.declared.Kind.{Kind}
 use Rattle.slots.specs.declared.Kind.the-variants.{Put, Patch, Get, Wipe}
 use Rattle.slots.specs.declared.Step.{Step}
-use Rattle.slots.specs.declared.Step.the-variants.{Wait, Protection, Lockdown, Read, Load, Send, End}
 use Rattle.slots.specs.Plans.{isAsking, pageSteps, planBy, planOf, stepAt, isEnd}
 use Rattle.slots.specs.Driver.{Holding, opcodeOf, shapeOf, frameByte, loaded, frameOf, isEnded}
 use Rattle.slots.proofs.Places.{never, both, second, every, every-plan}
@@ -25,7 +23,8 @@ use Rattle.slots.proofs.Driven.{other}
 use Rattle.worlds.specs.Own.{asks, mayBegin}
 use Rattle.worlds.specs.Turns.{askedOf, holdingOf, stepIn}
 use Rattle.worlds.specs.Step.{stageBy, frameBy, frameIn}
-use Rattle.worlds.proofs.Sane.{Facts, going-facts}
+use Rattle.worlds.proofs.Sane.{going-facts}
+use Rattle.worlds.proofs.Shapes.{shape-some}
 
 -- the frame is that of the step at the place
 pub record Own (d : Driver) (payload staged : List ℕ) : Type 0 where
@@ -66,16 +65,6 @@ opcodes Put g slot = every-plan (λ x. mayBegin Put (shapeOf g x .opcode)) Put g
 opcodes Patch g slot = every-plan (λ x. mayBegin Patch (shapeOf g x .opcode)) Patch g slot refl (λ p. refl)
 opcodes Get g slot = every-plan (λ x. mayBegin Get (shapeOf g x .opcode)) Get g slot refl (λ p. refl)
 opcodes Wipe g slot = every-plan (λ x. mayBegin Wipe (shapeOf g x .opcode)) Wipe g slot refl (λ p. refl)
-
-pub shape-some : (g : Geometry) (x : Step) → isEnd x ≡ false → 1 ≤ shapeOf g x .length
-unfolding shapeOf isEnd
-shape-some g Wait e = omega arith
-shape-some g Protection e = omega arith
-shape-some g Lockdown e = omega arith
-shape-some g (Read p) e = omega arith
-shape-some g (Load p) e = omega arith
-shape-some g (Send c p) e = omega arith
-shape-some g End e = never (sym e)
 
 first-byte : (g : Geometry) (k : Kind) (h : Holding) (x : Step) → isEnd x ≡ false → getD (frameOf g k h x) 0 0 ≡ shapeOf g x .opcode
 unfolding frameByte

@@ -1,6 +1,6 @@
 -- A state that a call comes to counts as it stands, and stays so: its place has a step, and its polls left are 1 to B. Any other counts as ended.
 -- Assumes nothing.
-use Prim.Native.Nat.{ℕ, suc, _*_, _+_, _-_, _/_, _<_, _≤_}
+use Prim.Native.Nat.{ℕ, suc, _-_, _/_, _≤_}
 use native.Mathlib.Omega.{arith}
 use mathlib.Core.Path.{_≡_, refl, sym, ap, subst, _∙_}
 use mathlib.Core.Bool.{Bool, true, false, cond, not, _&&_, _||_}
@@ -18,14 +18,14 @@ use Rattle.slots.specs.declared.Course.{Course}
 use Rattle.slots.specs.declared.Driver.{Driver}
 use Rattle.slots.specs.declared.Stage.{Stage}
 use Rattle.slots.specs.declared.Stage.the-variants.{Going, Ended}
-use Rattle.slots.specs.Plans.{Asked, planOf, sectorFor, stepAt, isEnd, isWait}
+use Rattle.slots.specs.Plans.{Asked, planOf, sectorFor, stepAt, isEnd}
 use Rattle.slots.specs.Refusals.{isOver, isShort, earlyRefusal, orElse}
-use Rattle.slots.specs.Driver.{Heard, heard, ended, fewer, courseBy, after, isEnded}
+use Rattle.slots.specs.Driver.{Heard, heard, after, isEnded}
 use Rattle.slots.specs.Calls.{firstCourse}
-use Rattle.slots.proofs.Places.{never, onward, course-cases, onward-some}
+use Rattle.slots.proofs.Places.{never, course-cases, onward-some}
 use Rattle.slots.proofs.Accepted.{first-some, passes, neither-applies, picked, Early, early}
 use Rattle.slots.proofs.Driven.{other}
-use Rattle.worlds.specs.Turns.{askedOf, with, stepIn, dataAfter, courseAfter, tookOn}
+use Rattle.worlds.specs.Turns.{askedOf, with, stepIn, tookOn}
 use Rattle.worlds.specs.Start.{startRefusal, startDriver}
 use Rattle.worlds.specs.Step.{strayRefusal, faultBy, stageBy, stageIn, staged-at, tookBy, tookIn}
 

@@ -5,9 +5,8 @@ use Prim.Native.Nat.{ℕ, zero, suc, _+_, _≤_}
 use native.Mathlib.Omega.{arith}
 use mathlib.Core.Path.{_≡_, refl, sym, ap, subst, _∙_}
 use mathlib.Core.Bool.{Bool, true, false, cond}
-use mathlib.Core.List.{List, [], _∷_, _++_}
-use mathlib.Core.Logic.{_⊎_, inl, inr}
-use lib.ListN.{length}
+use mathlib.Core.List.{List, _++_}
+use mathlib.Core.Logic.{inl}
 use lib.Dec.{eqb}
 use Rattle.geometry.specs.declared.Geometry.{Geometry}
 use Rattle.state.specs.declared.Answer.{Answer}
@@ -16,21 +15,19 @@ use Rattle.state.specs.Answers.{numberOf}
 use Rattle.slots.specs.declared.Course.{Course}
 use Rattle.slots.specs.declared.Stage.{Stage}
 use Rattle.slots.specs.declared.Stage.the-variants.{Going, Ended}
-use Rattle.slots.specs.declared.Told.{Told}
-use Rattle.slots.specs.declared.Told.the-variants.{Running, Answered}
+use Rattle.slots.specs.declared.Told.the-variants.{Answered}
 use Rattle.slots.specs.declared.Verdict.{Verdict}
-use Rattle.slots.specs.Plans.{Asked, planOf, sectorFor, bound, stepAt, isWait}
+use Rattle.slots.specs.Plans.{Asked, planOf, sectorFor, bound, isWait}
 use Rattle.slots.specs.Driver.{Holding, shapeOf, loaded, frameOf, heard, after, takenBy, stepOf, isEnded, weighed, toldBy}
 use Rattle.slots.specs.Refusals.{earlyRefusal}
 use Rattle.slots.specs.Calls.{outline, firstCourse}
 use Rattle.worlds.specs.Talks.{Talk, opened, hearing, talked, talk, HeardAlike, SameTalk}
-use Rattle.slots.specs.Exchanges.{Exchange, Result, finished, stopped, answerFor, Follows}
 use Rattle.slots.proofs.Places.{never}
 use Rattle.slots.proofs.Accepted.{first-some, picked, early}
 use Rattle.slots.proofs.Bound.{Ok, start-ok, after-ok, some-left}
 use Rattle.slots.proofs.Blind.{outline-same}
 use Rattle.slots.proofs.TwoRuns.{Agree, weighed-agree}
-use Rattle.slots.proofs.Driven.{other, Machine, runOn, exchangesOn, Ends, Led, run-led}
+use Rattle.slots.proofs.Driven.{other, Machine, Led, run-led}
 
 -- ---- two worlds
 

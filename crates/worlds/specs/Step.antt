@@ -1,8 +1,8 @@
 -- The slot driver apart from any chip, for any state at all: given the last reply it yields the next frame or the end. A state that no call comes to,
 -- made up or damaged, counts as ended; every other goes by the plan of its call (crate slots).
 -- Assumes nothing.
-use Prim.Native.Nat.{ℕ, _/_}
-use mathlib.Core.Bool.{Bool, false, cond, not, _&&_, _||_}
+use Prim.Native.Nat.{ℕ}
+use mathlib.Core.Bool.{Bool, false, cond, not, _&&_}
 use mathlib.Core.List.{List, []}
 use lib.Dec.{eqb, leb}
 use Rattle.geometry.specs.declared.Geometry.{Geometry}

@@ -2,16 +2,13 @@
 -- Assumes nothing.
 use Prim.Native.Nat.{ℕ, zero, suc, _+_}
 use mathlib.Core.Path.{_≡_}
-use mathlib.Core.Bool.{Bool, true, false, cond}
-use mathlib.Core.List.{List, [], _∷_, _++_}
+use mathlib.Core.Bool.{Bool, false, cond}
+use mathlib.Core.List.{List, [], _++_}
 use mathlib.Core.Logic.{_⊎_}
-use lib.ListN.{replicate}
 use Rattle.geometry.specs.declared.Geometry.{Geometry}
 use Rattle.state.specs.declared.Answer.{Answer}
 use Rattle.slots.specs.declared.Course.{Course}
-use Rattle.slots.specs.declared.Told.{Told}
 use Rattle.slots.specs.declared.Told.the-variants.{Answered}
-use Rattle.slots.specs.declared.Verdict.the-variants.{Good}
 use Rattle.slots.specs.Plans.{Asked, sectorFor, isWait}
 use Rattle.slots.specs.Driver.{Heard, Holding, frameOf, heard, after, takenBy, stepOf, isEnded, toldBy}
 use Rattle.slots.specs.Refusals.{earlyRefusal}

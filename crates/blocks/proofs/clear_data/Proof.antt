@@ -9,7 +9,6 @@ use Rattle.slices.specs.Lists.{splice}
 use Rattle.slices.proofs.Laws.{kept-spliced, run-length}
 use Rattle.blocks.proofs.clear_data.Statement.{statement}
 use Rattle.blocks.proofs.clear_data.Tie as tie
-use Rattle.slices.proofs.fill.Reads as fill-reads
 
 sub-fill : tie.Need-sub-fill
 sub-fill c = search needs

@@ -4,7 +4,6 @@ use borrow.Author.Needs.{needs}
 use Rattle.blocks.specs.Block.{headBytes}
 use Rattle.blocks.proofs.head_bytes.Statement.{statement}
 use Rattle.blocks.proofs.head_bytes.Tie as tie
-use Rattle.blocks.proofs.flag_byte.Reads as flag-byte-reads
 
 flag-byte-requires : tie.Need-flag-byte-requires
 flag-byte-requires c κs = search needs

@@ -6,9 +6,6 @@ use Rattle.control.specs.Obeyed.{usageOf}
 use Rattle.blocks.specs.Block.{decodeRegisters}
 use Rattle.blocks.proofs.marks_at.Statement.{statement}
 use Rattle.blocks.proofs.marks_at.Tie as tie
-use Rattle.blocks.proofs.is_set.Reads as is-set-reads
-use Rattle.blocks.proofs.part16.Reads as part16-reads
-use Rattle.control.proofs.usage_of.Reads as usage-of-reads
 
 part16-requires : tie.Need-part16-requires
 part16-requires c κs = search needs

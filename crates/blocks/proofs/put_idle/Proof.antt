@@ -10,10 +10,6 @@ use Rattle.registers.specs.declared.Operation.the-variants.{Idle}
 use Rattle.blocks.specs.Block.{headOf, headBytes, flagged, dataBytes}
 use Rattle.blocks.proofs.put_idle.Statement.{statement}
 use Rattle.blocks.proofs.put_idle.Tie as tie
-use Rattle.blocks.proofs.headed.Reads as headed-reads
-use Rattle.blocks.proofs.head_bytes.Reads as head-bytes-reads
-use Rattle.blocks.proofs.put.Reads as put-reads
-use Rattle.blocks.proofs.clear_data.Reads as clear-data-reads
 
 headed-requires : tie.Need-headed-requires
 headed-requires c κs = search needs

@@ -10,10 +10,6 @@ use Rattle.registers.specs.declared.Operation.{Operation}
 use Rattle.blocks.specs.Block.{headOf, headBytes, flagged, dataBytes}
 use Rattle.blocks.proofs.put_operation.Statement.{statement}
 use Rattle.blocks.proofs.put_operation.Tie as tie
-use Rattle.blocks.proofs.head.Reads as head-reads
-use Rattle.blocks.proofs.head_bytes.Reads as head-bytes-reads
-use Rattle.blocks.proofs.put.Reads as put-reads
-use Rattle.blocks.proofs.put_data.Reads as put-data-reads
 
 enum-told : tie.Need-enum-told
 enum-told c = search needs

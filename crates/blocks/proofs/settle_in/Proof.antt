@@ -11,9 +11,6 @@ use Rattle.blocks.specs.Block.{flagByte, headOf, headBytes, flagged, dat
 use Rattle.blocks.proofs.Settled.{settledChip, settled}
 use Rattle.blocks.proofs.settle_in.Statement.{statement}
 use Rattle.blocks.proofs.settle_in.Tie as tie
-use Rattle.blocks.proofs.flag_byte.Reads as flag-byte-reads
-use Rattle.blocks.proofs.is_set.Reads as is-set-reads
-use Rattle.blocks.proofs.put_operation.Reads as put-operation-reads
 
 slice-read-is-set : tie.Need-slice-read-is-set
 slice-read-is-set c = search needs

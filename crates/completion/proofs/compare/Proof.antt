@@ -10,8 +10,6 @@ use Rattle.slices.proofs.Laws.{run-part, run-length}
 use Rattle.memory.specs.Pages.{differing}
 use Rattle.completion.proofs.compare.Statement.{statement}
 use Rattle.completion.proofs.compare.Tie as tie
-use Rattle.memory.proofs.page_differs.Reads as page-differs-reads
-use Rattle.state.proofs.buffer_start.Reads as buffer-start-reads
 
 buffer-start-requires : tie.Need-buffer-start-requires
 buffer-start-requires c κs = search needs

@@ -10,8 +10,6 @@ use Rattle.slices.proofs.Laws.{run-part, run-length}
 use Rattle.memory.specs.Pages.{programmed}
 use Rattle.completion.proofs.program.Statement.{statement}
 use Rattle.completion.proofs.program.Tie as tie
-use Rattle.memory.proofs.program.Reads as program-reads
-use Rattle.state.proofs.buffer_start.Reads as buffer-start-reads
 
 buffer-start-requires : tie.Need-buffer-start-requires
 buffer-start-requires c κs = search needs

@@ -10,8 +10,6 @@ use Rattle.slices.proofs.Laws.{run-part, run-length}
 use Rattle.memory.specs.Pages.{programmedOver}
 use Rattle.completion.proofs.program_over.Statement.{statement}
 use Rattle.completion.proofs.program_over.Tie as tie
-use Rattle.memory.proofs.program_over.Reads as program-over-reads
-use Rattle.state.proofs.buffer_start.Reads as buffer-start-reads
 
 buffer-start-requires : tie.Need-buffer-start-requires
 buffer-start-requires c κs = search needs

@@ -11,8 +11,6 @@ use Rattle.slices.proofs.Laws.{run-part, run-length, kept-spliced}
 use Rattle.memory.specs.Pages.{transferred}
 use Rattle.completion.proofs.transfer.Statement.{statement}
 use Rattle.completion.proofs.transfer.Tie as tie
-use Rattle.memory.proofs.transfer.Reads as transfer-reads
-use Rattle.state.proofs.buffer_start.Reads as buffer-start-reads
 
 buffer-start-requires : tie.Need-buffer-start-requires
 buffer-start-requires c κs = search needs

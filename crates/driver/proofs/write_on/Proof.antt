@@ -3,7 +3,8 @@
 use mathlib.Core.Path.{sym, _∙_}
 use Rattle.turns.proofs.Turns.{part-pages, sound-slot}
 use Rattle.driver.proofs.Frames.{nothing, ended-frame, written}
-use Rattle.driver.proofs.States.{known-field, going-sound}
+use Rattle.geometry.proofs.Pages.{sized}
+use Rattle.driver.proofs.States.{going-sound}
 use borrow.Author.Needs.{needs}
 use Rattle.driver.proofs.write_on.Statement.{statement}
 use Rattle.driver.proofs.write_on.Tie as tie
@@ -22,7 +23,7 @@ step-at-requires c κs = let s = c .before .before .before .before .before .befo
 write-step-requires : tie.Need-write-step-requires
 write-step-requires c κs =
     let s = c .before .before .before .before .before .before .before .before in
-    (part-pages _ _ (s .pre .0), known-field _ _ (s .pre .0), c .before .step-at .ensures .1, s .pre .1, s .pre .2)
+    (part-pages _ _ (s .pre .0), sized _ _ (s .pre .0) .narrow, c .before .step-at .ensures .1, s .pre .1, s .pre .2)
 
 same-length : tie.Need-same-length
 same-length c = search needs

@@ -6,7 +6,6 @@ use Rattle.driver_blocks.specs.Block.{stageOf, decodeCourse}
 use borrow.Author.Needs.{needs}
 use Rattle.driver_blocks.proofs.decode_course.Statement.{statement}
 use Rattle.driver_blocks.proofs.decode_course.Tie as tie
-use Rattle.numbers.proofs.wide.Reads as wide-reads
 
 element-copy-out-wide : tie.Need-element-copy-out-wide
 element-copy-out-wide c = search needs

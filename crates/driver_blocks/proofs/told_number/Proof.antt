@@ -3,7 +3,6 @@ use Rattle.driver_blocks.specs.Block.{toldNumber}
 use borrow.Author.Needs.{needs}
 use Rattle.driver_blocks.proofs.told_number.Statement.{statement}
 use Rattle.driver_blocks.proofs.told_number.Tie as tie
-use Rattle.state.proofs.number.Reads as number-reads
 
 enum-told : tie.Need-enum-told
 enum-told c = search needs

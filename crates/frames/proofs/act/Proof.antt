@@ -18,9 +18,6 @@ use Rattle.state.proofs.Arms.{names-write}
 use Rattle.state.proofs.Lent.{lent-same}
 use Rattle.frames.proofs.act.Statement.{statement}
 use Rattle.frames.proofs.act.Tie as tie
-use Rattle.frames.proofs.load_protection.Reads as load-protection-reads
-use Rattle.frames.proofs.load_security.Reads as load-security-reads
-use Rattle.frames.proofs.write_buffer.Reads as write-buffer-reads
 
 -- the beginning of buffer 1 is the beginning of both
 lent-begun : (d bs : List ℕ) → length d ≤ 264 → length bs ≡ 528 → over d bs ≡ splice 0 (over d (take 264 bs)) bs

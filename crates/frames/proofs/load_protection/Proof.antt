@@ -8,8 +8,6 @@ use lib.Seq.{length-take-le}
 use Rattle.state.proofs.Arms.{begun}
 use Rattle.frames.proofs.load_protection.Statement.{statement}
 use Rattle.frames.proofs.load_protection.Tie as tie
-use Rattle.registers.proofs.unpacked16.Reads as unpacked16-reads
-use Rattle.slices.proofs.copy.Reads as copy-reads
 
 unpacked16-requires : tie.Need-unpacked16-requires
 unpacked16-requires c κs = search needs

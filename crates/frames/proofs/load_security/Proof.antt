@@ -8,8 +8,6 @@ use lib.Seq.{length-take-le}
 use Rattle.state.proofs.Arms.{begun}
 use Rattle.frames.proofs.load_security.Statement.{statement}
 use Rattle.frames.proofs.load_security.Tie as tie
-use Rattle.registers.proofs.unpacked64.Reads as unpacked64-reads
-use Rattle.slices.proofs.copy.Reads as copy-reads
 
 unpacked64-requires : tie.Need-unpacked64-requires
 unpacked64-requires c κs = search needs

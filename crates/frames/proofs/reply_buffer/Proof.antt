@@ -10,8 +10,6 @@ use Rattle.slices.proofs.Laws.{run-part, run-length}
 use Rattle.memory.specs.Replies.{replied, ringData}
 use Rattle.frames.proofs.reply_buffer.Statement.{statement}
 use Rattle.frames.proofs.reply_buffer.Tie as tie
-use Rattle.memory.proofs.reply_ring.Reads as reply-ring-reads
-use Rattle.state.proofs.buffer_start.Reads as buffer-start-reads
 
 buffer-start-requires : tie.Need-buffer-start-requires
 buffer-start-requires c κs = search needs

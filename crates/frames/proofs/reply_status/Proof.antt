@@ -9,10 +9,6 @@ use Rattle.memory.specs.Replies.{replied}
 use Rattle.state.specs.Frames.{isFree, isIdle, statusOf}
 use Rattle.frames.proofs.reply_status.Statement.{statement}
 use Rattle.frames.proofs.reply_status.Tie as tie
-use Rattle.frames.proofs.is_free.Reads as is-free-reads
-use Rattle.frames.proofs.status.Reads as status-reads
-use Rattle.memory.proofs.reply_repeated.Reads as reply-repeated-reads
-use Rattle.registers.proofs.is_guarded.Reads as is-guarded-reads
 
 is-free-requires : tie.Need-is-free-requires
 is-free-requires c κs = search needs

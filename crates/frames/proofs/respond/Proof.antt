@@ -16,14 +16,6 @@ use Rattle.state.specs.Memory.{either}
 use Rattle.state.proofs.Arms.{names-page, names-array, names-read}
 use Rattle.frames.proofs.respond.Statement.{statement}
 use Rattle.frames.proofs.respond.Tie as tie
-use Rattle.frames.proofs.reply_buffer.Reads as reply-buffer-reads
-use Rattle.frames.proofs.reply_identity.Reads as reply-identity-reads
-use Rattle.frames.proofs.reply_register.Reads as reply-register-reads
-use Rattle.frames.proofs.reply_status.Reads as reply-status-reads
-use Rattle.memory.proofs.reply_nothing.Reads as reply-nothing-reads
-use Rattle.memory.proofs.reply_once.Reads as reply-once-reads
-use Rattle.memory.proofs.reply_page.Reads as reply-page-reads
-use Rattle.memory.proofs.reply_ring.Reads as reply-ring-reads
 
 -- the buffer that is meant
 either-lent : (b : Buffer) (size start lead n : ℕ) (bs : List ℕ)

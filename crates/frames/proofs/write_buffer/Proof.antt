@@ -10,8 +10,6 @@ use Rattle.slices.specs.Lists.{splice, ringWrite}
 use Rattle.slices.proofs.Laws.{run-part, run-length, kept-spliced}
 use Rattle.frames.proofs.write_buffer.Statement.{statement}
 use Rattle.frames.proofs.write_buffer.Tie as tie
-use Rattle.slices.proofs.ring_write.Reads as ring-write-reads
-use Rattle.state.proofs.buffer_start.Reads as buffer-start-reads
 
 buffer-start-requires : tie.Need-buffer-start-requires
 buffer-start-requires c κs = search needs

@@ -1,6 +1,6 @@
 -- `geometry::remainder` meets its contract: the divisor in the code is d, and a remainder is below its divisor.
 -- Assumes nothing.
-use mathlib.Core.Path.{_≡_, refl, sym, subst}
+use mathlib.Core.Path.{_≡_, refl, subst}
 use Prim.Native.Nat.{ℕ, _%_, _<_}
 use native.Mathlib.Nat.{mod-lt}
 use borrow.Author.Needs.{needs}

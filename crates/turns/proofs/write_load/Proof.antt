@@ -11,7 +11,7 @@ use Rattle.slots.specs.declared.Step.the-variants.{Load}
 use Rattle.slots.specs.Driver.{loaded}
 use Rattle.slots.proofs.Sent.{load-form}
 use Rattle.worlds.specs.Turns.{holdingOf}
-use Rattle.turns.proofs.Frames.{behind, rest-length}
+use Rattle.turns.proofs.Frames.{behind}
 use borrow.Author.Needs.{needs}
 use Rattle.turns.proofs.write_load.Statement.{statement}
 use Rattle.turns.proofs.write_load.Tie as tie

@@ -1,4 +1,6 @@
 -- `calls::turning::is_going` meets its contract. Assumes nothing.
+use mathlib.Core.Bool.{not}
+use mathlib.Core.Path.{ap}
 use borrow.Author.Needs.{needs}
 use Rattle.calls.proofs.turning.is_going.Statement.{statement}
 use Rattle.calls.proofs.turning.is_going.Tie as tie
@@ -12,7 +14,7 @@ has-ended-requires c κs = search needs
 
 -- src/turning.rt:87:1
 returns : tie.Need-returns
-returns c = search needs
+returns c = ap not ((c .has-ended) .ensures)
 
 pub is-going-spec : {M : Type 1} → statement M
 is-going-spec = tie.close (tie.spec has-ended-requires returns)

@@ -1,7 +1,5 @@
 -- `outline::junk::junk_byte` meets its contract: what each remainder leaves out is a multiple of 256. Assumes nothing.
 use Rattle.outline.proofs.Remainders.{junk-low}
-use Rattle.outline.specs.Junk.{junkByte}
-use native.Mathlib.Omega.{arith}
 use borrow.Author.Needs.{needs}
 use Rattle.outline.proofs.junk.junk_byte.Statement.{statement}
 use Rattle.outline.proofs.junk.junk_byte.Tie as tie

@@ -1,6 +1,6 @@
 -- `outline::lines::write_fault` meets its contract: each piece stands behind the one before it. Assumes nothing.
 use native.Mathlib.Omega.{arith}
-use Rattle.outline.specs.Texts.{Stands, faultText}
+use Rattle.outline.specs.Texts.{faultText}
 use Rattle.outline.proofs.Texts.{stands-more, stands-counts}
 use borrow.Author.Needs.{needs}
 use Rattle.outline.proofs.lines.write_fault.Statement.{statement}

@@ -1,6 +1,6 @@
 -- `outline::lines::write_frame` meets its contract: each piece stands behind the one before it. Assumes nothing.
 use native.Mathlib.Omega.{arith}
-use Rattle.outline.specs.Texts.{Stands, frameText}
+use Rattle.outline.specs.Texts.{frameText}
 use Rattle.outline.proofs.Texts.{stands-more, stands-as, stands-counts, laid-over}
 use borrow.Author.Needs.{needs}
 use Rattle.outline.proofs.lines.write_frame.Statement.{statement}

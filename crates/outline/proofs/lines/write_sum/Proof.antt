@@ -1,6 +1,6 @@
 -- `outline::lines::write_sum` meets its contract: each piece stands behind the one before it. Assumes nothing.
 use native.Mathlib.Omega.{arith}
-use Rattle.outline.specs.Texts.{Stands, sumText}
+use Rattle.outline.specs.Texts.{sumText}
 use Rattle.outline.proofs.Texts.{stands-more, stands-counts}
 use borrow.Author.Needs.{needs}
 use Rattle.outline.proofs.lines.write_sum.Statement.{statement}

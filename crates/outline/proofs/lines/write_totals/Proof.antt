@@ -1,6 +1,6 @@
 -- `outline::lines::write_totals` meets its contract: each piece stands behind the one before it. Assumes nothing.
 use native.Mathlib.Omega.{arith}
-use Rattle.outline.specs.Texts.{Stands, totalsText}
+use Rattle.outline.specs.Texts.{totalsText}
 use Rattle.outline.proofs.Texts.{stands-more, stands-counts}
 use borrow.Author.Needs.{needs}
 use Rattle.outline.proofs.lines.write_totals.Statement.{statement}

@@ -1,5 +1,4 @@
 -- `outline::steps::bytes_of` meets its contract: the count lies within the buffer, as `unhex` promises. Assumes nothing.
-use native.Mathlib.Omega.{arith}
 use borrow.Author.Needs.{needs}
 use Rattle.outline.proofs.steps.bytes_of.Statement.{statement}
 use Rattle.outline.proofs.steps.bytes_of.Tie as tie
