@@ -1,3 +1,4 @@
+pub mod Held
 pub mod After
 pub mod Steps
 pub mod Turns

@@ -6,12 +6,13 @@ use mathlib.Core.Bool.{true, cond}
 use mathlib.Core.List.{List, _++_}
 use Prim.Native.Nat.{ℕ, _+_, _*_, _≤_}
 use native.Mathlib.Omega.{arith}
-use lib.ListN.{length, take}
+use lib.ListN.{length, take, length-take}
 use lib.Seq.{take-add, take-at}
 use lib.Dec.{eqb}
-use Rattle.slices.specs.Lists.{splice}
-use Rattle.slices.proofs.Laws.{length-splice, splice-part, take-splice, drop-splice}
+use Rattle.slices.specs.Lists.{over, splice}
+use Rattle.slices.proofs.Laws.{length-over, over-front, length-splice, splice-part, take-splice, drop-splice}
 use Rattle.geometry.specs.declared.Geometry.{Geometry}
+use Rattle.geometry.proofs.Pages.{sized}
 use Rattle.state.specs.declared.Answer.the-variants as Answers
 use Rattle.state.specs.Memory.{State}
 use Rattle.state.specs.Frames.{replyOf}
@@ -22,12 +23,12 @@ use Rattle.slots.specs.declared.Course.{Course}
 use Rattle.slots.specs.declared.Driver.{Driver}
 use Rattle.slots.specs.declared.Step.{Step}
 use Rattle.slots.specs.declared.Step.the-variants.{Wait, Protection, Lockdown, Read, Load, Send, End}
-use Rattle.slots.specs.Plans.{isWait}
+use Rattle.slots.specs.Plans.{isWait, isEnd}
 use Rattle.slots.specs.Driver.{shapeOf, frameOf, ended}
 use Rattle.slots.specs.Calls.{outline, scripted, stateAfter, openAfter, closedAfter, stepOpen, stepClosed}
 use Rattle.worlds.specs.Turns.{holdingOf, with, stepIn, dataAfter, courseAfter, tookOn}
 use Rattle.worlds.proofs.Chains.{data-held}
-use Rattle.worlds.proofs.Shapes.{shape-some, shape-fits}
+use Rattle.worlds.proofs.Shapes.{frame-length, shape-some, shape-fits}
 use Rattle.runs.specs.declared.Session.{Session}
 use Rattle.runs.specs.Exchange.{Exchanged}
 use Rattle.runs.specs.Runs.{openOf, closedOf, requestOf, Going, Turned}
@@ -36,22 +37,40 @@ use Rattle.runs.proofs.Steps.{step-open, step-closed}
 
 -- ---- lengths
 
--- a frame that was written is taken by the chip, with a reply as long
-pub frame-taken : (g : Geometry) (t : State) (s : Session) (log : List ℕ) (n : ℕ) → Going g t s log → g .size ≤ 264
-    → n ≡ shapeOf g (stepIn g (s .driver)) .length → (n ≤ 272) × (framed n n ≡ true)
-frame-taken g t s log n h l e =
-    let some = shape-some g (stepIn g (s .driver)) (h .sound .step) in
-    let few = shape-fits g (stepIn g (s .driver)) l in
-    (omega arith, in-framed n n (omega arith) (omega arith) refl)
+-- what writing a step's frame leaves: the frame at the beginning of its buffer, which the chip takes, with a reply as long
+module _ (g : Geometry) (t : State) (s : Session) (log : List ℕ) (h : Going g t s log) (payload staged xs : List ℕ) (long : length xs ≡ 272)
+    {x : Step} {n : ℕ} {ys : List ℕ} (ex : x ≡ stepIn g (s .driver))
+    (w : (n ≡ shapeOf g x .length) × (ys ≡ over (frameOf g (s .driver .kind) (holdingOf (s .driver) payload staged) x) xs)) where
+  few : n ≤ 272
+  few = omega (arith, w .0, shape-fits g x (sized (s .driver .array) g (h .sound .part) .most))
+
+  pub written-taken : (n ≤ length ys) × (n ≤ 272) × (framed n n ≡ true)
+  written-taken =
+      let some = shape-some g x (ap isEnd ex ∙ h .sound .step) in
+      let kept = length-over (frameOf g (s .driver .kind) (holdingOf (s .driver) payload staged) x) xs in
+      (omega (arith, few, long, kept, ap length (w .1)), few, in-framed n n (omega (arith, some, w .0)) (omega (arith, few)) refl)
+
+  pub written-frame : take n ys ≡ frameOf g (s .driver .kind) (holdingOf (s .driver) payload staged) (stepIn g (s .driver))
+  written-frame =
+      let f = frame-length g (s .driver .kind) (holdingOf (s .driver) payload staged) x in
+      over-front (frameOf g (s .driver .kind) (holdingOf (s .driver) payload staged) x) xs (w .0 ∙ sym f) (omega (arith, few, long, f, w .0)) (w .1)
+      ∙ ap (λ (y : Step). frameOf g (s .driver .kind) (holdingOf (s .driver) payload staged) y) ex
 
 -- the reply as it lies in its buffer
 module _ {g : Geometry} {b at : ℕ} {f : List ℕ} {s : State} {l₀ : List ℕ} {t : State} {rp l : List ℕ} (x : Exchanged g b at f s l₀ t rp l) where
   pub reply-long : length rp ≡ length f
   reply-long = ap length (x .reply) ∙ reply-length g (s .registers) f (s .memory)
 
+  pub array-long : length (t .memory .array) ≡ length (s .memory .array)
+  array-long = ap (λ (u : State). length (u .memory .array)) (x .state) ∙ after-long g f s b
+
   -- the first n bytes of the buffer
   pub reply-first : (n : ℕ) (z : List ℕ) → n ≡ length f → Exchanged g b at f s l₀ t (take n (rp ++ z)) l
   reply-first n z e = record { state = x .state; reply = take-at rp z n (reply-long ∙ sym e) ∙ x .reply; log = x .log }
+
+pub reply-reaches : (n : ℕ) (f rp : List ℕ) {g : Geometry} {b at : ℕ} {s : State} {l₀ : List ℕ} {t : State} {l : List ℕ}
+    → Exchanged g b at (take n f) s l₀ t (take n rp) l → n ≤ length f → n ≤ length rp
+reply-reaches n f rp x h = omega (arith, reply-long x, length-take n f, length-take n rp)
 
 -- ---- the log: six bytes more
 

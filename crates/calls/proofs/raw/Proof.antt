@@ -1,4 +1,9 @@
 -- `calls::raw` meets its contract. Assumes nothing.
+use Rattle.runs.proofs.Raws.{raw-unknown, raw-refused}
+use Rattle.runs.proofs.Held.{part-held}
+use Rattle.state.specs.Answers.{numberOf}
+use Rattle.registers.proofs.Places.{placed-sized}
+use mathlib.Core.Path.{sym, ap, _∙_}
 use borrow.Author.Needs.{needs}
 use Rattle.calls.proofs.raw.Statement.{statement}
 use Rattle.calls.proofs.raw.Tie as tie
@@ -25,7 +30,7 @@ enum-known-p c = search needs
 
 -- src/lib.rt:158:17
 raw-refusal-requires : tie.Need-raw-refusal-requires
-raw-refusal-requires c κs = search needs
+raw-refusal-requires c κs = placed-sized _ _ _ (sym ((c .before .before .before .place) .ensures) ∙ (c .before .p) .given .1)
 
 -- src/lib.rt:167:16
 number-requires : tie.Need-number-requires
@@ -37,11 +42,19 @@ refuse-requires c κs = search needs
 
 -- src/lib.rt:168:17
 returns : tie.Need-returns
-returns c = search needs
+returns c = 
+    let a = (c .before .before .before .before .before .before .before .before .before .before .before .before .before .before .before .before .before .args) in
+    raw-refused (a .frame .now) (a .script .now) (a .junk .now) (a .log .now) (a .reply .now) (a .block .now) (a .array .now) _
+    (part-held (a .block .now) (a .array .now) ((c .before .before .before .before .before .before .before .before .operation) .ensures .0) ((c .before .before .before .before .before .before .before .place) .ensures) ((c .before .before .before .before .before .p) .given .1)) _ _ ((c .before .before .before .raw-refusal) .ensures)
+    (λ q. (c .before .if1) .taken ((c .before .before .number) .ensures ∙ q)) ((c .refuse) .ensures)
 
 -- src/lib.rt:170:13
 raw-sent-requires : tie.Need-raw-sent-requires
-raw-sent-requires c κs = search needs
+raw-sent-requires c κs = 
+    let a = (c .before .before .before .before .before .before .before .before .before .before .before .before .before .before .before .before .before .before .before .before .args) in (
+      part-held (a .block .now) (a .array .now) ((c .before .before .before .before .before .before .before .before .before .before .before .operation) .ensures .0) ((c .before .before .before .before .before .before .before .before .before .before .place) .ensures) ((c .before .before .before .before .before .before .before .before .p) .given .1),
+      ap numberOf (sym ((c .before .before .before .before .before .before .raw-refusal) .ensures)) ∙ sym ((c .before .before .before .before .before .number) .ensures) ∙ (c .before .before .before .before .if1) .left,
+    )
 
 -- src/lib.rt:172:33
 enum-told : tie.Need-enum-told
@@ -69,7 +82,10 @@ returns-2 c = search needs
 
 -- src/lib.rt:143:1
 returns-3 : tie.Need-returns-3
-returns-3 c = search needs
+returns-3 c = 
+    let a = (c .before .before .before .before .before .before .before .before .before .before .before .before .before .args) in
+    raw-unknown (a .frame .now) (a .script .now) (a .junk .now) (a .log .now) (a .reply .now) (a .block .now) (a .array .now)
+    (part-held (a .block .now) (a .array .now) ((c .before .before .before .before .operation) .ensures .0) ((c .before .before .before .place) .ensures) ((c .before .enum-told) .given .1)) _ ((c .refuse2) .ensures)
 
 pub raw-spec : {M : Type 1} → statement M
 raw-spec =

@@ -1,4 +1,6 @@
 -- `calls::finish::answer` meets its contract. Assumes nothing.
+use Rattle.slots.specs.Calls.{answerIn}
+use mathlib.Core.Path.{ap, _∙_}
 use borrow.Author.Needs.{needs}
 use Rattle.calls.proofs.finish.answer.Statement.{statement}
 use Rattle.calls.proofs.finish.answer.Tie as tie
@@ -17,7 +19,7 @@ answer-in-requires c κs = search needs
 
 -- src/finish.rt:30:1
 returns : tie.Need-returns
-returns c = search needs
+returns c = (c .answer-in) .ensures ∙ ap answerIn ((c .before .tell) .ensures)
 
 pub answer-spec : {M : Type 1} → statement M
 answer-spec = tie.close (tie.spec tell-requires answer-in-requires returns)

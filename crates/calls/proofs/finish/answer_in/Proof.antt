@@ -1,4 +1,6 @@
 -- `calls::finish::answer_in` meets its contract. Assumes nothing.
+use Rattle.slots.specs.Calls.{answerIn}
+use mathlib.Core.Path.{sym, ap, _∙_}
 use borrow.Author.Needs.{needs}
 use Rattle.calls.proofs.finish.answer_in.Statement.{statement}
 use Rattle.calls.proofs.finish.answer_in.Tie as tie
@@ -15,11 +17,13 @@ enum-known-t c = search needs
 
 -- src/finish.rt:20:1
 returns : tie.Need-returns
-returns c = search needs
+unfolding answerIn
+returns c = ap answerIn (sym ((c .enum-told) .given .1))
 
 -- src/finish.rt:20:1
 returns-2 : tie.Need-returns-2
-returns-2 c = search needs
+unfolding answerIn
+returns-2 c = ap answerIn (sym ((c .before .t) .given .1))
 
 pub answer-in-spec : {M : Type 1} → statement M
 answer-in-spec = tie.close (tie.spec enum-told enum-known-t returns returns-2)

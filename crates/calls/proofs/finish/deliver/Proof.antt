@@ -1,4 +1,9 @@
 -- `calls::finish::deliver` meets its contract. Assumes nothing.
+use Rattle.slices.proofs.Laws.{tail-part}
+use Rattle.slices.specs.Lists.{over}
+use lib.ListN.{take}
+use mathlib.Core.Path.{_∙_}
+use Prim.Native.Nat.{ℕ}
 use borrow.Author.Needs.{needs}
 use Rattle.calls.proofs.finish.deliver.Statement.{statement}
 use Rattle.calls.proofs.finish.deliver.Tie as tie
@@ -33,7 +38,10 @@ same-length c = search needs
 
 -- src/finish.rt:50:1
 returns : tie.Need-returns
-returns c = search needs
+returns c = 
+    let a = (c .before .before .before .before .before .before .before .before .before .args) in
+    let n = (c .before .before .before .before .before .before .count-of) .ensures .0 in
+    (n, (c .before .before .lay-over) .ensures ∙ (λ i. over (take (n i) (tail-part 3 (a .staged .now) i)) (a .buffer .now)))
 
 pub deliver-spec : {M : Type 1} → statement M
 deliver-spec =

@@ -1,4 +1,9 @@
 -- `calls::finish::lay_over` meets its contract. Assumes nothing.
+use Rattle.calls.proofs.Delivery.{laid}
+use lib.ListN.{length, length-take}
+use native.Mathlib.Omega.{arith}
+use Prim.Native.Nat.{ℕ, min}
+use mathlib.Core.Path.{_∙_, ap}
 use borrow.Author.Needs.{needs}
 use Rattle.calls.proofs.finish.lay_over.Statement.{statement}
 use Rattle.calls.proofs.finish.lay_over.Tie as tie
@@ -21,15 +26,15 @@ slice-relend-prefix-copy c = search needs
 
 -- src/finish.rt:46:18
 slice-aggregate-copy : tie.Need-slice-aggregate-copy
-slice-aggregate-copy c = search needs
+slice-aggregate-copy c = simp length-take (omega arith)
 
 -- src/finish.rt:46:36
 slice-aggregate-copy-2 : tie.Need-slice-aggregate-copy-2
-slice-aggregate-copy-2 c = search needs
+slice-aggregate-copy-2 c = simp length-take (omega arith)
 
 -- src/finish.rt:46:5
 copy-requires : tie.Need-copy-requires
-copy-requires c κs = search needs
+copy-requires c κs = simp length-take (omega arith)
 
 -- src/finish.rt:41:1
 same-length : tie.Need-same-length
@@ -37,7 +42,10 @@ same-length c = search needs
 
 -- src/finish.rt:41:1
 returns : tie.Need-returns
-returns c = search needs
+returns c = 
+    let a = (c .before .before .before .before .before .before .before .before .before .args) in
+    laid (a .n) ((c .before .before .before .before .before .lesser2) .result) (a .bytes .now) (a .buffer .now) _
+    ((c .before .before .before .before .before .lesser2) .ensures ∙ ap (λ (m : ℕ). min m (length (a .buffer .now))) ((c .before .before .before .before .before .before .lesser) .ensures)) ((c .before .before .copy) .ensures)
 
 pub lay-over-spec : {M : Type 1} → statement M
 lay-over-spec =

@@ -1,4 +1,13 @@
 -- `calls::finish::lose` meets its contract. Assumes nothing.
+use mathlib.Core.Bool.{Bool, true, false, cond}
+use mathlib.Core.Path.{_≡_, sym, ap, _∙_}
+use Rattle.state.specs.Memory.{State}
+use Rattle.runs.specs.Runs.{lastOf}
+use Rattle.blocks.specs.Promises.{heldIn}
+use Rattle.state.specs.Outcomes.{cutState}
+use borrow.Author.Tests.{not-true, not-false}
+use mathlib.Core.Bool.{Bool, cond}
+use mathlib.Core.Path.{sym, ap, _∙_}
 use borrow.Author.Needs.{needs}
 use Rattle.calls.proofs.finish.lose.Statement.{statement}
 use Rattle.calls.proofs.finish.lose.Tie as tie
@@ -8,11 +17,16 @@ use Rattle.exchanges.proofs.cut.Reads as cut-reads
 
 -- src/finish.rt:65:9
 returns : tie.Need-returns
-returns c = search needs
+unfolding lastOf
+returns c = 
+    let a = (c .before .before .before .before .args) in
+    let s : State = heldIn (a .block .now) (a .array .now) in
+    let e : a .s .cut ≡ false = not-true (a .s .cut) ((c .if1) .taken) in
+    (ap (λ (b : Bool). cond b (cutState (a .g) (a .junk .now) s) s) (sym e), (c .before .before .before .before .pre) .1)
 
 -- src/finish.rt:67:5
 cut-requires : tie.Need-cut-requires
-cut-requires c κs = search needs
+cut-requires c κs = ((c .before .before .before .before .before .before .pre) .0, (c .before .before .before .before .before .before .pre) .2 (not-false ((c .before .before .before .before .before .before .args) .s .cut) ((c .before .before .if1) .left)))
 
 -- src/finish.rt:60:1
 same-length : tie.Need-same-length
@@ -20,7 +34,12 @@ same-length c = search needs
 
 -- src/finish.rt:60:1
 returns-2 : tie.Need-returns-2
-returns-2 c = search needs
+unfolding lastOf
+returns-2 c = 
+    let a = (c .before .before .before .before .before .before .before .before .before .args) in
+    let s : State = heldIn (a .block .now) (a .array .now) in
+    let e : a .s .cut ≡ true = not-false (a .s .cut) ((c .before .before .before .before .before .if1) .left) in
+    ((c .before .before .cut) .ensures .0 ∙ ap (λ (b : Bool). cond b (cutState (a .g) (a .junk .now) s) s) (sym e), (c .before .before .cut) .ensures .1)
 
 pub lose-spec : {M : Type 1} → statement M
 lose-spec = tie.close (tie.spec returns cut-requires same-length returns-2)
