@@ -70,11 +70,12 @@ all-seen (o ∷ os) (u ∷ us) held xs kept ys [] ws c d e = absurd c
 all-seen (o ∷ os) (u ∷ us) held xs kept ys (z ∷ zs) [] c d e = absurd d
 all-seen (o ∷ os) (u ∷ us) held xs kept ys (z ∷ zs) (w ∷ ws) c d e =
     let a = shows o held xs z (c .0) in
-    let b = shows u kept ys w (d .0) in
-    (same-seen a b (e .0),
-    all-seen os us (z .block) (z .array) (w .block) (w .array) zs ws (c .1) (d .1)
-    (subst (λ (s : State). AllSame (runList os s) (runList us (heldIn (w .block) (w .array)))) (sym (a .holds))
-    (subst (λ (t : State). AllSame (runList os (nextOf o (heldIn held xs))) (runList us t)) (sym (b .holds)) (e .1))))
+    let b = shows u kept ys w (d .0) in (
+      same-seen a b (e .0),
+      all-seen os us (z .block) (z .array) (w .block) (w .array) zs ws (c .1) (d .1)
+          (subst (λ (s : State). AllSame (runList os s) (runList us (heldIn (w .block) (w .array)))) (sym (a .holds))
+          (subst (λ (t : State). AllSame (runList os (nextOf o (heldIn held xs))) (runList us t)) (sym (b .holds)) (e .1))),
+    )
 
 -- TWO RUNS: two blocks that read as chips alike in registers, arrays of one length, arguments alike: then the written part of each log, frames, polls and
 -- answers agree

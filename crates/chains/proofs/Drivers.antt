@@ -132,9 +132,10 @@ module _ (payload : List ℕ) (replies : ℕ → List ℕ) where
 agree-in : (n : ℕ) (g : Geometry) (payload : List ℕ) (replies others : ℕ → List ℕ) (h : Held) (z : W.Chain) → Reads h z → Fits (z .driver)
     → Agree n g payload replies others h → W.AgreeIn n g payload replies others z
 agree-in zero g payload replies others h z r f a = tt
-agree-in (suc n) g payload replies others h z r f a =
-    ((λ e. (λ i. W.heardIn g (sym (r .block) i) (replies (sym (r .frames) i))) ∙ a .0 (ends-alike payload replies r ∙ e) ∙ (λ i. W.heardIn g (r .block i) (others (r .frames i)))),
-    agree-in n g payload replies others (linked payload replies h) (W.linked payload replies z) (link-reads payload replies h z r f) (link-fits payload replies z f) (a .1))
+agree-in (suc n) g payload replies others h z r f a = (
+  (λ e. (λ i. W.heardIn g (sym (r .block) i) (replies (sym (r .frames) i))) ∙ a .0 (ends-alike payload replies r ∙ e) ∙ (λ i. W.heardIn g (r .block i) (others (r .frames i)))),
+  agree-in n g payload replies others (linked payload replies h) (W.linked payload replies z) (link-reads payload replies h z r f) (link-fits payload replies z f) (a .1),
+)
 
 told-same : (s t : Stage) (v w : Verdict) → isEnded s ≡ isEnded t
     → ((a b : Answer) → toldBy s v ≡ Answered a → toldBy t w ≡ Answered b → (a ≡ b) ⊎ (Soft a × Soft b))
@@ -158,9 +159,9 @@ same-held {h} {k} {y} {z} r t s =
       frames = r .frames ∙ s .frames ∙ sym (t .frames);
       polls = r .polls ∙ s .polls ∙ sym (t .polls);
       answer =
-        subst (λ (d : Driver). (toldNumber (toldIn d) ≡ toldOf k) ⊎ (SoftNumber (toldNumber (toldIn d)) × SoftNumber (toldOf k))) (sym (r .block))
-        (subst (λ (d : Driver). (toldNumber (toldIn (y .driver)) ≡ toldNumber (toldIn d)) ⊎ (SoftNumber (toldNumber (toldIn (y .driver))) × SoftNumber (toldNumber (toldIn d)))) (sym (t .block))
-        (told-same (stageIn (y .driver)) (stageIn (z .driver)) (y .driver .verdict) (z .driver .verdict) (s .stage) (s .answer)));
+          subst (λ (d : Driver). (toldNumber (toldIn d) ≡ toldOf k) ⊎ (SoftNumber (toldNumber (toldIn d)) × SoftNumber (toldOf k))) (sym (r .block))
+          (subst (λ (d : Driver). (toldNumber (toldIn (y .driver)) ≡ toldNumber (toldIn d)) ⊎ (SoftNumber (toldNumber (toldIn (y .driver))) × SoftNumber (toldNumber (toldIn d)))) (sym (t .block))
+          (told-same (stageIn (y .driver)) (stageIn (z .driver)) (y .driver .verdict) (z .driver .verdict) (s .stage) (s .answer)));
     }
 
 -- the block that a start leaves

@@ -88,7 +88,14 @@ pub fn call_refusal(
     if state::number(a) != 0 {
         return a;
     }
-    late_refusal(g, array, log, 6 * steps::bound_of(kind, limit), script, junk)
+    late_refusal(
+        g,
+        array,
+        log,
+        6 * steps::bound_of(kind, limit),
+        script,
+        junk,
+    )
 }
 
 // Raw.

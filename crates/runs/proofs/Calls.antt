@@ -84,6 +84,20 @@ module _ (a : Asked) (place : ℕ) (payload buffer script junk log held xs : Lis
         leaves-as (out-known ∙ w .out ∙ ap (λ (t : Answer). refused t buffer) (sym e)) (next-known ∙ w .next)
         (leaves-refused z held xs log buffer r (is-refusal z (subst⁻¹ (λ (t : Answer). numberOf t ≤ 7) e (call-few g (length xs) a (v .oversize) (length log) script (length junk))) k) d)
 
+-- ---- the driver at the start of a call that is not refused
+
+module _ (a : Asked) (place : ℕ) (payload buffer script junk log xs : List ℕ) {d : Driver} (e : d ≡ startDriver (length xs) a place (length payload) (length buffer)) where
+  pub started : (g : Geometry) {z : Answer} → z ≡ refusalOf g (length xs) (asks g a place script payload junk log buffer) → numberOf z ≡ 0
+      → Started g d xs payload buffer script junk log
+  unfolding startDriver
+  started g f n = subst⁻¹ (λ (k : Driver). Started g k xs payload buffer script junk log) e (record { start = refl; accepted = ap numberOf (sym f) ∙ n })
+
+  -- its call is the one that was asked
+  pub as-asked : {held kept ys l b : List ℕ} {r : Done} → Promise (opOf d payload buffer script junk log) held xs r kept ys l b
+      → Promise (call a place script payload junk log buffer) held xs r kept ys l b
+  unfolding startDriver
+  as-asked {held} {kept} {ys} {l} {b} {r} w = subst (λ (k : Driver). Promise (opOf k payload buffer script junk log) held xs r kept ys l b) e w
+
 -- ---- a slot's bytes before any is read: 264 bytes a page
 
 known-size : (n : ℕ) (g : Geometry) → partOf n ≡ Known g → g .size ≡ 264
@@ -159,12 +173,12 @@ module _ (g : Geometry) (d : Driver) (payload buffer script junk log held xs : L
         (record {
           memory = heldIn held xs .memory;
           holding =
-            record {
-              payload = payload;
-              place = d .place;
-              staged = (ap (λ (m : ℕ). replicate {A = ℕ} (8 * m) 0) (known-size (length xs) g own) ∙ sym es) i;
-              verdict = sym good i;
-            };
+              record {
+                payload = payload;
+                place = d .place;
+                staged = (ap (λ (m : ℕ). replicate {A = ℕ} (8 * m) 0) (known-size (length xs) g own) ∙ sym es) i;
+                verdict = sym good i;
+              };
         }))
         ∙ run-asks (stated (d .kind) (d .limit)) g (askedOf d) script (length log) (length junk) (v .oversize) (openOf (heldIn held xs) begun log) (closedOf (heldIn held xs) begun payload st)
 

@@ -3,7 +3,7 @@
 -- Assumes nothing.
 use mathlib.Core.Path.{_≡_, refl, sym, ap, subst⁻¹, _∙_}
 use mathlib.Core.Bool.{Bool, true, false, cond, not, _&&_}
-use mathlib.Core.List.{List}
+use mathlib.Core.List.{List, [], _∷_}
 use Prim.Native.Nat.{ℕ, _*_, _/_, _≤_}
 use native.Mathlib.Omega.{arith}
 use lib.ListN.{length}
@@ -101,3 +101,8 @@ leaves-sent x t held l₀ r kept ys l b e form back answer log frames polls coun
       lent = lent;
       holds = back;
     }
+
+-- nothing is lent for output where a buffer of no bytes is
+pub leaves-none : {o : Out} {t : State} {held l₀ : List ℕ} {r : Done} {kept ys l : List ℕ} (b : List ℕ) → length b ≡ 0 → Leaves o t held l₀ r kept ys l b → Leaves o t held l₀ r kept ys l []
+leaves-none [] e w = w
+leaves-none (x ∷ b) e w = absurd (omega arith)

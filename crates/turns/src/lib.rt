@@ -129,7 +129,14 @@ pub fn poll_count(x: Step) -> usize
 // ---- replies
 
 // The verdict after a step's reply, and the bytes read.
-fn take_data(g: Geometry, d: Driver, x: Step, payload: &[u8], reply: &[u8], staged: &mut [u8]) -> Verdict
+fn take_data(
+    g: Geometry,
+    d: Driver,
+    x: Step,
+    payload: &[u8],
+    reply: &[u8],
+    staged: &mut [u8],
+) -> Verdict
     requires { ⌜ (Pages g) × (length (now staged) ≡ 2112) ⌝ }
     ensures { λ r. ⌜ held r (d .place) (now (payload .entry)) (now (staged .exit)) ≡ takenBy x g (d .kind) (holdingOf d (now (payload .entry)) (now (staged .entry))) (now (reply .entry)) ⌝ }
 {
@@ -142,7 +149,14 @@ fn take_data(g: Geometry, d: Driver, x: Step, payload: &[u8], reply: &[u8], stag
 }
 
 // The state after a step's reply, and the bytes read.
-pub fn take_step(g: Geometry, d: Driver, x: Step, payload: &[u8], reply: &[u8], staged: &mut [u8]) -> Driver
+pub fn take_step(
+    g: Geometry,
+    d: Driver,
+    x: Step,
+    payload: &[u8],
+    reply: &[u8],
+    staged: &mut [u8],
+) -> Driver
     requires { ⌜ (Sound g d) × (x ≡ stepIn g d) × (length (now staged) ≡ 2112) ⌝ }
     ensures { λ r. ⌜ (r ≡ tookOn g d (now (payload .entry)) (now (staged .entry)) (now (reply .entry))) × (now (staged .exit) ≡ dataAfter g d (now (payload .entry)) (now (staged .entry)) (now (reply .entry)) .staged) ⌝ }
 {

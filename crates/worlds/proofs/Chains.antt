@@ -90,7 +90,7 @@ module _ (g : Geometry) (payload : List ℕ) (replies : ℕ → List ℕ) where
         record {
           driver = took-going g d payload (z .staged) (replies (z .frames)) p f i;
           staged =
-            (ap (λ (q : Part). stagedBy q d payload (z .staged) (replies (z .frames))) p ∙ other (isEnded (stageBy (Known g) d)) (z .staged) _ f) i;
+              (ap (λ (q : Part). stagedBy q d payload (z .staged) (replies (z .frames))) p ∙ other (isEnded (stageBy (Known g) d)) (z .staged) _ f) i;
           lines = z .lines ++ outline ((ap (λ (q : Part). frameBy q d payload (z .staged)) p ∙ other (isEnded (stageBy (Known g) d)) [] _ f) i);
           frames = z .frames + 1;
           polls = z .polls + cond ((ap (λ (q : Part). pollBy q d) p ∙ ap (λ (b : Bool). not b && isWait (stepIn g d)) f) i) 1 0;
@@ -152,11 +152,12 @@ chain-talk (suc n) g payload replies z w =
 agree-heard : (n : ℕ) (g : Geometry) (payload : List ℕ) (replies others : ℕ → List ℕ) (z : Chain) → Sane g (z .driver) → AgreeIn n g payload replies others z
     → HeardAlike n g (askedOf (z .driver)) replies others (talkOf payload z)
 agree-heard zero g payload replies others z w h = tt
-agree-heard (suc n) g payload replies others z w h =
-    (λ e. h .0 (ap isEnded (sane-stage w) ∙ e),
-    subst (λ (q : Asked × Talk). HeardAlike n g (q .0) replies others (q .1))
-    (λ i. (link-asked g payload replies z (w .part) .0 i, link-talked g payload replies z w i))
-    (agree-heard n g payload replies others (linked payload replies z) (link-sane g payload replies z w) (h .1)))
+agree-heard (suc n) g payload replies others z w h = (
+  λ e. h .0 (ap isEnded (sane-stage w) ∙ e),
+  subst (λ (q : Asked × Talk). HeardAlike n g (q .0) replies others (q .1))
+      (λ i. (link-asked g payload replies z (w .part) .0 i, link-talked g payload replies z w i))
+      (agree-heard n g payload replies others (linked payload replies z) (link-sane g payload replies z w) (h .1)),
+)
 
 -- the definitions' driver at the start of the same call
 start-talk : (g : Geometry) (array : ℕ) (a : Asked) (place lent : ℕ) (payload staged : List ℕ) → partOf array ≡ Known g

@@ -7,82 +7,59 @@ use mathlib.Core.Path.{sym, ap, _∙_}
 use borrow.Author.Needs.{needs}
 use Rattle.calls.proofs.raw.Statement.{statement}
 use Rattle.calls.proofs.raw.Tie as tie
-use Rattle.calls.proofs.raw.Reads as reads
-use Rattle.calls.proofs.raw.Lts as lts
-use Rattle.blocks.proofs.operation.Reads as operation-reads
-use Rattle.calls.proofs.raw_sent.Reads as raw-sent-reads
-use Rattle.calls.proofs.refuse.Reads as refuse-reads
-use Rattle.refusals.proofs.raw_refusal.Reads as raw-refusal-reads
-use Rattle.registers.proofs.place.Reads as place-reads
-use Rattle.state.proofs.number.Reads as number-reads
 
--- src/lib.rt:154:9
 operation-requires : tie.Need-operation-requires
 operation-requires c κs = search needs
 
--- src/lib.rt:155:9
 place-requires : tie.Need-place-requires
 place-requires c κs = search needs
 
--- src/lib.rt:157:21
 enum-known-p : tie.Need-enum-known-p
 enum-known-p c = search needs
 
--- src/lib.rt:158:17
 raw-refusal-requires : tie.Need-raw-refusal-requires
 raw-refusal-requires c κs = placed-sized _ _ _ (sym ((c .before .before .before .place) .ensures) ∙ (c .before .p) .given .1)
 
--- src/lib.rt:167:16
 number-requires : tie.Need-number-requires
 number-requires c κs = search needs
 
--- src/lib.rt:168:17
 refuse-requires : tie.Need-refuse-requires
 refuse-requires c κs = search needs
 
--- src/lib.rt:168:17
 returns : tie.Need-returns
-returns c = 
+returns c =
     let a = (c .before .before .before .before .before .before .before .before .before .before .before .before .before .before .before .before .before .args) in
     raw-refused (a .frame .now) (a .script .now) (a .junk .now) (a .log .now) (a .reply .now) (a .block .now) (a .array .now) _
     (part-held (a .block .now) (a .array .now) ((c .before .before .before .before .before .before .before .before .operation) .ensures .0) ((c .before .before .before .before .before .before .before .place) .ensures) ((c .before .before .before .before .before .p) .given .1)) _ _ ((c .before .before .before .raw-refusal) .ensures)
     (λ q. (c .before .if1) .taken ((c .before .before .number) .ensures ∙ q)) ((c .refuse) .ensures)
 
--- src/lib.rt:170:13
 raw-sent-requires : tie.Need-raw-sent-requires
-raw-sent-requires c κs = 
+raw-sent-requires c κs =
     let a = (c .before .before .before .before .before .before .before .before .before .before .before .before .before .before .before .before .before .before .before .before .args) in (
       part-held (a .block .now) (a .array .now) ((c .before .before .before .before .before .before .before .before .before .before .before .operation) .ensures .0) ((c .before .before .before .before .before .before .before .before .before .before .place) .ensures) ((c .before .before .before .before .before .before .before .before .p) .given .1),
       ap numberOf (sym ((c .before .before .before .before .before .before .raw-refusal) .ensures)) ∙ sym ((c .before .before .before .before .before .number) .ensures) ∙ (c .before .before .before .before .if1) .left,
     )
 
--- src/lib.rt:172:33
 enum-told : tie.Need-enum-told
 enum-told c = search needs
 
--- src/lib.rt:172:26
 refuse-requires-2 : tie.Need-refuse-requires-2
 refuse-requires-2 c κs = search needs
 
--- src/lib.rt:143:1
 same-length : tie.Need-same-length
 same-length c = search needs
 
--- src/lib.rt:143:1
 same-length-2 : tie.Need-same-length-2
 same-length-2 c = search needs
 
--- src/lib.rt:143:1
 same-length-3 : tie.Need-same-length-3
 same-length-3 c = search needs
 
--- src/lib.rt:143:1
 returns-2 : tie.Need-returns-2
 returns-2 c = search needs
 
--- src/lib.rt:143:1
 returns-3 : tie.Need-returns-3
-returns-3 c = 
+returns-3 c =
     let a = (c .before .before .before .before .before .before .before .before .before .before .before .before .before .args) in
     raw-unknown (a .frame .now) (a .script .now) (a .junk .now) (a .log .now) (a .reply .now) (a .block .now) (a .array .now)
     (part-held (a .block .now) (a .array .now) ((c .before .before .before .before .operation) .ensures .0) ((c .before .before .before .place) .ensures) ((c .before .enum-told) .given .1)) _ ((c .refuse2) .ensures)

@@ -3,62 +3,46 @@ use Rattle.runs.proofs.Raws.{raw-taken, raw-sent, raw-fits, raw-cut}
 use borrow.Author.Needs.{needs}
 use Rattle.calls.proofs.raw_sent.Statement.{statement}
 use Rattle.calls.proofs.raw_sent.Tie as tie
-use Rattle.calls.proofs.raw_sent.Reads as reads
-use Rattle.calls.proofs.raw_sent.Lts as lts
-use Rattle.exchanges.proofs.cut.Reads as cut-reads
-use Rattle.exchanges.proofs.exchange.Reads as exchange-reads
-use Rattle.slices.proofs.byte_or.Reads as byte-or-reads
 
--- src/lib.rt:340:9
 byte-or-requires : tie.Need-byte-or-requires
 byte-or-requires c κs = search needs
 
--- src/lib.rt:341:5
 exchange-requires : tie.Need-exchange-requires
-exchange-requires c κs = 
+exchange-requires c κs =
     let a = (c .before .before .before .before .before .before .before .before .before .before .before .args) in
     let k = raw-taken (a .frame .now) (a .script .now) (a .junk .now) (a .log .now) (a .reply .now) (a .block .now) (a .array .now) (a .g) ((c .before .before .before .before .before .before .before .before .before .before .before .pre) .0) ((c .before .before .before .before .before .before .before .before .before .before .before .pre) .1) in
     ((c .before .before .before .before .before .before .before .before .before .before .before .pre) .0, k .0, k .1)
 
--- src/lib.rt:343:9
 cut-requires : tie.Need-cut-requires
-cut-requires c κs = 
+cut-requires c κs =
     let a = (c .before .before .before .before .before .before .before .before .before .before .before .before .before .before .before .before .before .before .before .before .before .args) in
     raw-fits (a .frame .now) (a .script .now) (a .junk .now) (a .log .now) (a .reply .now) (a .block .now) (a .array .now) (a .g) ((c .before .before .before .before .before .before .before .before .before .before .before .before .before .before .before .before .before .before .before .before .before .pre) .0) ((c .before .before .before .before .before .before .before .before .before .before .before .before .before .before .before .before .before .before .before .before .before .pre) .1) _ _ _ _ _ ((c .before .before .before .before .before .before .before .before .before .exchange) .ensures .0) ((c .before .before .before .before .before .before .before .before .before .before .before .before .before .before .byte-or) .ensures) ((c .before .before .if1) .taken)
 
--- src/lib.rt:344:9
 same-length : tie.Need-same-length
 same-length c = search needs
 
--- src/lib.rt:344:9
 same-length-2 : tie.Need-same-length-2
 same-length-2 c = search needs
 
--- src/lib.rt:344:9
 same-length-3 : tie.Need-same-length-3
 same-length-3 c = search needs
 
--- src/lib.rt:344:9
 returns : tie.Need-returns
-returns c = 
+returns c =
     let a = (c .before .before .before .before .before .before .before .before .before .before .before .before .before .before .before .before .before .before .before .before .before .before .before .before .args) in
     raw-cut (a .frame .now) (a .script .now) (a .junk .now) (a .log .now) (a .reply .now) (a .block .now) (a .array .now) (a .g) ((c .before .before .before .before .before .before .before .before .before .before .before .before .before .before .before .before .before .before .before .before .before .before .before .before .pre) .0) ((c .before .before .before .before .before .before .before .before .before .before .before .before .before .before .before .before .before .before .before .before .before .before .before .before .pre) .1) _ _ _ _ _ ((c .before .before .before .before .before .before .before .before .before .before .before .before .exchange) .ensures .0) ((c .before .before .before .before .before .before .before .before .before .before .before .before .before .before .before .before .before .byte-or) .ensures) ((c .before .before .before .before .before .if1) .taken) _ _ ((c .before .before .cut) .ensures .0) ((c .before .before .cut) .ensures .1)
 
--- src/lib.rt:327:1
 same-length-4 : tie.Need-same-length-4
 same-length-4 c = search needs
 
--- src/lib.rt:327:1
 same-length-5 : tie.Need-same-length-5
 same-length-5 c = search needs
 
--- src/lib.rt:327:1
 same-length-6 : tie.Need-same-length-6
 same-length-6 c = search needs
 
--- src/lib.rt:327:1
 returns-2 : tie.Need-returns-2
-returns-2 c = 
+returns-2 c =
     let a = (c .before .before .before .before .before .before .before .before .before .before .before .before .before .before .before .before .before .before .before .args) in
     raw-sent (a .frame .now) (a .script .now) (a .junk .now) (a .log .now) (a .reply .now) (a .block .now) (a .array .now) (a .g) ((c .before .before .before .before .before .before .before .before .before .before .before .before .before .before .before .before .before .before .before .pre) .0) ((c .before .before .before .before .before .before .before .before .before .before .before .before .before .before .before .before .before .before .before .pre) .1) _ _ _ _ _ ((c .before .before .before .before .before .before .before .exchange) .ensures .0) ((c .before .before .before .before .before .before .before .before .before .before .before .before .byte-or) .ensures) ((c .if1) .left) ((c .before .before .before .before .before .before .before .exchange) .ensures .1)
 

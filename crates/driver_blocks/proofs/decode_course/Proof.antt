@@ -42,7 +42,7 @@ is-set-requires-2 c κs = search needs
 
 returns : tie.Need-returns
 unfolding decodeCourse
-returns c = 
+returns c =
     let block = c .before .before .before .before .before .before .before .before .before .before .before .before .args .block .now in
     λ i.
     record {

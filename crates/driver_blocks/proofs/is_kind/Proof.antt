@@ -22,7 +22,7 @@ returns-4 c = rw (c .match .keys4)
 
 returns-5 : tie.Need-returns-5
 unfolding isKind
-returns-5 c = 
+returns-5 c =
     let n = c .before .args .n in
     let r = c .match .rest in
     simp (ne-eqb n 0x0F (r .0 .0 .0 .1), ne-eqb n 0x33 (r .0 .0 .1), ne-eqb n 0x55 (r .0 .1), ne-eqb n 0xF0 (r .1))

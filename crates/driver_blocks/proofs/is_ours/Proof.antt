@@ -2,7 +2,6 @@
 use mathlib.Core.Bool.{true, false}
 use mathlib.Core.Path.{_≡_, sym, _∙_}
 use lib.ListN.{getD}
-
 use borrow.Author.Tests.{le-leb, lt-leb, not-true, not-false}
 use Rattle.driver_blocks.specs.Block.{isKind, isOurs}
 use borrow.Author.Needs.{needs}

@@ -18,7 +18,7 @@ returns-3 c = rw (c .match .keys3)
 
 returns-4 : tie.Need-returns-4
 unfolding kindOf
-returns-4 c = 
+returns-4 c =
     let n = c .before .args .n in
     let r = c .match .rest in
     simp (ne-eqb n 0x0F (r .0 .0 .1), ne-eqb n 0x33 (r .0 .1), ne-eqb n 0xF0 (r .1))

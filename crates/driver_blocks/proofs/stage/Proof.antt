@@ -1,7 +1,6 @@
 -- `driver_blocks::stage` meets its contract: the tests come in the definition's order. Assumes nothing.
 use mathlib.Core.Bool.{true, false}
 use mathlib.Core.Path.{_≡_, ap}
-
 use borrow.Author.Tests.{eq-eqb, ne-eqb, not-true, not-false}
 use Rattle.slots.specs.declared.Stage.the-variants.{Ended}
 use Rattle.driver_blocks.specs.Block.{stageOf}

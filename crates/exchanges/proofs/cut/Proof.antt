@@ -13,7 +13,7 @@ same-length : tie.Need-same-length
 same-length c = search needs
 
 returns : tie.Need-returns
-returns c = 
+returns c =
     let s = c .before .before .before .before .before .before .before in
     let a = s .args in
     cut-left (a .g) (heldIn (a .block .now) (a .array .now)) (a .junk .now) (s .pre .0) (s .pre .1) (c .before .before .cut .ensures)

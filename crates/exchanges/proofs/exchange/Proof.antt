@@ -18,7 +18,7 @@ put-outline-requires : tie.Need-put-outline-requires
 put-outline-requires c κs = let s = c .before .before .before .before .before .before .before .before .before .before .before in (s .pre .2, framed-in _ _ (s .pre .1) .1)
 
 settle-requires : tie.Need-settle-requires
-settle-requires c κs = 
+settle-requires c κs =
     let s = c .before .before .before .before .before .before .before .before .before .before .before .before .before .before .before .before in
     let a = s .args in
     let send = c .before .before .before .before .before .before .before .before .send .ensures in
@@ -37,7 +37,7 @@ same-length-3 : tie.Need-same-length-3
 same-length-3 c = search needs
 
 returns : tie.Need-returns
-returns c = 
+returns c =
     let s = c .before .before .before .before .before .before .before .before .before .before .before .before .before .before .before .before .before .before .before in
     let a = s .args in
     let send = c .before .before .before .before .before .before .before .before .before .before .before .send .ensures in

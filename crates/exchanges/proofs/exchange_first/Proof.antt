@@ -12,7 +12,7 @@ use Rattle.exchanges.proofs.exchange_first.Statement.{statement}
 use Rattle.exchanges.proofs.exchange_first.Tie as tie
 
 slice-aggregate-exchange : tie.Need-slice-aggregate-exchange
-slice-aggregate-exchange c = 
+slice-aggregate-exchange c =
     let s = c .before .before .before .before .before .before .before in
     sym (length-take-le (s .args .n) (s .args .frame .now) (s .pre .1))
 
@@ -20,12 +20,12 @@ slice-relend-prefix-exchange : tie.Need-slice-relend-prefix-exchange
 slice-relend-prefix-exchange c = search needs
 
 slice-aggregate-exchange-2 : tie.Need-slice-aggregate-exchange-2
-slice-aggregate-exchange-2 c = 
+slice-aggregate-exchange-2 c =
     let s = c .before .before .before .before .before .before .before .before in
     sym (length-take-le (s .args .n) (s .args .reply .now) (s .pre .2))
 
 exchange-requires : tie.Need-exchange-requires
-exchange-requires c κs = 
+exchange-requires c κs =
     let s = c .before .before .before .before .before .before .before .before .before in
     let a = s .args in
     let f : length (take (a .n) (a .frame .now)) ≡ a .n = length-take-le (a .n) (a .frame .now) (s .pre .1) in
@@ -42,7 +42,7 @@ same-length-3 : tie.Need-same-length-3
 same-length-3 c = search needs
 
 returns : tie.Need-returns
-returns c = 
+returns c =
     let s = c .before .before .before .before .before .before .before .before .before .before .before .before .before .before .before .before in
     let a = s .args in
     let exchange = c .before .before .before .before .before .before .exchange .ensures in

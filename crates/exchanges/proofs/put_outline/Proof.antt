@@ -65,7 +65,7 @@ same-length c = simp length-set
 
 returns : tie.Need-returns
 unfolding outline
-returns c = 
+returns c =
     simp (
       c .before .before .before .byte-or .ensures,
       c .before .before .byte-or2 .ensures,

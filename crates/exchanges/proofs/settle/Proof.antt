@@ -9,7 +9,7 @@ use Rattle.exchanges.proofs.settle.Statement.{statement}
 use Rattle.exchanges.proofs.settle.Tie as tie
 
 returns : tie.Need-returns
-returns c = 
+returns c =
     let s = c .before .before in
     let a = s .args in
     (other-byte (a .g) (a .b) (heldIn (a .block .now) (a .array .now)) (c .if1 .taken), s .pre .1)
@@ -22,7 +22,7 @@ enum-told c = search needs
 
 returns-2 : tie.Need-returns-2
 unfolding decodeChip decodeRegisters
-returns-2 c = 
+returns-2 c =
     let s = c .before .before .before .before .before .before .before in
     let a = s .args in
     let e = sym (c .before .before .operation .ensures .0) ∙ c .enum-told .given .1 in
@@ -35,7 +35,7 @@ same-length : tie.Need-same-length
 same-length c = search needs
 
 returns-3 : tie.Need-returns-3
-returns-3 c = 
+returns-3 c =
     let s = c .before .before .before .before .before .before .before .before .before .before .before in
     let a = s .args in
     zero-ended (a .g) (a .b) (heldIn (a .block .now) (a .array .now)) (c .before .before .before .before .before .before .before .before .before .if1 .left) (s .pre .0) (c .before .before .end-busy .ensures)

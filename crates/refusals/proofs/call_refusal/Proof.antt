@@ -14,13 +14,13 @@ number-requires : tie.Need-number-requires
 number-requires c κs = search needs
 
 returns : tie.Need-returns
-returns c = 
+returns c =
     let a = c .before .before .before .before .args in
     early-told (a .g) (a .array) (asking (a .kind) (a .slot) (a .limit)) (a .place) (a .n) (a .lent) (a .log) (a .script .now) (a .junk) (c .before .before .before .before .pre .1)
     (c .before .before .refusal .ensures) (λ e. c .if1 .taken (c .before .number .ensures ∙ e))
 
 bound-of-requires : tie.Need-bound-of-requires
-bound-of-requires c κs = 
+bound-of-requires c κs =
     let s = c .before .before .before .before in
     let a = s .args in
     limit-few (a .g) (a .array) (asking (a .kind) (a .slot) (a .limit)) (a .place) (a .n) (a .lent) (s .pre .1) (c .before .before .refusal .ensures) (sym (c .before .number .ensures) ∙ c .if1 .left)
@@ -32,7 +32,7 @@ late-refusal-requires : tie.Need-late-refusal-requires
 late-refusal-requires c κs = search needs
 
 returns-2 : tie.Need-returns-2
-returns-2 c = 
+returns-2 c =
     let s = c .before .before .before .before .before .before in
     let a = s .args in
     late-told (a .g) (a .array) (asking (a .kind) (a .slot) (a .limit)) (a .place) (a .n) (a .lent) (a .log) (a .script .now) (a .junk) (s .pre .1)

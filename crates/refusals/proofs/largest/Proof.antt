@@ -37,10 +37,11 @@ loop-less c = search needs
 loop-again : tie.Need-loop-again Inv-loop μ-loop
 loop-again c =
     let script = c .before .before .before .before .before .args .script .now in
-    let loop = c .before .before .before .loop in
-    (search needs,
-    ap (λ (n : ℕ). max n (largestIn (drop (loop .i + 1) script))) (c .greater .ensures)
-    ∙ sym (largest-here script (loop .i) (loop .most) (c .before .before .loop-test .taken)) ∙ loop .inv .1)
+    let loop = c .before .before .before .loop in (
+      search needs,
+      ap (λ (n : ℕ). max n (largestIn (drop (loop .i + 1) script))) (c .greater .ensures)
+          ∙ sym (largest-here script (loop .i) (loop .most) (c .before .before .loop-test .taken)) ∙ loop .inv .1,
+    )
 
 returns : tie.Need-returns Inv-loop μ-loop
 returns c =

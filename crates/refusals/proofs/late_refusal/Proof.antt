@@ -17,13 +17,13 @@ bad-script-requires c κs = search needs
 
 returns-2 : tie.Need-returns-2
 unfolding lateRefusal
-returns-2 c = 
+returns-2 c =
     let a = c .before .before .before .before .args in let k : badScript (a .g) (a .array) (a .script .now) (a .junk) ≡ true = sym (c .before .bad-script .ensures) ∙ c .if2 .taken in
     simp (le-ltb _ _ (c .before .before .if1 .left), k)
 
 returns-3 : tie.Need-returns-3
 unfolding lateRefusal
-returns-3 c = 
+returns-3 c =
     let a = c .before .before .before .before .args in let k : badScript (a .g) (a .array) (a .script .now) (a .junk) ≡ false = sym (c .before .bad-script .ensures) ∙ c .if2 .left in
     simp (le-ltb _ _ (c .before .before .if1 .left), k)
 

@@ -15,7 +15,7 @@ is-framed-requires c κs = search needs
 
 returns : tie.Need-returns
 unfolding rawRefusal
-returns c = 
+returns c =
     let a = c .before .before .before .before .args in
     let k : framed (length (a .frame .now)) (a .reply) ≡ false = sym (c .before .is-framed .ensures) ∙ not-true (c .before .is-framed .result) (c .if1 .taken) in
     simp k
@@ -25,7 +25,7 @@ late-refusal-requires c κs = search needs
 
 returns-2 : tie.Need-returns-2
 unfolding rawRefusal
-returns-2 c = 
+returns-2 c =
     let a = c .before .before .before .before .before .args in
     let k : framed (length (a .frame .now)) (a .reply) ≡ true = sym (c .before .before .is-framed .ensures) ∙ not-false (c .before .before .is-framed .result) (c .before .if1 .left) in
     simp k (c .late-refusal .ensures)

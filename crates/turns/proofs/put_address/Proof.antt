@@ -33,7 +33,7 @@ same-length : tie.Need-same-length
 same-length c = search needs
 
 returns : tie.Need-returns
-returns c = 
+returns c =
     let a = c .args in
     four-set (a .frame .now) (a .opcode) (a .n / 65536 % 256) (a .n / 256 % 256) (a .n % 256) (c .pre)
 

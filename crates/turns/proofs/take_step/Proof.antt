@@ -21,12 +21,12 @@ is-last-requires : tie.Need-is-last-requires
 is-last-requires c κs = search needs
 
 take-course-requires : tie.Need-take-course-requires
-take-course-requires c κs = 
+take-course-requires c κs =
     let s = c .before .before .before .before .before .before .before in
     (sound-place (s .pre .0), sector-few (c .before .sector-of .ensures) (sound-slot (s .pre .0)))
 
 take-data-requires : tie.Need-take-data-requires
-take-data-requires c κs = 
+take-data-requires c κs =
     let s = c .before .before .before .before .before .before .before .before .before in
     (sound-pages (s .pre .0), s .pre .2)
 
@@ -34,7 +34,7 @@ same-length : tie.Need-same-length
 same-length c = search needs
 
 returns : tie.Need-returns
-returns c = 
+returns c =
     let s = c .before .before .before .before .before .before .before .before .before .before .before .before in
     let a = s .args in
     let d = a .d in

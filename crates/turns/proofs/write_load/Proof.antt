@@ -39,7 +39,7 @@ same-length c = search needs
 
 returns : tie.Need-returns
 unfolding loaded
-returns c = 
+returns c =
     let s = c .before .before .before .before .before .before .before .before .before .before .before .before in
     let a = s .args in
     let p = c .before .before .before .before .before .before .put-address in

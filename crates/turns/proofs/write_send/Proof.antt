@@ -18,7 +18,7 @@ same-length : tie.Need-same-length
 same-length c = search needs
 
 returns : tie.Need-returns
-returns c = 
+returns c =
     let a = c .before .before .before .before .before .before .args in
     let o = c .before .before .before .before .opcode-of .ensures in
     (refl, c .before .before .put-address .ensures ∙ ap (λ (x : ℕ). over (x ∷ a .n / 65536 % 256 ∷ a .n / 256 % 256 ∷ a .n % 256 ∷ []) (a .frame .now)) o)

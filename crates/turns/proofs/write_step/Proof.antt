@@ -69,7 +69,7 @@ same-length c = search needs
 
 returns : tie.Need-returns
 unfolding shapeOf
-returns c = 
+returns c =
     let a = c .before .before .before .before .before .before .before .before .before .args in
     let e = c .before .before .before .before .enum-told .given .1 in
     by-step (a .g) (a .d) (a .payload .now) (a .staged .now) (a .frame .now) e (c .before .before .write-poll .ensures .0) (c .before .before .write-poll .ensures .1) (wait-form (a .g) (a .d .kind) (holdingOf (a .d) (a .payload .now) (a .staged .now)))
@@ -79,7 +79,7 @@ same-length-2 c = search needs
 
 returns-2 : tie.Need-returns-2
 unfolding shapeOf
-returns-2 c = 
+returns-2 c =
     let a = c .before .before .before .before .before .before .before .before .before .args in
     let e = c .before .before .before .before .enum-told2 .given .1 in
     by-step (a .g) (a .d) (a .payload .now) (a .staged .now) (a .frame .now) e (c .before .before .write-long .ensures .0) (c .before .before .write-long .ensures .1) (protection-form (a .g) (a .d .kind) (holdingOf (a .d) (a .payload .now) (a .staged .now)))
@@ -89,7 +89,7 @@ same-length-3 c = search needs
 
 returns-3 : tie.Need-returns-3
 unfolding shapeOf
-returns-3 c = 
+returns-3 c =
     let a = c .before .before .before .before .before .before .before .before .before .args in
     let e = c .before .before .before .before .enum-told3 .given .1 in
     by-step (a .g) (a .d) (a .payload .now) (a .staged .now) (a .frame .now) e (c .before .before .write-long2 .ensures .0) (c .before .before .write-long2 .ensures .1) (lockdown-form (a .g) (a .d .kind) (holdingOf (a .d) (a .payload .now) (a .staged .now)))
@@ -99,7 +99,7 @@ same-length-4 c = search needs
 
 returns-4 : tie.Need-returns-4
 unfolding shapeOf
-returns-4 c = 
+returns-4 c =
     let a = c .before .before .before .before .before .before .before .before .before .before .args in
     let e = c .before .before .before .before .before .x .given .1 in
     by-step (a .g) (a .d) (a .payload .now) (a .staged .now) (a .frame .now) e (c .before .before .write-long3 .ensures .0) (c .before .before .write-long3 .ensures .1) (read-form (a .g) (a .d .kind) (holdingOf (a .d) (a .payload .now) (a .staged .now)) _)
@@ -109,7 +109,7 @@ same-length-5 c = search needs
 
 returns-5 : tie.Need-returns-5
 unfolding shapeOf
-returns-5 c = 
+returns-5 c =
     let a = c .before .before .before .before .before .before .before .before .before .before .args in
     let e = c .before .before .before .before .before .x2 .given .1 in
     by-step (a .g) (a .d) (a .payload .now) (a .staged .now) (a .frame .now) e (c .before .before .write-load .ensures .0) (c .before .before .write-load .ensures .1) refl
@@ -119,14 +119,14 @@ same-length-6 c = search needs
 
 returns-6 : tie.Need-returns-6
 unfolding shapeOf
-returns-6 c = 
+returns-6 c =
     let a = c .before .before .before .before .before .before .before .before .before .before .args in
     let e = c .before .before .before .before .before .x3 .given .1 in
     by-step (a .g) (a .d) (a .payload .now) (a .staged .now) (a .frame .now) e (c .before .before .write-send .ensures .0) (c .before .before .write-send .ensures .1) (send-form (a .g) (a .d .kind) (holdingOf (a .d) (a .payload .now) (a .staged .now)) _ _)
 
 returns-7 : tie.Need-returns-7
 unfolding shapeOf
-returns-7 c = 
+returns-7 c =
     let a = c .before .before .before .before .before .args in
     by-step (a .g) (a .d) (a .payload .now) (a .staged .now) (a .frame .now) (c .enum-told4 .given .1) refl (sym (over-nil (a .frame .now))) (end-form (a .g) (a .d .kind) (holdingOf (a .d) (a .payload .now) (a .staged .now)))
 

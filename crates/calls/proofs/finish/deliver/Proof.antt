@@ -3,42 +3,30 @@ use Rattle.slices.proofs.Laws.{tail-part}
 use Rattle.slices.specs.Lists.{over}
 use lib.ListN.{take}
 use mathlib.Core.Path.{_∙_}
-use Prim.Native.Nat.{ℕ}
 use borrow.Author.Needs.{needs}
 use Rattle.calls.proofs.finish.deliver.Statement.{statement}
 use Rattle.calls.proofs.finish.deliver.Tie as tie
-use Rattle.calls.proofs.finish.deliver.Reads as reads
-use Rattle.calls.proofs.finish.deliver.Lts as lts
-use Rattle.calls.proofs.finish.lay_over.Reads as lay-over-reads
-use Rattle.driver.proofs.count_of.Reads as count-of-reads
 
--- src/finish.rt:53:9
 count-of-requires : tie.Need-count-of-requires
 count-of-requires c κs = search needs
 
--- src/finish.rt:55:22
 sub-lay-over : tie.Need-sub-lay-over
 sub-lay-over c = search needs
 
--- src/finish.rt:55:22
 part-lay-over-start : tie.Need-part-lay-over-start
 part-lay-over-start c = search needs
 
--- src/finish.rt:55:22
 part-lay-over-end : tie.Need-part-lay-over-end
 part-lay-over-end c = search needs
 
--- src/finish.rt:55:5
 lay-over-requires : tie.Need-lay-over-requires
 lay-over-requires c κs = search needs
 
--- src/finish.rt:50:1
 same-length : tie.Need-same-length
 same-length c = search needs
 
--- src/finish.rt:50:1
 returns : tie.Need-returns
-returns c = 
+returns c =
     let a = (c .before .before .before .before .before .before .before .before .before .args) in
     let n = (c .before .before .before .before .before .before .count-of) .ensures .0 in
     (n, (c .before .before .lay-over) .ensures ∙ (λ i. over (take (n i) (tail-part 3 (a .staged .now) i)) (a .buffer .now)))

@@ -11,31 +11,24 @@ use mathlib.Core.Path.{sym, ap, _∙_}
 use borrow.Author.Needs.{needs}
 use Rattle.calls.proofs.finish.lose.Statement.{statement}
 use Rattle.calls.proofs.finish.lose.Tie as tie
-use Rattle.calls.proofs.finish.lose.Reads as reads
-use Rattle.calls.proofs.finish.lose.Lts as lts
-use Rattle.exchanges.proofs.cut.Reads as cut-reads
 
--- src/finish.rt:65:9
 returns : tie.Need-returns
 unfolding lastOf
-returns c = 
+returns c =
     let a = (c .before .before .before .before .args) in
     let s : State = heldIn (a .block .now) (a .array .now) in
     let e : a .s .cut ≡ false = not-true (a .s .cut) ((c .if1) .taken) in
     (ap (λ (b : Bool). cond b (cutState (a .g) (a .junk .now) s) s) (sym e), (c .before .before .before .before .pre) .1)
 
--- src/finish.rt:67:5
 cut-requires : tie.Need-cut-requires
 cut-requires c κs = ((c .before .before .before .before .before .before .pre) .0, (c .before .before .before .before .before .before .pre) .2 (not-false ((c .before .before .before .before .before .before .args) .s .cut) ((c .before .before .if1) .left)))
 
--- src/finish.rt:60:1
 same-length : tie.Need-same-length
 same-length c = search needs
 
--- src/finish.rt:60:1
 returns-2 : tie.Need-returns-2
 unfolding lastOf
-returns-2 c = 
+returns-2 c =
     let a = (c .before .before .before .before .before .before .before .before .before .args) in
     let s : State = heldIn (a .block .now) (a .array .now) in
     let e : a .s .cut ≡ true = not-false (a .s .cut) ((c .before .before .before .before .before .if1) .left) in

@@ -12,11 +12,6 @@ use borrow.Author.Tests.{not-true, not-false}
 use borrow.Author.Needs.{needs}
 use Rattle.calls.proofs.turning.drive.Statement.{statement}
 use Rattle.calls.proofs.turning.drive.Tie as tie
-use Rattle.calls.proofs.turning.drive.Reads as reads
-use Rattle.calls.proofs.turning.drive.Lts as lts
-use Rattle.calls.proofs.turning.blank_frame.Reads as blank-frame-reads
-use Rattle.calls.proofs.turning.is_going.Reads as is-going-reads
-use Rattle.calls.proofs.turning.turn.Reads as turn-reads
 
 abbrev Inv-loop : tie.InvT-loop
 Inv-loop g block₀ array₀ payload staged₀ script log₀ frame₀ reply₀ s₀ block array staged log frame reply s =
@@ -25,61 +20,51 @@ Inv-loop g block₀ array₀ payload staged₀ script log₀ frame₀ reply₀ s
 abbrev μ-loop : tie.MeasureT-loop
 μ-loop g block₀ array₀ payload staged₀ script log₀ frame₀ reply₀ s₀ block array staged log frame reply s = boundBy s₀ - s .frames
 
--- src/turning.rt:110:21
 blank-frame-requires : tie.Need-blank-frame-requires Inv-loop μ-loop
 blank-frame-requires c κs = search needs
 
--- src/turning.rt:111:21
 blank-frame-requires-2 : tie.Need-blank-frame-requires-2 Inv-loop μ-loop
 blank-frame-requires-2 c κs = search needs
 
--- src/turning.rt:113:5
 loop-holds : tie.Need-loop-holds Inv-loop μ-loop
-loop-holds c = 
+loop-holds c =
     let a = (c .before .before .before .before .before .before .args) in
     let t = heldIn (a .block .now) (a .array .now) in (
       along-start (a .g) t (a .start) (a .payload .now) (a .staged .now) (a .script .now) (a .log .now) (c .before .before .before .before .before .before .pre),
       λ e. never (sym (start-going (a .g) t (a .start) (a .payload .now) (a .staged .now) (a .script .now) (a .log .now) (c .before .before .before .before .before .before .pre)) ∙ e),
     )
 
--- src/turning.rt:113:11
 is-going-requires : tie.Need-is-going-requires Inv-loop μ-loop
 is-going-requires c κs = search needs
 
--- src/turning.rt:114:9
 turn-requires : tie.Need-turn-requires Inv-loop μ-loop
-turn-requires c κs = 
+turn-requires c κs =
     let a = (c .before .before .before .before .before .before .before .before .before .before .before .before .before .before .before .args) in
     along-going (a .g) (heldIn (a .block .now) (a .array .now)) (a .start) (a .payload .now) (a .staged .now) (a .script .now) (a .log .now) (c .before .before .before .before .before .before .before .before .before .before .before .before .before .before .before .pre) _ _ _ _ ((c .before .before .before .before .before .before .before .before .loop) .inv .0)
     (not-true _ (sym ((c .before .before .before .before .before .before .before .is-going) .ensures) ∙ (c .before .before .before .before .before .before .if1) .taken))
 
--- src/turning.rt:113:5
 loop-less : tie.Need-loop-less Inv-loop μ-loop
-loop-less c = 
+loop-less c =
     let a = (c .before .before .before .before .before .before .before .before .before .before .before .before .before .before .before .before .before .before .before .before .args) in
     turned-less (a .g) (heldIn (a .block .now) (a .array .now)) (a .start) (a .payload .now) (a .staged .now) (a .script .now) (a .log .now) (c .before .before .before .before .before .before .before .before .before .before .before .before .before .before .before .before .before .before .before .before .pre) _ _ _ _ ((c .before .before .before .before .before .before .before .before .before .before .before .before .before .loop) .inv .0)
     (not-true _ (sym ((c .before .before .before .before .before .before .before .before .before .before .before .before .is-going) .ensures) ∙ (c .before .before .before .before .before .before .before .before .before .before .before .if1) .taken)) _ _ _ _ ((c .before .before .before .before .turn) .ensures .0)
 
--- src/turning.rt:113:5
 loop-again : tie.Need-loop-again Inv-loop μ-loop
-loop-again c = 
+loop-again c =
     let a = (c .before .before .before .before .before .before .before .before .before .before .before .before .before .before .before .before .before .before .before .before .args) in (
       along-turned (a .g) (heldIn (a .block .now) (a .array .now)) (a .start) (a .payload .now) (a .staged .now) (a .script .now) (a .log .now) (c .before .before .before .before .before .before .before .before .before .before .before .before .before .before .before .before .before .before .before .before .pre) _ _ _ _ ((c .before .before .before .before .before .before .before .before .before .before .before .before .before .loop) .inv .0)
           (not-true _ (sym ((c .before .before .before .before .before .before .before .before .before .before .before .before .is-going) .ensures) ∙ (c .before .before .before .before .before .before .before .before .before .before .before .if1) .taken)) _ _ _ _ ((c .before .before .before .before .turn) .ensures .0),
       λ e. (c .before .before .before .before .turn) .ensures .1,
     )
 
--- src/turning.rt:97:1
 same-length : tie.Need-same-length Inv-loop μ-loop
 same-length c = (c .before .before .loop) .inv .0 .long
 
--- src/turning.rt:97:1
 same-length-2 : tie.Need-same-length-2 Inv-loop μ-loop
 same-length-2 c = (c .before .before .loop) .inv .0 .room
 
--- src/turning.rt:97:1
 returns : tie.Need-returns Inv-loop μ-loop
-returns c = 
+returns c =
     let a = (c .before .before .before .before .before .before .before .before .before .args) in
     let e = not-false _ (sym ((c .before .is-going) .ensures) ∙ (c .if1) .left) in (
       along-ended (a .g) (heldIn (a .block .now) (a .array .now)) (a .start) (a .payload .now) (a .staged .now) (a .script .now) (a .log .now) (c .before .before .before .before .before .before .before .before .before .pre) _ _ _ _ ((c .before .before .loop) .inv .0) e,

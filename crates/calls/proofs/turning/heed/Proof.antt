@@ -4,30 +4,23 @@ use Rattle.slots.specs.Driver.{ended}
 use Rattle.slots.specs.declared.Course.{Course}
 use Rattle.state.specs.declared.Answer.the-variants as Answers
 use borrow.Author.Tests.{eq-eqb, ne-eqb}
-use lib.Dec.{eqb}
 use mathlib.Core.Bool.{Bool, cond}
 use mathlib.Core.Path.{sym, ap, _∙_}
 use borrow.Author.Needs.{needs}
 use Rattle.calls.proofs.turning.heed.Statement.{statement}
 use Rattle.calls.proofs.turning.heed.Tie as tie
-use Rattle.calls.proofs.turning.heed.Reads as reads
-use Rattle.calls.proofs.turning.heed.Lts as lts
-use Rattle.steps.proofs.end_with.Reads as end-with-reads
 
--- src/turning.rt:33:9
 end-with-requires : tie.Need-end-with-requires
 end-with-requires c κs = search needs
 
--- src/turning.rt:34:9
 returns : tie.Need-returns
-returns c = 
+returns c =
     let a = (c .before .before .before .args) in
     ap (λ (h : Course). with (a .e) (a .e .verdict) h) ((c .end-with) .ensures)
     ∙ ap (λ (b : Bool). with (a .e) (a .e .verdict) (cond b (ended Answers.Cut (a .d .course)) (a .e .course))) (sym (eq-eqb (a .b) 2 ((c .before .before .if1) .taken)))
 
--- src/turning.rt:27:1
 returns-2 : tie.Need-returns-2
-returns-2 c = 
+returns-2 c =
     let a = (c .before .args) in
     ap (λ (b : Bool). with (a .e) (a .e .verdict) (cond b (ended Answers.Cut (a .d .course)) (a .e .course))) (sym (ne-eqb (a .b) 2 ((c .if1) .left)))
 

@@ -4,15 +4,10 @@ use mathlib.Core.Path.{ap}
 use borrow.Author.Needs.{needs}
 use Rattle.calls.proofs.turning.is_going.Statement.{statement}
 use Rattle.calls.proofs.turning.is_going.Tie as tie
-use Rattle.calls.proofs.turning.is_going.Reads as reads
-use Rattle.calls.proofs.turning.is_going.Lts as lts
-use Rattle.steps.proofs.has_ended.Reads as has-ended-reads
 
--- src/turning.rt:93:6
 has-ended-requires : tie.Need-has-ended-requires
 has-ended-requires c κs = search needs
 
--- src/turning.rt:87:1
 returns : tie.Need-returns
 returns c = ap not ((c .has-ended) .ensures)
 

@@ -4,23 +4,16 @@ use mathlib.Core.Path.{sym}
 use borrow.Author.Needs.{needs}
 use Rattle.calls.proofs.turning.take_first.Statement.{statement}
 use Rattle.calls.proofs.turning.take_first.Tie as tie
-use Rattle.calls.proofs.turning.take_first.Reads as reads
-use Rattle.calls.proofs.turning.take_first.Lts as lts
-use Rattle.turns.proofs.take_step.Reads as take-step-reads
 
--- src/turning.rt:52:40
 slice-aggregate-take-step : tie.Need-slice-aggregate-take-step
 slice-aggregate-take-step c = sym (length-take-le ((c .before .before .before .before .args) .n) ((c .before .before .before .before .args) .reply .now) ((c .before .before .before .before .pre) .3))
 
--- src/turning.rt:52:5
 take-step-requires : tie.Need-take-step-requires
 take-step-requires c κs = ((c .before .before .before .before .before .pre) .0, (c .before .before .before .before .before .pre) .1, (c .before .before .before .before .before .pre) .2)
 
--- src/turning.rt:40:1
 same-length : tie.Need-same-length
 same-length c = search needs
 
--- src/turning.rt:40:1
 returns : tie.Need-returns
 returns c = search needs
 

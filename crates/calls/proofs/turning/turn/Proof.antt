@@ -1,48 +1,27 @@
 -- `calls::turning::turn` meets its contract. Assumes nothing.
 use Rattle.runs.proofs.Turns.{written-taken, written-frame, reply-reaches, array-long, turned}
 use Rattle.slots.specs.Plans.{isWait}
-use Prim.Native.Nat.{ℕ}
 use mathlib.Core.Bool.{cond}
-use Rattle.runs.proofs.After.{after-long}
-
-use Rattle.worlds.proofs.Shapes.{frame-length, shape-fits}
 use Rattle.blocks.specs.Promises.{heldIn}
 use Rattle.turns.proofs.Turns.{sound-pages, sound-slot}
 use Rattle.geometry.proofs.Pages.{sized}
-use Rattle.worlds.specs.Turns.{holdingOf, stepIn}
-use Rattle.slots.specs.Driver.{shapeOf, frameOf}
 use Rattle.slots.specs.declared.Step.{Step}
-use Rattle.slices.proofs.Laws.{over-front, length-over}
-use lib.ListN.{length, take}
-use mathlib.Core.List.{List}
-use mathlib.Core.Path.{_≡_, sym, ap, _∙_}
+use lib.ListN.{length}
+use mathlib.Core.Path.{_≡_, ap, _∙_}
 use native.Mathlib.Omega.{arith}
 use borrow.Author.Needs.{needs}
 use Rattle.calls.proofs.turning.turn.Statement.{statement}
 use Rattle.calls.proofs.turning.turn.Tie as tie
-use Rattle.calls.proofs.turning.turn.Reads as reads
-use Rattle.calls.proofs.turning.turn.Lts as lts
-use Rattle.calls.proofs.turning.heed.Reads as heed-reads
-use Rattle.calls.proofs.turning.take_first.Reads as take-first-reads
-use Rattle.exchanges.proofs.exchange_first.Reads as exchange-first-reads
-use Rattle.slices.proofs.byte_or.Reads as byte-or-reads
-use Rattle.steps.proofs.step_at.Reads as step-at-reads
-use Rattle.turns.proofs.poll_count.Reads as poll-count-reads
-use Rattle.turns.proofs.write_step.Reads as write-step-reads
 
--- src/turning.rt:74:9
 step-at-requires : tie.Need-step-at-requires
 step-at-requires c κs = sound-slot ((c .before .before .before .before .before .before .pre) .sound)
 
--- src/turning.rt:75:9
 write-step-requires : tie.Need-write-step-requires
 write-step-requires c κs = (sound-pages ((c .before .before .before .before .before .before .before .before .before .before .pre) .sound), sized _ _ ((c .before .before .before .before .before .before .before .before .before .before .pre) .sound .part) .narrow, (c .before .before .before .step-at) .ensures .1, search needs, search needs)
 
--- src/turning.rt:76:9
 byte-or-requires : tie.Need-byte-or-requires
 byte-or-requires c κs = search needs
 
--- src/turning.rt:77:70
 mul-exchange-first : tie.Need-mul-exchange-first
 mul-exchange-first c = search needs
 
@@ -50,50 +29,41 @@ mul-exchange-first c = search needs
 long : (e : tie.After-struct-known) → length (e .before .before .before .before .before .before .before .before .before .before .before .before .before .before .before .before .before .before .before .args .frame .now) ≡ 272
 long e = search needs
 
--- src/turning.rt:77:5
 exchange-first-requires : tie.Need-exchange-first-requires
-exchange-first-requires c κs = 
+exchange-first-requires c κs =
     let a = (c .before .before .before .before .before .before .before .before .before .before .before .before .before .before .before .before .before .before .before .args) in
     let room : length (a .reply .now) ≡ 272 = search needs in
     let k = written-taken (a .g) (heldIn (a .block .now) (a .array .now)) (a .s) (a .log .now) (c .before .before .before .before .before .before .before .before .before .before .before .before .before .before .before .before .before .before .before .pre) (a .payload .now) (a .staged .now) (a .frame .now) (long c)
     ((c .before .before .before .before .before .before .before .before .before .before .before .before .step-at) .ensures .0 (a .g)) ((c .before .before .before .before .before .before .before .before .write-step) .ensures) in
     ((c .before .before .before .before .before .before .before .before .before .before .before .before .before .before .before .before .before .before .before .pre) .part, k .0, omega (arith, k .1, room), k .2, (c .before .before .before .before .before .before .before .before .before .before .before .before .before .before .before .before .before .before .before .pre) .room)
 
--- src/turning.rt:78:9
 take-first-requires : tie.Need-take-first-requires
-take-first-requires c κs = 
+take-first-requires c κs =
     let a = (c .before .before .before .before .before .before .before .before .before .before .before .before .before .before .before .before .before .before .before .before .before .before .before .before .before .before .before .args) in
     let k = written-taken (a .g) (heldIn (a .block .now) (a .array .now)) (a .s) (a .log .now) (c .before .before .before .before .before .before .before .before .before .before .before .before .before .before .before .before .before .before .before .before .before .before .before .before .before .before .before .pre) (a .payload .now) (a .staged .now) (a .frame .now) (long (c .before .before .before .before .before .before .before .before))
     ((c .before .before .before .before .before .before .before .before .before .before .before .before .before .before .before .before .before .before .before .before .step-at) .ensures .0 (a .g)) ((c .before .before .before .before .before .before .before .before .before .before .before .before .before .before .before .before .write-step) .ensures) in
     ((c .before .before .before .before .before .before .before .before .before .before .before .before .before .before .before .before .before .before .before .before .before .before .before .before .before .before .before .pre) .sound, (c .before .before .before .before .before .before .before .before .before .before .before .before .before .before .before .before .before .before .before .before .step-at) .ensures .0 (a .g), search needs, reply-reaches ((c .before .before .before .before .before .before .before .before .before .before .before .before .before .before .before .before .write-step) .result) ((c .before .before .before .before .before .before .before .before .before .before .before .before .before .before .before .before .write-step) .last .1 .1 .1 .1 .1 .0) ((c .before .before .before .before .before .before .before .exchange-first) .last .1 .1 .1 .1 .0) ((c .before .before .before .before .before .before .before .exchange-first) .ensures .0) (k .0))
 
--- src/turning.rt:80:17
 heed-requires : tie.Need-heed-requires
 heed-requires c κs = search needs
 
--- src/turning.rt:81:17
 add-t32 : tie.Need-add-t32
 add-t32 c = omega (arith, (c .before .before .before .before .before .before .before .before .before .before .before .before .before .before .before .before .before .before .before .before .before .before .before .before .before .before .before .before .before .before .pre) .frames)
 
--- src/turning.rt:82:26
 poll-count-requires : tie.Need-poll-count-requires
 poll-count-requires c κs = search needs
 
--- src/turning.rt:82:16
 add-t39 : tie.Need-add-t39
 add-t39 c = omega (arith, (c .before .before .before .before .before .before .before .before .before .before .before .before .before .before .before .before .before .before .before .before .before .before .before .before .before .before .before .before .before .before .before .before .pre) .polls, (c .before .poll-count) .ensures .1)
 
--- src/turning.rt:56:1
 same-length : tie.Need-same-length
 same-length c = array-long ((c .before .before .before .before .before .before .before .before .before .before .before .before .exchange-first) .ensures .0)
 
--- src/turning.rt:56:1
 same-length-2 : tie.Need-same-length-2
 same-length-2 c = search needs
 
--- src/turning.rt:56:1
 returns : tie.Need-returns
-returns c = 
+returns c =
     let a = (c .before .before .before .before .before .before .before .before .before .before .before .before .before .before .before .before .before .before .before .before .before .before .before .before .before .before .before .before .before .before .before .before .args) in
     let e = (c .before .before .before .before .before .before .before .before .before .before .before .before .before .before .before .before .before .before .before .before .before .before .before .before .before .step-at) .ensures .0 (a .g) in
     let f = written-frame (a .g) (heldIn (a .block .now) (a .array .now)) (a .s) (a .log .now) (c .before .before .before .before .before .before .before .before .before .before .before .before .before .before .before .before .before .before .before .before .before .before .before .before .before .before .before .before .before .before .before .before .pre) (a .payload .now) (a .staged .now) (a .frame .now) (long (c .before .before .before .before .before .before .before .before .before .before .before .before .before)) e
