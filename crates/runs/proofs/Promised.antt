@@ -21,12 +21,12 @@ use Rattle.state.specs.Outcomes.{framed}
 use Rattle.slots.specs.Plans.{Asked, bound}
 use Rattle.slots.specs.Refusals.{badScript, lateRefusal, earlyRefusal, orElse, callRefusal, rawRefusal}
 use Rattle.slots.specs.Calls.{Out, refused}
-use Rattle.slots.specs.Lists.{isRefusal}
+use Rattle.slots.specs.Lists.{Op, isRefusal}
 use Rattle.slots.proofs.Parts.{cases}
 use Rattle.runs.specs.declared.Done.{Done}
 use Rattle.blocks.specs.Promises.{heldIn}
 use Rattle.runs.specs.Exchange.{Canonical}
-use Rattle.runs.specs.Promises.{keptIn, Leaves}
+use Rattle.runs.specs.Promises.{keptIn, Leaves, countsOf, Promise, Called}
 
 -- ---- which answers are refusals
 
@@ -106,3 +106,17 @@ leaves-sent x t held l₀ r kept ys l b e form back answer log frames polls coun
 pub leaves-none : {o : Out} {t : State} {held l₀ : List ℕ} {r : Done} {kept ys l : List ℕ} (b : List ℕ) → length b ≡ 0 → Leaves o t held l₀ r kept ys l b → Leaves o t held l₀ r kept ys l []
 leaves-none [] e w = w
 leaves-none (x ∷ b) e w = absurd (omega arith)
+
+-- a caller of the C interface is told the answer's number and the three counts
+pub told : {o : Op} {held xs : List ℕ} {d : Done} {r : ℕ} {kept ys l counts b : List ℕ} → (r ≡ numberOf (d .answer)) × (counts ≡ countsOf d)
+    → Promise o held xs d kept ys l b → Called o held xs r kept ys l counts b
+told t w =
+    record {
+      answer = t .0 ∙ ap numberOf (w .answer);
+      block = w .block;
+      array = w .array;
+      log = w .log;
+      counts = t .1 ∙ (λ i. w .frames i ∷ w .polls i ∷ w .count i ∷ []);
+      lent = w .lent;
+      holds = w .holds;
+    }

@@ -4,8 +4,8 @@ use mathlib.Core.List.{List}
 use Prim.Native.Nat.{ℕ}
 use lib.ListN.{length}
 use Rattle.slices.specs.Lists.{over}
-use Rattle.driver.specs.declared.Driver.{Driver}
-use Rattle.driver.specs.Step.{frameIn}
+use Rattle.slots.specs.declared.Driver.{Driver}
+use Rattle.worlds.specs.Step.{frameIn}
 use borrow.Author.Needs.{needs}
 use Rattle.slipknoll.proofs.slipknoll_driver_frame.Statement.{statement}
 use Rattle.slipknoll.proofs.slipknoll_driver_frame.Tie as tie

@@ -2,8 +2,8 @@
 use mathlib.Core.Path.{ap, _∙_}
 use lib.ListN.{length}
 use Rattle.slices.specs.Lists.{over}
-use Rattle.driver.specs.declared.Driver.{Driver}
-use Rattle.driver.specs.Step.{stagedIn, tookIn, nextIn}
+use Rattle.slots.specs.declared.Driver.{Driver}
+use Rattle.worlds.specs.Step.{stagedIn, tookIn, nextIn}
 use Rattle.driver_blocks.specs.Block.{encodeDriver}
 use borrow.Author.Needs.{needs}
 use Rattle.slipknoll.proofs.slipknoll_driver_next.Statement.{statement}

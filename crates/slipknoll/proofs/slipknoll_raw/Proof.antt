@@ -1,6 +1,6 @@
 -- `slipknoll::slipknoll_raw` meets its contract: the call keeps its promise on the block, and its caller is told what it handed back. Assumes nothing.
 use borrow.Author.Needs.{needs}
-use Rattle.calls.proofs.Told.{told-lent}
+use Rattle.runs.proofs.Promised.{told}
 use Rattle.slipknoll.proofs.slipknoll_raw.Statement.{statement}
 use Rattle.slipknoll.proofs.slipknoll_raw.Tie as tie
 
@@ -20,7 +20,7 @@ same-length-3 : tie.Need-same-length-3
 same-length-3 c = search needs
 
 returns : tie.Need-returns
-returns c = told-lent _ _ _ _ _ _ _ _ _ _ (c .tell .ensures) _ (c .before .before .before .before .before .before .before .before .raw .ensures)
+returns c = told (c .tell .ensures) (c .before .before .before .before .before .before .before .before .raw .ensures)
 
 pub slipknoll-raw-spec : {M : Type 1} → statement M
 slipknoll-raw-spec =

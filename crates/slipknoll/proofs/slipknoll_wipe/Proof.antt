@@ -1,6 +1,6 @@
 -- `slipknoll::slipknoll_wipe` meets its contract: the call keeps its promise on the block, and its caller is told what it handed back. Assumes nothing.
 use borrow.Author.Needs.{needs}
-use Rattle.calls.proofs.Told.{told}
+use Rattle.runs.proofs.Promised.{told}
 use Rattle.slipknoll.proofs.slipknoll_wipe.Statement.{statement}
 use Rattle.slipknoll.proofs.slipknoll_wipe.Tie as tie
 
@@ -17,7 +17,7 @@ same-length-2 : tie.Need-same-length-2
 same-length-2 c = search needs
 
 returns : tie.Need-returns
-returns c = told _ _ _ _ _ _ _ _ _ _ (c .tell .ensures) (c .before .before .before .before .before .before .wipe .ensures)
+returns c = told (c .tell .ensures) (c .before .before .before .before .before .before .wipe .ensures)
 
 pub slipknoll-wipe-spec : {M : Type 1} → statement M
 slipknoll-wipe-spec =
