@@ -5,11 +5,11 @@ ghost use lib.ListN.{length};
 ghost use Rattle.orders.specs.Messages.{textOf};
 ghost use Rattle.outline.specs.Texts.{faultText};
 ghost use Rattle.outline.specs.Output.{Printed};
+use crate::effects;
 use crate::lines;
 use crate::output;
 use crate::session;
 use crate::session::Session;
-use crate::steps;
 use crate::store;
 use libc::STDIN_FILENO;
 use orders::Fault;
@@ -129,7 +129,7 @@ fn act_on(
 {
     let r = orders::read(line);
     match r {
-        Reading::Order(o) => steps::obey(o, s, line, block, array, junk, log, out, text),
+        Reading::Order(o) => effects::obey(o, s, line, block, array, junk, log, out, text),
         Reading::Fault(f) => tell(s, f, text),
     }
 }

@@ -5,13 +5,13 @@ ghost use Prim.Native.Nat.{_≤_};
 ghost use lib.ListN.{length};
 use session::Session;
 
+mod effects;
 mod input;
 mod junk;
 mod lengths;
 mod lines;
 mod output;
 mod session;
-mod steps;
 mod store;
 
 // The arrays that live as long as the program. The promise gives the length alone, which lending them needs.
@@ -64,7 +64,7 @@ fn run(
 )
     requires { ⌜ 128 ≤ length (now text) ⌝ }
 {
-    let s = steps::start(block, array);
+    let s = effects::start(block, array);
     let t = read_all(s, block, array, junk, log, out, text, line);
     let e = input::last_line(t, block, array, junk, log, out, text, line);
     output::flush(e, text);

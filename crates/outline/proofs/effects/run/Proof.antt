@@ -1,4 +1,4 @@
--- `outline::steps::run` meets its contract: the step goes on the junk and the buffers as they were made ready, and what it leaves is printed.
+-- `outline::effects::run` meets its contract: the step goes on the junk and the buffers as they were made ready, and what it leaves is printed.
 -- Assumes nothing.
 use Rattle.outline.proofs.Printing.{printed-from}
 use Rattle.outline.proofs.Acting.{acts-on}
@@ -11,8 +11,8 @@ use mathlib.Core.List.{[], _∷_}
 use mathlib.Core.Path.{ap}
 use mathlib.Core.Path.{_∙_}
 use borrow.Author.Needs.{needs}
-use Rattle.outline.proofs.steps.run.Statement.{statement}
-use Rattle.outline.proofs.steps.run.Tie as tie
+use Rattle.outline.proofs.effects.run.Statement.{statement}
+use Rattle.outline.proofs.effects.run.Tie as tie
 
 seed-requires : tie.Need-seed-requires
 seed-requires c κs = search needs

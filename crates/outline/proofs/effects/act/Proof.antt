@@ -1,8 +1,8 @@
--- `outline::steps::act` meets its contract: each arm makes the one call that its command names. Assumes nothing.
+-- `outline::effects::act` meets its contract: each arm makes the one call that its command names. Assumes nothing.
 use mathlib.Core.Path.{refl}
 use borrow.Author.Needs.{needs}
-use Rattle.outline.proofs.steps.act.Statement.{statement}
-use Rattle.outline.proofs.steps.act.Tie as tie
+use Rattle.outline.proofs.effects.act.Statement.{statement}
+use Rattle.outline.proofs.effects.act.Tie as tie
 
 enum-told : tie.Need-enum-told
 enum-told c = search needs
@@ -122,30 +122,22 @@ same-length-14 : tie.Need-same-length-14
 same-length-14 c = search needs
 
 returns-6 : tie.Need-returns-6
-returns-6 c =
-    rw ((c .before .before .before .before .before .before .enum-told6) .given .1)
-    ((c .before .before .slipknoll-send) .ensures .0, (λ i. record { block = (c .before .before .slipknoll-send) .ensures .1 i; array = (c .before .before .before .before .before .before .before .before .before .before .before .before .before .before .args) .array .now; log = (c .before .before .before .before .before .before .before .before .before .before .before .before .before .before .args) .log .now; out = (c .before .before .slipknoll-send) .ensures .2 i; counts = (c .before .before .before .before .before .before .before .before .before .before .before .before .before .before .args) .counts .now }))
+returns-6 c = rw ((c .before .before .before .before .before .before .enum-told6) .given .1) ((c .before .before .slipknoll-send) .ensures, (refl, refl))
 
 same-length-15 : tie.Need-same-length-15
 same-length-15 c = search needs
 
 returns-7 : tie.Need-returns-7
-returns-7 c =
-    rw ((c .before .before .before .before .before .enum-told7) .given .1)
-    ((c .before .before .slipknoll-end-busy) .ensures .0, (λ i. record { block = (c .before .before .slipknoll-end-busy) .ensures .1 i; array = (c .before .before .slipknoll-end-busy) .ensures .2 i; log = (c .before .before .before .before .before .before .before .before .before .before .before .before .before .args) .log .now; out = (c .before .before .before .before .before .before .before .before .before .before .before .before .before .args) .out .now; counts = (c .before .before .before .before .before .before .before .before .before .before .before .before .before .args) .counts .now }))
+returns-7 c = rw ((c .before .before .before .before .before .enum-told7) .given .1) ((c .before .before .slipknoll-end-busy) .ensures, (refl, refl), refl)
 
 returns-8 : tie.Need-returns-8
-returns-8 c =
-    rw ((c .before .before .enum-told8) .given .1)
-    ((c .slipknoll-move-pin) .ensures .0, (λ i. record { block = (c .slipknoll-move-pin) .ensures .1 i; array = (c .before .before .before .before .before .before .before .before .before .before .args) .array .now; log = (c .before .before .before .before .before .before .before .before .before .before .args) .log .now; out = (c .before .before .before .before .before .before .before .before .before .before .args) .out .now; counts = (c .before .before .before .before .before .before .before .before .before .before .args) .counts .now }))
+returns-8 c = rw ((c .before .before .enum-told8) .given .1) ((c .slipknoll-move-pin) .ensures, refl, (refl, refl), refl)
 
 same-length-16 : tie.Need-same-length-16
 same-length-16 c = search needs
 
 returns-9 : tie.Need-returns-9
-returns-9 c =
-    rw ((c .before .before .before .before .before .enum-told9) .given .1)
-    ((c .before .before .slipknoll-cut) .ensures .0, (λ i. record { block = (c .before .before .slipknoll-cut) .ensures .1 i; array = (c .before .before .slipknoll-cut) .ensures .2 i; log = (c .before .before .before .before .before .before .before .before .before .before .before .before .before .args) .log .now; out = (c .before .before .before .before .before .before .before .before .before .before .before .before .before .args) .out .now; counts = (c .before .before .before .before .before .before .before .before .before .before .before .before .before .args) .counts .now }))
+returns-9 c = rw ((c .before .before .before .before .before .enum-told9) .given .1) ((c .before .before .slipknoll-cut) .ensures, (refl, refl), refl)
 
 returns-10 : tie.Need-returns-10
 returns-10 c = rw ((c .enum-told10) .given .1) (refl, refl)

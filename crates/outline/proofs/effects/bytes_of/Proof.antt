@@ -1,7 +1,7 @@
--- `outline::steps::bytes_of` meets its contract: the count lies within the buffer, as `unhex` promises. Assumes nothing.
+-- `outline::effects::bytes_of` meets its contract: the count lies within the buffer, as `unhex` promises. Assumes nothing.
 use borrow.Author.Needs.{needs}
-use Rattle.outline.proofs.steps.bytes_of.Statement.{statement}
-use Rattle.outline.proofs.steps.bytes_of.Tie as tie
+use Rattle.outline.proofs.effects.bytes_of.Statement.{statement}
+use Rattle.outline.proofs.effects.bytes_of.Tie as tie
 
 lesser-requires : tie.Need-lesser-requires
 lesser-requires c κs = search needs

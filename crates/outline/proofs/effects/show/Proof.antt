@@ -1,11 +1,11 @@
--- `outline::steps::show` meets its contract: a call and an event are told apart as in the definition. Assumes nothing.
+-- `outline::effects::show` meets its contract: a call and an event are told apart as in the definition. Assumes nothing.
 use mathlib.Core.Bool.{Bool}
 use mathlib.Core.Path.{sym, ap, _∙_}
 use Rattle.outline.specs.Steps.{shownBy}
 use Rattle.outline.proofs.Printing.{printed-as}
 use borrow.Author.Needs.{needs}
-use Rattle.outline.proofs.steps.show.Statement.{statement}
-use Rattle.outline.proofs.steps.show.Tie as tie
+use Rattle.outline.proofs.effects.show.Statement.{statement}
+use Rattle.outline.proofs.effects.show.Tie as tie
 
 is-call-requires : tie.Need-is-call-requires
 is-call-requires c κs = search needs
