@@ -21,9 +21,6 @@ use slots::Driver;
 use slots::Kind;
 use state::Answer;
 
-mod finish;
-mod turning;
-
 // The recipe is stored in the slot.
 pub fn put(
     block: &mut [u8; 765],
@@ -290,10 +287,10 @@ fn run(
         polls: 0,
         cut: false,
     };
-    let e = turning::drive(g, s, block, array, payload, &mut staged, script, log);
-    let a = finish::answer(e);
-    let n = finish::deliver(kind, a, &staged, buffer);
-    finish::lose(g, e, block, array, junk);
+    let e = sessions::drive(g, s, block, array, payload, &mut staged, script, log);
+    let a = endings::answer(e);
+    let n = endings::deliver(kind, a, &staged, buffer);
+    endings::lose(g, e, block, array, junk);
     Done {
         answer: a,
         frames: e.frames,

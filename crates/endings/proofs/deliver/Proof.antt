@@ -1,11 +1,11 @@
--- `calls::finish::deliver` meets its contract. Assumes nothing.
+-- `endings::deliver` meets its contract. Assumes nothing.
 use Rattle.slices.proofs.Laws.{tail-part}
 use Rattle.slices.specs.Lists.{over}
 use lib.ListN.{take}
 use mathlib.Core.Path.{_∙_}
 use borrow.Author.Needs.{needs}
-use Rattle.calls.proofs.finish.deliver.Statement.{statement}
-use Rattle.calls.proofs.finish.deliver.Tie as tie
+use Rattle.endings.proofs.deliver.Statement.{statement}
+use Rattle.endings.proofs.deliver.Tie as tie
 
 count-of-requires : tie.Need-count-of-requires
 count-of-requires c κs = search needs

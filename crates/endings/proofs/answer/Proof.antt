@@ -1,9 +1,9 @@
--- `calls::finish::answer` meets its contract. Assumes nothing.
+-- `endings::answer` meets its contract. Assumes nothing.
 use Rattle.slots.specs.Calls.{answerIn}
 use mathlib.Core.Path.{ap, _∙_}
 use borrow.Author.Needs.{needs}
-use Rattle.calls.proofs.finish.answer.Statement.{statement}
-use Rattle.calls.proofs.finish.answer.Tie as tie
+use Rattle.endings.proofs.answer.Statement.{statement}
+use Rattle.endings.proofs.answer.Tie as tie
 
 tell-requires : tie.Need-tell-requires
 tell-requires c κs = search needs

@@ -1,4 +1,4 @@
--- `calls::finish::lose` meets its contract. Assumes nothing.
+-- `endings::lose` meets its contract. Assumes nothing.
 use mathlib.Core.Bool.{Bool, true, false, cond}
 use mathlib.Core.Path.{_≡_, sym, ap, _∙_}
 use Rattle.state.specs.Memory.{State}
@@ -9,8 +9,8 @@ use borrow.Author.Tests.{not-true, not-false}
 use mathlib.Core.Bool.{Bool, cond}
 use mathlib.Core.Path.{sym, ap, _∙_}
 use borrow.Author.Needs.{needs}
-use Rattle.calls.proofs.finish.lose.Statement.{statement}
-use Rattle.calls.proofs.finish.lose.Tie as tie
+use Rattle.endings.proofs.lose.Statement.{statement}
+use Rattle.endings.proofs.lose.Tie as tie
 
 returns : tie.Need-returns
 unfolding lastOf

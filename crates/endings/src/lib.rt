@@ -1,4 +1,5 @@
 // What a call does when its run has ended: a get's recipe goes to the lent buffer, and a cut takes the supply.
+// Internal to this repository: a caller here meets each `requires`; no entry point is in this crate.
 ghost use mathlib.Core.Path.{_≡_};
 ghost use mathlib.Core.Bool.{true};
 ghost use Prim.Native.Nat.{_+_};

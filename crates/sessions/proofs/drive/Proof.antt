@@ -1,4 +1,4 @@
--- `calls::turning::drive` meets its contract. Assumes nothing.
+-- `sessions::drive` meets its contract. Assumes nothing.
 use Rattle.runs.proofs.Loop.{Along, along-start, start-going, along-going, along-turned, turned-less, along-ended}
 use Rattle.runs.specs.Runs.{boundBy}
 use Rattle.runs.specs.Exchange.{Canonical}
@@ -10,8 +10,8 @@ use mathlib.Core.Bool.{true}
 use mathlib.Core.Path.{_≡_, sym, _∙_}
 use borrow.Author.Tests.{not-true, not-false}
 use borrow.Author.Needs.{needs}
-use Rattle.calls.proofs.turning.drive.Statement.{statement}
-use Rattle.calls.proofs.turning.drive.Tie as tie
+use Rattle.sessions.proofs.drive.Statement.{statement}
+use Rattle.sessions.proofs.drive.Tie as tie
 
 abbrev Inv-loop : tie.InvT-loop
 Inv-loop g block₀ array₀ payload staged₀ script log₀ frame₀ reply₀ s₀ block array staged log frame reply s =

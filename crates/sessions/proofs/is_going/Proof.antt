@@ -1,9 +1,9 @@
--- `calls::turning::is_going` meets its contract. Assumes nothing.
+-- `sessions::is_going` meets its contract. Assumes nothing.
 use mathlib.Core.Bool.{not}
 use mathlib.Core.Path.{ap}
 use borrow.Author.Needs.{needs}
-use Rattle.calls.proofs.turning.is_going.Statement.{statement}
-use Rattle.calls.proofs.turning.is_going.Tie as tie
+use Rattle.sessions.proofs.is_going.Statement.{statement}
+use Rattle.sessions.proofs.is_going.Tie as tie
 
 has-ended-requires : tie.Need-has-ended-requires
 has-ended-requires c κs = search needs

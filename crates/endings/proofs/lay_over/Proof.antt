@@ -1,12 +1,12 @@
--- `calls::finish::lay_over` meets its contract. Assumes nothing.
-use Rattle.calls.proofs.Delivery.{laid}
+-- `endings::lay_over` meets its contract. Assumes nothing.
+use Rattle.endings.proofs.Delivery.{laid}
 use lib.ListN.{length, length-take}
 use native.Mathlib.Omega.{arith}
 use Prim.Native.Nat.{ℕ, min}
 use mathlib.Core.Path.{_∙_, ap}
 use borrow.Author.Needs.{needs}
-use Rattle.calls.proofs.finish.lay_over.Statement.{statement}
-use Rattle.calls.proofs.finish.lay_over.Tie as tie
+use Rattle.endings.proofs.lay_over.Statement.{statement}
+use Rattle.endings.proofs.lay_over.Tie as tie
 
 lesser-requires : tie.Need-lesser-requires
 lesser-requires c κs = search needs

@@ -1,4 +1,4 @@
--- `calls::turning::turn` meets its contract. Assumes nothing.
+-- `sessions::turn` meets its contract. Assumes nothing.
 use Rattle.runs.proofs.Turns.{written-taken, written-frame, reply-reaches, array-long, turned}
 use Rattle.slots.specs.Plans.{isWait}
 use mathlib.Core.Bool.{cond}
@@ -10,8 +10,8 @@ use lib.ListN.{length}
 use mathlib.Core.Path.{_≡_, ap, _∙_}
 use native.Mathlib.Omega.{arith}
 use borrow.Author.Needs.{needs}
-use Rattle.calls.proofs.turning.turn.Statement.{statement}
-use Rattle.calls.proofs.turning.turn.Tie as tie
+use Rattle.sessions.proofs.turn.Statement.{statement}
+use Rattle.sessions.proofs.turn.Tie as tie
 
 step-at-requires : tie.Need-step-at-requires
 step-at-requires c κs = sound-slot ((c .before .before .before .before .before .before .pre) .sound)

@@ -1,9 +1,9 @@
--- `calls::turning::take_first` meets its contract. Assumes nothing.
+-- `sessions::take_first` meets its contract. Assumes nothing.
 use lib.Seq.{length-take-le}
 use mathlib.Core.Path.{sym}
 use borrow.Author.Needs.{needs}
-use Rattle.calls.proofs.turning.take_first.Statement.{statement}
-use Rattle.calls.proofs.turning.take_first.Tie as tie
+use Rattle.sessions.proofs.take_first.Statement.{statement}
+use Rattle.sessions.proofs.take_first.Tie as tie
 
 slice-aggregate-take-step : tie.Need-slice-aggregate-take-step
 slice-aggregate-take-step c = sym (length-take-le ((c .before .before .before .before .args) .n) ((c .before .before .before .before .args) .reply .now) ((c .before .before .before .before .pre) .3))

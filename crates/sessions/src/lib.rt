@@ -1,4 +1,5 @@
 // A call's run: one frame after another, until the driver ends or a cut ends it.
+// Internal to this repository: a caller here meets each `requires`; no entry point is in this crate.
 ghost use mathlib.Core.Path.{_≡_};
 ghost use mathlib.Core.Bool.{cond, not};
 ghost use Prim.Native.Nat.{_≤_};

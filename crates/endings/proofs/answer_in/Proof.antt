@@ -1,9 +1,9 @@
--- `calls::finish::answer_in` meets its contract. Assumes nothing.
+-- `endings::answer_in` meets its contract. Assumes nothing.
 use Rattle.slots.specs.Calls.{answerIn}
 use mathlib.Core.Path.{sym, ap}
 use borrow.Author.Needs.{needs}
-use Rattle.calls.proofs.finish.answer_in.Statement.{statement}
-use Rattle.calls.proofs.finish.answer_in.Tie as tie
+use Rattle.endings.proofs.answer_in.Statement.{statement}
+use Rattle.endings.proofs.answer_in.Tie as tie
 
 enum-told : tie.Need-enum-told
 enum-told c = search needs

@@ -1,4 +1,4 @@
--- `calls::turning::heed` meets its contract. Assumes nothing.
+-- `sessions::heed` meets its contract. Assumes nothing.
 use Rattle.worlds.specs.Turns.{with}
 use Rattle.slots.specs.Driver.{ended}
 use Rattle.slots.specs.declared.Course.{Course}
@@ -7,8 +7,8 @@ use borrow.Author.Tests.{eq-eqb, ne-eqb}
 use mathlib.Core.Bool.{Bool, cond}
 use mathlib.Core.Path.{sym, ap, _∙_}
 use borrow.Author.Needs.{needs}
-use Rattle.calls.proofs.turning.heed.Statement.{statement}
-use Rattle.calls.proofs.turning.heed.Tie as tie
+use Rattle.sessions.proofs.heed.Statement.{statement}
+use Rattle.sessions.proofs.heed.Tie as tie
 
 end-with-requires : tie.Need-end-with-requires
 end-with-requires c κs = search needs
