@@ -11,6 +11,7 @@ pub mod Refused
 pub mod Driven
 pub mod Planned
 pub mod Sent
+pub mod Exactly
 pub mod Listed
 pub mod Verdicts
 pub mod Kept

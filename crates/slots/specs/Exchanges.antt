@@ -141,6 +141,27 @@ module _ (g : Geometry) (a : Asked) where
     plain : {b k : ℕ} {x : Step} {xs : List Step} {l d : Bool} {h : Holding} {e : Exchange} {es : List Exchange} {t : Result}
         → isPlain x ≡ true → Sent e x h → Follows (a .limit) xs l d (takenBy x g (a .kind) h (e .reply)) es k t → Follows b (x ∷ xs) l d h (e ∷ es) k t
 
+-- ---- where a call stops
+
+-- an exchange that stops no call: it is not cut, and a poll's bits 5-2 are 1001
+abbrev pub Calm : Exchange → Type 0
+Calm e = (e .byte ≡ 2 → ⊥) × (e .frame ≡ statusFrame → Ours (statusIn e))
+
+-- the last exchange of a call says why it comes to this end: 11 at a cut; 8 at a poll whose bits 5-2 are not 1001; 9 at a poll that finds the chip busy; 10
+-- and the plan's end at none of these
+pub data Why : Exchange → Result → Type 0 where
+  at-cut : {e : Exchange} → e .byte ≡ 2 → Why e (stopped Answers.Cut)
+  at-foreign : {e : Exchange} → Polled e → (Ours (statusIn e) → ⊥) → Why e (stopped Answers.Device)
+  at-busy : {e : Exchange} → FoundBusy e → Why e (stopped Answers.Busy)
+  at-seal : {e : Exchange} → Calm e → (e .frame ≡ statusFrame → ⊥) → Why e (stopped Answers.Sealed)
+  at-end : {e : Exchange} {h : Holding} → Calm e → (e .frame ≡ statusFrame → IsReady (statusIn e)) → Why e (finished h)
+
+-- and none before it stops the call
+abbrev pub StopsAt : List Exchange → Result → Type 0
+StopsAt [] t = ⊥
+StopsAt (e ∷ []) t = Why e t
+StopsAt (e ∷ (f ∷ es)) t = Calm e × StopsAt (f ∷ es) t
+
 -- a call's frames, polls, log and answer, as its plan has them
 pub record AsPlanned (g : Geometry) (v : Request) (h : Holding) (es : List Exchange) (o : Out) : Type 0 where
   pub result : Result
