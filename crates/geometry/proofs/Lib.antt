@@ -2,4 +2,3 @@ pub mod Pages
 pub mod Runs
 pub mod Sectors
 pub mod Addresses
-pub mod Bench
