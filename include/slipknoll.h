@@ -1,7 +1,7 @@
 /*
- * slipknoll.h: an AT45DB081D data flash chip with 264-byte pages, as document
- * 01 condenses it, held and driven through libslipknoll.a; and the slot driver
- * that keeps recipes in such a chip, held here or real.
+ * slipknoll.h: an AT45DB081D data flash chip with 264-byte pages, as
+ * docs/SPECIFICATION.md describes it, held and driven through libslipknoll.a;
+ * and the slot driver that keeps recipes in such a chip, held here or real.
  *
  * The library keeps no state and allocates nothing. The caller holds a chip as
  * two pieces of memory:
@@ -25,8 +25,9 @@
  * examples/c/recipes.c uses all three, and says how to compile it.
  *
  * Answers. A function that returns uint8_t returns the number of an answer in
- * 01's table (the driver's also SLIPKNOLL_RUNNING: no answer yet). 0 is accepted. With 1 to 7 the call changed nothing: record,
- * array, reply, log and get buffer are as they were, byte for byte. 8 to 13,
+ * the table below (the driver's also SLIPKNOLL_RUNNING: no answer yet). 0 is
+ * accepted. With 1 to 7 the call changed nothing: record, array, reply, log and
+ * get buffer are as they were, byte for byte. 8 to 13,
  * which only the slot calls and the driver have, end a call that was under
  * way; what its frames have done stays.
  *
@@ -71,27 +72,27 @@ extern "C" {
 #define SLIPKNOLL_DRIVER_LEN 48          /* the driver's state */
 #define SLIPKNOLL_DRIVER_FRAME_LEN 272   /* the longest frame of the driver */
 
-/* ---- Answers, with 01's words. */
+/* ---- Answers. */
 
 #define SLIPKNOLL_ACCEPTED 0
-/* part: array length not one of the two, or the operation under way names a
-   page, block or sector beyond the array */
+/* part: no part has an array of this length, or the part lacks the page, block
+   or sector that the operation under way names, or one of its set */
 #define SLIPKNOLL_PART 1
-/* frame: length outside 1 to 1,100, or the reply's length is another */
+/* frame: empty or over 1,100 bytes, or the reply's length is another */
 #define SLIPKNOLL_FRAME 2
-/* slot: no such slot */
+/* slot: the part does not have it */
 #define SLIPKNOLL_SLOT 3
-/* limit: poll limit outside 1 to 1,000 */
+/* limit: poll limit 0, or over 1,000 */
 #define SLIPKNOLL_LIMIT 4
-/* size: recipe over 2,109 bytes, end of the patch over 2,109, or get buffer
-   under 2,109 */
+/* size: a recipe of more than 2,109 bytes, a patch that ends behind 2,109, a
+   get buffer of less than 2,109 bytes */
 #define SLIPKNOLL_SIZE 5
-/* log: shorter than six times the number of frames that the call can send */
+/* log: no room for six bytes of each frame that the call can send */
 #define SLIPKNOLL_LOG 6
-/* script: a byte over 2; or a cut, and junk of another length than
-   528 + array_len */
+/* script: a byte that is 3 or more; or a 2, and junk that has not 528 +
+   array_len bytes */
 #define SLIPKNOLL_SCRIPT 7
-/* chip: a status whose bits 5-2 are not 1001: no AT45DB081D, or a deep one */
+/* chip: a status without 1001 in bits 5-2: no AT45DB081D, or a deep one */
 #define SLIPKNOLL_CHIP 8
 /* busy: as many polls as the limit allows, and not ready */
 #define SLIPKNOLL_BUSY 9
@@ -99,9 +100,10 @@ extern "C" {
 #define SLIPKNOLL_SEALED 10
 /* cut: the script cut the supply */
 #define SLIPKNOLL_CUT 11
-/* blank: the slot's version is not 1, or its length is over 2,109 */
+/* blank: the slot holds no record: its first byte is not 1, or the length
+   behind it is over 2,109 */
 #define SLIPKNOLL_BLANK 12
-/* end: the patch would end beyond the stored length */
+/* end: the patch would end behind the recipe that is there */
 #define SLIPKNOLL_END 13
 /* Of slipknoll_driver_answer alone: the call has not ended, there is no answer. */
 #define SLIPKNOLL_RUNNING 255
@@ -116,10 +118,11 @@ extern "C" {
  * mark alone.
  *
  * The fields from SLIPKNOLL_AT_TAG to SLIPKNOLL_AT_DATA are the operation
- * under way.
+ * under way. Of these a tag reads the fields that are named at it below; the
+ * others may hold anything.
  */
-#define SLIPKNOLL_AT_PROTECTION 0   /* 16: protection register: byte j for sector j, in byte 0
-                                       bits 7-6 for 0a and bits 5-4 for 0b */
+#define SLIPKNOLL_AT_PROTECTION 0   /* 16: protection register: sector j has byte j, 0a bits
+                                       7-6 of byte 0, and 0b its bits 5-4 */
 #define SLIPKNOLL_AT_LOCKDOWN 16    /* 16: lockdown register, likewise */
 #define SLIPKNOLL_AT_USER 32        /* 64: security register, user bytes */
 #define SLIPKNOLL_AT_FACTORY 96     /* 64: security register, factory bytes */
@@ -143,10 +146,15 @@ extern "C" {
  * operation beyond every array: the calls that take an array and a record
  * then answer 1 (slipknoll_fresh, which reads no record, does not).
  *
- * Sectors of 7C, 30 and C7 are numbered 0 (0a), 1 (0b), j + 1 (sector j).
+ * Every tag reads the buffer field. Number, sectors and data are ignored where
+ * the tag is not said to have them.
+ *
+ * Sectors of 7C, 30 and C7 are numbered 0 (0a), 1 (0b), j + 1 (sector j). The
+ * short part has 0 and 1 alone: a number, or a bit of the set of a C7, beyond
+ * the part's sectors is answered 1 too.
  */
-#define SLIPKNOLL_TAG_IDLE 0x00
-/* with buffer 1 or 2, and a page */
+#define SLIPKNOLL_TAG_IDLE 0x00          /* buffer 0; nothing else is read */
+/* with buffer 1 or 2; number: page */
 #define SLIPKNOLL_TAG_PROGRAM 0x83       /* 83/86, 82/85: page becomes buffer */
 #define SLIPKNOLL_TAG_PROGRAM_OVER 0x88  /* 88/89: page becomes page AND buffer */
 #define SLIPKNOLL_TAG_TRANSFER 0x53      /* 53/55: buffer becomes page */
@@ -156,11 +164,11 @@ extern "C" {
 #define SLIPKNOLL_TAG_ERASE_PAGE 0x81          /* number: page */
 #define SLIPKNOLL_TAG_ERASE_BLOCK 0x50         /* number: block of eight pages */
 #define SLIPKNOLL_TAG_ERASE_SECTOR 0x7C        /* number: sector */
-#define SLIPKNOLL_TAG_ERASE_CHIP 0xC7          /* sectors: those found unsealed */
-#define SLIPKNOLL_TAG_ERASE_PROTECTION 0xCF    /* 3D 2A 7F CF */
-#define SLIPKNOLL_TAG_PROGRAM_PROTECTION 0xFC  /* 3D 2A 7F FC; data: 16 bytes */
+#define SLIPKNOLL_TAG_ERASE_CHIP 0xC7          /* sectors: those found unsealed; no number */
+#define SLIPKNOLL_TAG_ERASE_PROTECTION 0xCF    /* 3D 2A 7F CF; none of the three */
+#define SLIPKNOLL_TAG_PROGRAM_PROTECTION 0xFC  /* 3D 2A 7F FC; data: the first 16 bytes */
 #define SLIPKNOLL_TAG_LOCK_SECTOR 0x30         /* 3D 2A 7F 30; number: sector */
-#define SLIPKNOLL_TAG_PROGRAM_SECURITY 0x9B    /* data: 64 bytes */
+#define SLIPKNOLL_TAG_PROGRAM_SECURITY 0x9B    /* data: all 64 bytes */
 
 /*
  * ---- The chip.
@@ -200,27 +208,32 @@ extern "C" {
  *     lib.slipknoll_fresh(record, bytes(64), array, c.c_size_t(33792))
  *     reply = (c.c_uint8 * 2)()
  *     lib.slipknoll_send(record, array, c.c_size_t(33792), b"\xd7\x00", c.c_size_t(2), reply, c.c_size_t(2))
+ *     print("%02X" % reply[1])                                            # A4
  */
 
 /*
- * Makes a fresh chip: array and user bytes FFh, factory bytes as given, all
- * other bytes 0, marks off, WP high, idle. What record and array held before
- * does not matter. Answers 0, 1 (by the array's length alone).
+ * Makes a fresh chip, whatever record and array held before: FFh throughout
+ * the array and in the user bytes, the factory bytes as given, zeros in the
+ * other registers and in the buffers. No mark is set but that of WP, and
+ * nothing is under way. Answers 0, 1 (by the array's length alone).
  */
 uint8_t slipknoll_fresh(uint8_t *record, const uint8_t *factory, uint8_t *array, size_t array_len);
 
 /*
  * Sends one frame, the bytes of one chip-select period, straight to the chip.
  * The reply is as long as the frame: FFh where the chip gives no data. A
- * self-timed command (program, erase, transfer, compare, CF, FC, 30, 9B)
+ * self-timed command (program, erase, transfer, compare, 58/59, CF, FC, 30, 9B)
  * starts here and takes effect at slipknoll_end_busy; the array is not written
- * before. A frame that the chip ignores is answered 0 too. Answers 0, 1, 2.
+ * before. Buffers are written when the frame ends: by 84/87, by 82/85 their own,
+ * by FC and 9B the first 16 or 64 bytes of buffer 1. A frame that the chip
+ * ignores is answered 0 too. Answers 0, 1, 2.
  */
 uint8_t slipknoll_send(uint8_t *record, const uint8_t *array, size_t array_len, const uint8_t *frame, size_t frame_len, uint8_t *reply, size_t reply_len);
 
 /*
  * Ends the busy period: the operation under way takes effect, and the chip is
- * idle. Nothing changes in an idle chip. Answers 0, 1.
+ * idle. An idle chip stays as it is; its record is stored as by any call, with
+ * marks of 0 or 1 and 0 in the fields of the operation. Answers 0, 1.
  */
 uint8_t slipknoll_end_busy(uint8_t *record, uint8_t *array, size_t array_len);
 
@@ -232,27 +245,28 @@ uint8_t slipknoll_move_pin(uint8_t *record, bool high);
  * buffer 1, the next 264 buffer 2, and byte 528 + i array byte i where the
  * operation under way was erasing or programming that byte. Under CF or FC the
  * protection register becomes junk from byte 528 on, under 9B the user bytes,
- * and used is set; under 30 the sector is locked if junk[528] is at least 80h.
- * Protect and deep mark and the compare bit go to 0, the chip is idle, all
- * else keeps. Answers 0, 1, 7.
+ * and used is set; under 30 the sector is locked if junk[528] is 80h or more.
+ * The chip starts again idle, with compare bit, protect and deep cleared. What
+ * is not named here stays, the level of WP too. Answers 0, 1, 7.
  */
 uint8_t slipknoll_cut(uint8_t *record, uint8_t *array, size_t array_len, const uint8_t *junk, size_t junk_len);
 
 /*
  * ---- The slot calls.
  *
- * Slot s is block s: pages 8s to 8s + 7, 2,112 bytes. It holds version 1, the
- * recipe's length n in two bytes (big-endian), n recipe bytes, and zeros.
+ * Slot s is block s: pages 8s to 8s + 7, 2,112 bytes. In it stand a 1, the
+ * version; n, the recipe's length, high byte first; the recipe; and zeros to
+ * the end.
  *
- * A call first tests its arguments, 1 to 7 in this order, where they concern
- * it. Then it sends frames to the chip:
+ * A call first looks at its arguments: the lowest of 1 to 7 that applies to
+ * them is its answer. If none does, it sends frames to the chip:
  *
- *   wait    D7 00 until the status, the reply's second byte, has bit 7 set; at
- *           most poll_limit times. Bits 5-2 that are not 1001 end the call with
- *           8, before ready is looked at; poll_limit polls of a busy chip with 9.
+ *   wait    D7 00, again and again until bit 7 of the status, which is reply
+ *           byte 1, is set. Bits 5-2 that are not 1001 end the call with 8,
+ *           whatever bit 7 is; poll_limit polls of a busy chip with 9.
  *   seal    32 and 35, each with nineteen 00 behind it (20 bytes): protection
- *           and lockdown register. If by them and by bit 1 of the last status
- *           the slot's sector is sealed, the call ends with 10.
+ *           and lockdown register. The call ends with 10 if these, and bit 1 of
+ *           the status before them, tell that the slot's sector is sealed.
  *
  *   put     wait, seal; for each page 84 00 00 00 with 264 bytes (268), 83 with
  *           the page's address (4), wait
@@ -268,18 +282,18 @@ uint8_t slipknoll_cut(uint8_t *record, uint8_t *array, size_t array_len, const u
  * under 12 or 13 programs every page as it was, get always reads eight pages,
  * and a page is programmed whether or not its bytes are there already.
  *
- * Script. A byte for each frame says what happens after it: 0 the busy period
- * ends, 1 nothing, 2 the supply is cut with `junk` (as slipknoll_cut) and the
- * call ends with 11, before any other answer is looked at. Past its end it counts
- * as 0, so that an empty script is a chip that has done its work by the next
- * frame. A byte over 2 anywhere in the script is answered with 7, reached or
- * not; so is a 2 anywhere if the junk's length is not 528 + array_len. Without a
- * 2 the junk is not looked at and may have any length.
+ * Script. Its byte i says what follows frame i: 0 a busy end, 1 nothing, 2 a
+ * cut with `junk` (as slipknoll_cut), which ends the call with 11 whatever the
+ * reply was. Frames beyond the script have 0, so that an empty script is a chip
+ * that has done its work by the next frame. A byte of 3 or more anywhere in the
+ * script is answered with 7, reached or not; so is a 2 anywhere if the junk's
+ * length is not 528 + array_len. Without a 2 the junk is not looked at and may
+ * have any length.
  *
- * Log. Each frame sent writes six bytes: its length (two, big-endian) and its
- * first four bytes, FFh where it is shorter. The rest of the log keeps. The log
- * must have room for the frames that the call can send: see
- * SLIPKNOLL_PUT_LOG_LEN and the others.
+ * Log. Each frame writes a line of six bytes: its length, high byte first, and
+ * its first four bytes, with FFh for those that it has not. Behind the lines the
+ * log stays as it was. It must have room for the frames that the call can send:
+ * see SLIPKNOLL_PUT_LOG_LEN and the others.
  *
  * Counts. Every call, a refused one too, sets all three:
  *   counts[0]   frames that the call sent
@@ -308,9 +322,9 @@ uint8_t slipknoll_put(uint8_t *record, uint8_t *array, size_t array_len, size_t 
                       uint64_t *counts);
 
 /*
- * Changes bytes of a slot's recipe: `bytes` from `place` on, counted from the
- * recipe's first. The recipe's length stays; place + bytes_len may not be beyond
- * it (13) nor beyond 2,109 (5). Under 12 and 13 all frames are sent and the slot
+ * Changes bytes of a slot's recipe: those from `place` on become `bytes`, where
+ * place 0 is the first. The recipe grows no longer: place + bytes_len may not be
+ * over its length (13) nor over 2,109 (5). Under 12 and 13 all frames are sent and the slot
  * keeps its bytes. Answers 0, 1, 3 to 13.
  */
 uint8_t slipknoll_patch(uint8_t *record, uint8_t *array, size_t array_len, size_t slot,
@@ -354,8 +368,8 @@ uint8_t slipknoll_raw(uint8_t *record, uint8_t *array, size_t array_len,
  *
  * The slot calls above run this driver over the chip that the library holds.
  * With a real AT45DB081D, say behind a radio bridge, the caller carries the
- * frames: the driver is given the last reply and yields the next frame or the
- * end. It knows nothing of the link and never waits by itself.
+ * frames: the driver takes in a reply and hands out the frame that follows, or
+ * none at the end. It knows nothing of the link and never waits by itself.
  *
  * The caller lends it
  *
@@ -410,10 +424,10 @@ uint8_t slipknoll_raw(uint8_t *record, uint8_t *array, size_t array_len,
  * at all if need be; a link that can change bits unseen needs a checksum of its
  * own. A call given up so has written any number of pages: start it again.
  *
- * Waiting. A busy chip is asked again at once, poll_limit times. 83 is busy for
- * up to 35 ms and 50 for up to 75 ms (data sheet 002): let exchange() pause
- * before a D7 frame (frame[0] == 0xD7), or choose poll_limit so that as many
- * polls outlast this.
+ * Waiting. A busy chip is asked again at once, poll_limit times. A real one is
+ * busy for up to 35 ms with an 83 and for up to 75 ms with a 50, by the data
+ * sheet of 11/2017: let exchange() pause before a D7 frame (frame[0] == 0xD7),
+ * or choose poll_limit so that as many polls outlast this.
  *
  * What a listener sees of it, the frames' lengths and their first four bytes,
  * is the same whatever the recipes are. Send each frame whole, as it is, and

@@ -1,11 +1,10 @@
 //! Times put, patch, get and wipe on both parts, library and model over a
 //! record block alike.
 
-use std::hint::black_box;
-
 use at45db081d_model::{record, Call, Lent, Part};
 use slipknoll::{log_len, Chip, Run};
 
+use crate::opaque::black_box;
 use crate::{nanoseconds, FACTORY, REPEATS};
 
 const POLL_LIMIT: usize = 1;

@@ -2,11 +2,13 @@
 //! plain copy of as many bytes: `cargo run --release -p bench`.
 
 mod calls;
+mod opaque;
 
-use std::hint::black_box;
 use std::time::{Duration, Instant};
 
 use at45db081d_model::{Chip, Operation, Part};
+
+use opaque::black_box;
 
 /// How long one measurement lasts at least, and how many there are, turn by
 /// turn; the quickest counts.

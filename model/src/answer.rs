@@ -1,54 +1,53 @@
-//! Document 01, "Answers by number".
+//! The answers by their numbers (12.1).
 
 /// The call was accepted.
 pub const ACCEPTED: u8 = 0;
 
-/// 01: "array length not one of the two, or the operation under way names a
-/// page, block or sector beyond it".
+/// No part has an array of this length, or the part lacks what the operation
+/// under way names (12.3).
 pub const PART: u8 = 1;
 
-/// 01: "length of a raw frame, or of one sent straight, outside 1 to 1,100,
-/// or reply length unequal".
+/// A frame, raw or straight, that is empty or too long, or whose reply has
+/// another length (3.1).
 pub const FRAME: u8 = 2;
 
-/// 01: "no such slot".
+/// The part does not have this slot (12.4).
 pub const SLOT: u8 = 3;
 
-/// 01: "B outside 1 to 1,000".
+/// B is 0 or too high (12.4).
 pub const LIMIT: u8 = 4;
 
-/// 01: "recipe over 2,109, patch end over 2,109, or get buffer under 2,109".
+/// The recipe or the patch does not fit a slot (12.5), or the get buffer is
+/// too short for the longest recipe (12.6).
 pub const SIZE: u8 = 5;
 
-/// 01: "log shorter than 6 times the bound above".
+/// The log is too short for the most frames that the call can send (12.7).
 pub const LOG: u8 = 6;
 
-/// 01: "a byte over 2; or a cut with J of another length".
+/// A script byte that is 3 or more, or a cut whose junk has the wrong length
+/// (12.8).
 pub const SCRIPT: u8 = 7;
 
-/// 01: "a status reply whose bits 5-2 are not 1001, tested before ready".
+/// A status that is not this chip's (10.14).
 pub const CHIP: u8 = 8;
 
-/// 01: "B polls, none ready".
+/// All polls of a wait found the chip busy (10.15).
 pub const BUSY: u8 = 9;
 
-/// 01: "end with 10 if the slot's sector is sealed by those replies and the
-/// last status".
+/// Replies and status say that the slot's sector is sealed (10.16).
 pub const SEALED: u8 = 10;
 
-/// 01: "2 cut, and the call ends with 11".
+/// The script cut the supply (11.4).
 pub const CUT: u8 = 11;
 
-/// 01: "version not 1, or length over 2,109".
+/// The slot holds no record (9.6).
 pub const BLANK: u8 = 12;
 
-/// 01: "patch end beyond the stored length".
+/// The patch ends behind the recipe in the slot (9.10).
 pub const END: u8 = 13;
 
-/// True for the answers that a call meets before it sends a frame.
-///
-/// 01: "1 to 7 apply in this order before any frame, where they concern the
-/// call; nothing changes."
+/// True for the answers that a call meets before it sends a frame: they leave
+/// everything as it was (12.2).
 pub fn is_refusal(answer: u8) -> bool {
     (PART..=SCRIPT).contains(&answer)
 }

@@ -1,5 +1,6 @@
 //! The calls put, patch, get, wipe and raw: the refusals first, then the
-//! frames, sent to the chip one by one under a script.
+//! frames, sent to the chip one by one under a script. Sections 11 and 12 of
+//! the specification.
 
 use crate::answer;
 use crate::chip::MAX_FRAME;
@@ -7,13 +8,13 @@ use crate::driver::{Driver, Link};
 use crate::slot::{MAX_RECIPE, SLOT_SIZE};
 use crate::{Chip, Part};
 
-/// 01: "The log gets six bytes a frame".
+/// Bytes of a line in the log (11.5).
 pub const LOG_LINE: usize = 6;
 
-/// 01: "B outside 1 to 1,000".
+/// The highest B (12.4).
 const MAX_POLL_LIMIT: usize = 1000;
 
-/// 01: "0 ends a busy period, 1 nothing, 2 cut".
+/// What a script byte can ask for (11.3, 11.4).
 const SCRIPT_END_BUSY: u8 = 0;
 const SCRIPT_NOTHING: u8 = 1;
 const SCRIPT_CUT: u8 = 2;
@@ -54,20 +55,20 @@ pub enum Call<'a> {
     },
 }
 
-/// 01: "The result carries chip, answer, frames, polls" and, of a get, n.
+/// What a call hands back (11.7).
 #[derive(Clone, Copy, Debug, Default, PartialEq, Eq)]
 pub struct Outcome {
     pub answer: u8,
-    /// 01: "frames is the number of all frames that the call sent".
+    /// All frames, polls among them (11.7).
     pub frames: u64,
-    /// 01: "polls is the number of status frames sent by waits".
+    /// Those of waits; a raw D7 is none (11.7).
     pub polls: u64,
-    /// 01: "get's result also carries n, or 0 with any other answer".
+    /// The recipe's length if a get answers 0, else 0 (11.8).
     pub n: u64,
 }
 
 impl Chip {
-    /// Makes a call. A refused one changes nothing.
+    /// Makes a call. A refused one changes nothing (12.2).
     pub fn call(&mut self, lent: Lent, call: Call) -> Outcome {
         if let Err(answer) = call.refuse(self, &lent) {
             return Outcome {
@@ -108,8 +109,8 @@ impl Call<'_> {
         }
     }
 
-    /// 01: "1 to 7 apply in this order before any frame, where they concern
-    /// the call; nothing changes."
+    /// The refusals, in the order of their numbers (12.2); the first that
+    /// applies is the answer.
     pub fn refuse(&self, chip: &Chip, lent: &Lent) -> Result<(), u8> {
         let part = chip.part_of(lent.array).ok_or(answer::PART)?;
         allow(self.frame_fits(), answer::FRAME)?;
@@ -122,8 +123,7 @@ impl Call<'_> {
         allow(script_fits(lent, part), answer::SCRIPT)
     }
 
-    /// 01: "length of a raw frame [...] outside 1 to 1,100, or reply length
-    /// unequal".
+    /// Answer 2, which only raw can meet (3.1, 12.9).
     fn frame_fits(&self) -> bool {
         match self {
             Call::Raw { frame, reply } => {
@@ -133,21 +133,20 @@ impl Call<'_> {
         }
     }
 
-    /// 01: "recipe over 2,109, patch end over 2,109, or get buffer under
-    /// 2,109".
+    /// Answer 5: of a put and a patch what would not fit a slot (12.5), of a
+    /// get a buffer that the longest recipe would not fit (12.6).
     fn size_fits(&self) -> bool {
         match self {
             Call::Put { recipe, .. } => recipe.len() <= MAX_RECIPE,
             Call::Patch { place, bytes, .. } => place
                 .checked_add(bytes.len())
-                .is_some_and(|end| end <= MAX_RECIPE),
+                .map_or(false, |end| end <= MAX_RECIPE),
             Call::Get { buffer, .. } => buffer.len() >= MAX_RECIPE,
             Call::Wipe { .. } | Call::Raw { .. } => true,
         }
     }
 
-    /// 01: "Frames are at most 9B + 18 (put), 9B + 26 (patch), B + 8 (get),
-    /// 2B + 3 (wipe), 1 (raw)."
+    /// The most frames that the call can send (10.29); raw sends one (11.12).
     pub fn most_frames(&self) -> usize {
         match *self {
             Call::Put { poll_limit, .. } => 9 * poll_limit + 18,
@@ -169,16 +168,14 @@ impl Call<'_> {
             Call::Get { buffer, .. } => {
                 let mut slot_bytes = [0; SLOT_SIZE];
                 let result = driver.get(&mut slot_bytes);
-                // 01: "only with answer 0 is the buffer written, its first n
-                // bytes".
+                // Under any other answer the buffer stays (11.9).
                 if let Ok(n) = result {
                     buffer[..n].copy_from_slice(recipe_in(&slot_bytes, n));
                 }
                 result
             }
             Call::Wipe { .. } => driver.wipe().map(|()| 0),
-            // 01: "raw: one frame given by the caller [...] its reply going to
-            // a lent buffer; no wait and no B."
+            // The caller's frame and the caller's reply (11.12, 11.13).
             Call::Raw { frame, reply } => driver.link.send(frame, reply).map(|()| 0),
         };
         (result, driver.polls)
@@ -197,15 +194,16 @@ fn allow(fits: bool, answer: u8) -> Result<(), u8> {
     }
 }
 
-/// 01: "a byte over 2; or a cut with J of another length", and "J's length
-/// matters only if a cut occurs in the script".
+/// Answer 7: the whole script is looked at, and the junk if it has a cut
+/// (12.8).
 fn script_fits(lent: &Lent, part: Part) -> bool {
     let known = lent.script.iter().all(|&byte| byte <= SCRIPT_CUT);
     let cuts = lent.script.contains(&SCRIPT_CUT);
     known && (!cuts || lent.junk.len() == part.junk_len())
 }
 
-/// The chip as a link: each frame is logged, then its script byte acts.
+/// The chip as a link: each frame is logged, then its script byte acts
+/// (11.1).
 struct Run<'a> {
     chip: &'a mut Chip,
     lent: Lent<'a>,
@@ -217,15 +215,13 @@ impl Link for Run<'_> {
         accepted(self.chip.send(self.lent.array, frame, reply));
         let line = &mut self.lent.log[LOG_LINE * self.frames..][..LOG_LINE];
         line.copy_from_slice(&log_line(frame));
-        // 01: "The script has a byte for each frame, acting after it [...]
-        // past its end it counts as 0."
+        // Where the script is over, a busy end follows each frame (11.2).
         let event = self.lent.script.get(self.frames);
         self.frames += 1;
         match event.copied().unwrap_or(SCRIPT_END_BUSY) {
             SCRIPT_END_BUSY => accepted(self.chip.end_busy(self.lent.array)),
             SCRIPT_NOTHING => {}
-            // 01: "2 cut, and the call ends with 11 before 8, 9, 10 or success
-            // is looked at".
+            // The driver does not get to see the reply (11.4).
             _ => {
                 accepted(self.chip.cut(self.lent.array, self.lent.junk));
                 return Err(answer::CUT);
@@ -240,8 +236,7 @@ fn accepted(answer: u8) {
     assert_eq!(answer, answer::ACCEPTED);
 }
 
-/// 01: "length (two, big-endian), first four bytes (FFh where the frame is
-/// shorter)".
+/// A frame's line in the log (11.5).
 pub fn log_line(frame: &[u8]) -> [u8; LOG_LINE] {
     let mut line = [0xFF; LOG_LINE];
     line[..2].copy_from_slice(&(frame.len() as u16).to_be_bytes());

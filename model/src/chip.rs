@@ -8,20 +8,19 @@ use crate::command::{decode, Command, Request};
 use crate::operation::{Buffer, Operation};
 use crate::part::{sector_bits, sector_of, Part, PAGE_SIZE};
 
-/// The longest frame that may be sent straight.
+/// The longest frame (3.1).
 pub const MAX_FRAME: usize = 1100;
 
-/// 01: "reply bytes that carry no data read [...] are FFh".
+/// What comes back where nothing is read (3.13).
 const NO_DATA: u8 = 0xFF;
 
 /// The value of an erased byte.
 const ERASED: u8 = 0xFF;
 
-/// Where junk for registers begins: behind the junk for both buffers.
+/// Where junk for registers begins: behind the junk for both buffers (8.6).
 const REGISTER_JUNK: usize = 2 * PAGE_SIZE;
 
-/// 01: "The chip record holds two buffers of 264 bytes, the compare bit, and
-/// the registers".
+/// All of a chip but its array: registers (2.3), buffers (2.2), compare bit.
 #[derive(Clone, Debug, PartialEq, Eq)]
 pub struct Chip {
     pub protection: [u8; 16],
@@ -38,8 +37,7 @@ pub struct Chip {
 }
 
 impl Chip {
-    /// 01: "Fresh: array and user bytes FFh, other bytes 0 (factory bytes
-    /// given), marks off, WP high, idle."
+    /// A chip as it is when new (2.13), its array erased (2.14).
     ///
     /// None (answer 1) if the array is no part's; nothing is changed then.
     pub fn fresh(factory: &[u8; 64], array: &mut [u8]) -> Option<Chip> {
@@ -60,10 +58,12 @@ impl Chip {
         })
     }
 
-    /// Sends one frame straight to the chip; answers 0, 1 or 2.
+    /// Sends one frame straight to the chip; answers 0, 1 or 2. The reply is
+    /// made before the frame acts (3.12).
     pub fn send(&mut self, array: &[u8], frame: &[u8], reply: &mut [u8]) -> u8 {
-        let Some(part) = self.part_of(array) else {
-            return answer::PART;
+        let part = match self.part_of(array) {
+            Some(part) => part,
+            None => return answer::PART,
         };
         if !(1..=MAX_FRAME).contains(&frame.len()) || reply.len() != frame.len() {
             return answer::FRAME;
@@ -80,42 +80,45 @@ impl Chip {
         answer::ACCEPTED
     }
 
-    /// Ends the busy period: the operation under way takes effect. Answers 0
-    /// or 1. 01: "a busy end while idle changes nothing".
+    /// Ends the busy period: the operation under way takes effect (7.1), if
+    /// there is one (7.3). Answers 0 or 1.
     pub fn end_busy(&mut self, array: &mut [u8]) -> u8 {
-        let Some(part) = self.part_of(array) else {
-            return answer::PART;
+        let part = match self.part_of(array) {
+            Some(part) => part,
+            None => return answer::PART,
         };
         let operation = std::mem::replace(&mut self.operation, Operation::Idle);
         match operation {
+            // Every byte is the buffer's (7.4).
             Operation::Program { buffer, page } => {
                 array[part.page_range(page)].copy_from_slice(self.buffer(buffer));
             }
-            // 01: "page becomes page AND buffer".
+            // Bits of the page are cleared, never set (7.5).
             Operation::ProgramWithoutErase { buffer, page } => {
                 and_into(&mut array[part.page_range(page)], self.buffer(buffer));
             }
-            // 01: "buffer 1/2 becomes page"; for 58/59 "page rewritten", so
-            // its bytes stay.
+            // The page goes to the buffer (7.6), and 58/59 leave it what it
+            // has (7.7).
             Operation::Transfer { buffer, page } | Operation::Rewrite { buffer, page } => {
                 self.buffers[buffer.index()].copy_from_slice(&array[part.page_range(page)]);
             }
-            // 01: "compare bit = 1 if buffer and page differ, else 0".
+            // Set if a byte differs, cleared if none does (7.8).
             Operation::Compare { buffer, page } => {
                 self.compare = self.buffer(buffer)[..] != array[part.page_range(page)];
             }
+            // All that is named (7.9), of a set each sector (7.10).
             Operation::ErasePage { .. }
             | Operation::EraseBlock { .. }
             | Operation::EraseSector { .. }
             | Operation::EraseChip { .. } => {
                 operation.each_altered_range(part, |range| array[range].fill(ERASED));
             }
-            // 01: "protection bytes all FFh".
+            // Every sector is listed (7.11).
             Operation::EraseProtection => self.protection = [ERASED; 16],
-            // 01: "protection AND data".
+            // By the data that came with the frame (7.12).
             Operation::ProgramProtection { data } => and_into(&mut self.protection, &data),
             Operation::LockSector { sector } => self.lock(sector),
-            // 01: "user bytes = data, once; sets used".
+            // Not ANDed; there is no second time (7.14, 5.14).
             Operation::ProgramSecurity { data } => {
                 self.user = data;
                 self.security_programmed = true;
@@ -125,7 +128,7 @@ impl Chip {
         answer::ACCEPTED
     }
 
-    /// Sets the level of the WP pin; always answers 0.
+    /// Sets the level of the WP pin (8.1); always answers 0.
     pub fn move_pin(&mut self, high: bool) -> u8 {
         self.wp_high = high;
         answer::ACCEPTED
@@ -134,33 +137,31 @@ impl Chip {
     /// Cuts the supply; what becomes undefined is taken from the junk.
     /// Answers 0, 1 or 7.
     pub fn cut(&mut self, array: &mut [u8], junk: &[u8]) -> u8 {
-        let Some(part) = self.part_of(array) else {
-            return answer::PART;
+        let part = match self.part_of(array) {
+            Some(part) => part,
+            None => return answer::PART,
         };
         if junk.len() != part.junk_len() {
             return answer::SCRIPT;
         }
         let operation = std::mem::replace(&mut self.operation, Operation::Idle);
-        // 01: "Buffers become J's first 264 bytes and the next 264."
+        // Both buffers are lost, whatever was under way (8.4).
         self.buffers[0].copy_from_slice(&junk[..PAGE_SIZE]);
         self.buffers[1].copy_from_slice(&junk[PAGE_SIZE..REGISTER_JUNK]);
-        // 01: "Array bytes that the operation under way would erase or program
-        // become J at 528 plus their array address".
+        // So are all pages that the operation writes (8.5).
         let array_junk = &junk[REGISTER_JUNK..];
         operation.each_altered_range(part, |range: Range<usize>| {
             array[range.clone()].copy_from_slice(&array_junk[range]);
         });
         self.cut_register(&operation, array_junk);
-        // 01: "Marks for protect and deep and the compare bit go to 0, the
-        // chip is idle; all else keeps, WP included."
+        // The chip starts again (8.10); what is not named here stays (8.11).
         self.protection_enabled = false;
         self.deep_power_down = false;
         self.compare = false;
         answer::ACCEPTED
     }
 
-    /// 01: "Status: bit 7 ready, bit 6 compare, bits 5-2 = 1001, bit 1 = mark
-    /// set or WP low, bit 0 = 0."
+    /// The status byte (3.21).
     pub fn status(&self) -> u8 {
         u8::from(self.operation.is_idle()) << 7
             | u8::from(self.compare) << 6
@@ -168,8 +169,8 @@ impl Chip {
             | u8::from(self.protection_active()) << 1
     }
 
-    /// 01: "A sector is locked, or listed, if its bits are not all 0. It is
-    /// sealed if locked, or if listed while the mark is set or WP is low."
+    /// Whether a sector is sealed (2.12): one bit locks or lists it (2.9,
+    /// 2.10), but to be listed counts only in a guarded chip.
     pub fn is_sealed(&self, sector: u16) -> bool {
         let (byte, bits) = sector_bits(sector);
         let locked = self.lockdown[byte] & bits != 0;
@@ -177,10 +178,10 @@ impl Chip {
         locked || (listed && self.protection_active())
     }
 
-    /// Whether the chip, on this part, obeys the request; 01: "Ignored: ...".
+    /// Whether the chip, on this part, obeys the request (section 5).
     pub fn obeys(&self, part: Part, request: &Request) -> bool {
         let command = request.command;
-        // 01: "every frame but AB while deep".
+        // A deep chip only wakes (5.7), and busy as well not even that (5.8).
         if self.deep_power_down && command != Command::ResumeFromDeepPowerDown {
             return false;
         }
@@ -188,8 +189,8 @@ impl Chip {
             return false;
         }
         match command {
-            // 01: "a program or erase naming a sealed sector (58/59 included;
-            // 82/85 then write no buffer)". A Chip Erase names no sector.
+            // What writes a page asks for its seal (5.9), before a buffer is
+            // touched (5.10). A Chip Erase names no sector (5.16).
             Command::Program(_)
             | Command::ProgramWithoutErase(_)
             | Command::WriteAndProgram(_)
@@ -197,18 +198,18 @@ impl Chip {
             | Command::ErasePage
             | Command::EraseBlock
             | Command::EraseSector => !self.is_sealed(sector_of(part.page_of(request.address))),
-            // 01: "9A, CF and FC while WP is low".
+            // WP holds protection fast (5.11, 5.12, 5.13).
             Command::DisableProtection | Command::EraseProtection | Command::ProgramProtection => {
                 self.wp_high
             }
-            // 01: "9B once used".
+            // User bytes are written but once (5.14).
             Command::ProgramSecurity => !self.security_programmed,
             _ => true,
         }
     }
 
-    /// 01: "while busy, all but D7, 9F and reads and writes of a buffer the
-    /// operation doesn't use. During CF, FC, 30 and 9B only D7 is obeyed."
+    /// What does not disturb the operation: the status always (5.5), and
+    /// unless it is on a register, the identity and a free buffer (5.3).
     fn obeys_while_busy(&self, command: Command) -> bool {
         match command {
             Command::ReadStatus => true,
@@ -221,43 +222,43 @@ impl Chip {
         }
     }
 
-    /// The reading rows: puts the data read into the reply behind the lead.
+    /// The reading rows: puts the data read into the reply behind the lead
+    /// (3.11).
     fn read(&self, part: Part, array: &[u8], request: &Request, reply: &mut [u8]) {
         let page = part.page_range(part.page_of(request.address));
         let byte = part.byte_of(request.address);
         match request.command {
-            // 01: "read page, wrapping in it".
+            // A ring of one page (3.16).
             Command::ReadPage => copy_wrapping(&array[page], byte, reply),
-            // 01: "read on through the array, wrapping at its end".
+            // A ring of all pages (3.17).
             Command::ReadArray => copy_wrapping(array, page.start + byte, reply),
-            // 01: "read buffer 1/2, wrapping".
+            // A ring of one buffer (3.18).
             Command::ReadBuffer(buffer) => copy_wrapping(self.buffer(buffer), byte, reply),
-            // 01: "read protection, lockdown (16 bytes)".
+            // Registers come once (3.14, 3.19).
             Command::ReadProtection => copy_once(&self.protection, reply),
             Command::ReadLockdown => copy_once(&self.lockdown, reply),
-            // 01: "read security (128, user bytes first)".
             Command::ReadSecurity => {
                 copy_once(&self.user, reply);
                 copy_once(&self.factory, reply.get_mut(64..).unwrap_or_default());
             }
-            // 01: "status, repeated".
+            // The same in every byte (3.20).
             Command::ReadStatus => reply.fill(self.status()),
+            // Four bytes, once (3.14, 3.22).
             Command::ReadIdentification => copy_once(&[0x1F, 0x25, 0x00, 0x00], reply),
             _ => {}
         }
     }
 
-    /// 01: "Buffer writes (that of 82/85 too), A9, 9A, B9 and AB act when the
-    /// frame ends." So do the buffer writes of FC and 9B.
+    /// What a frame does at once: to buffers (6.2, 6.5, 6.10), and to the marks
+    /// for protect and deep (6.3).
     fn act(&mut self, part: Part, request: &Request, data: &[u8]) {
         let byte = part.byte_of(request.address);
         match request.command {
-            // 01: "write buffer 1/2 from byte, wrapping".
+            // Of two bytes for one place the later stays (6.2).
             Command::WriteBuffer(buffer) | Command::WriteAndProgram(buffer) => {
                 write_wrapping(&mut self.buffers[buffer.index()], byte, data);
             }
-            // 01: "at the start the 16 or 64 bytes also overwrite the
-            // beginning of buffer 1".
+            // The data of both pass through buffer 1 (6.10).
             Command::ProgramProtection => {
                 self.buffers[0][..16].copy_from_slice(&padded::<16>(data));
             }
@@ -272,13 +273,12 @@ impl Chip {
         }
     }
 
-    /// 01: "Rows 83 to 58, CF, FC, 30 and 9B are self-timed: they start when
-    /// the frame ends and take effect at the busy end."
+    /// The operation that a frame starts, if its row has one (6.4).
     fn start(&mut self, part: Part, request: &Request, data: &[u8]) {
         let page = part.page_of(request.address);
         let sector = sector_of(page);
         self.operation = match request.command {
-            // 01: "as 84/87, then as 83/86".
+            // 82/85 have written the buffer by now (6.5).
             Command::Program(buffer) | Command::WriteAndProgram(buffer) => {
                 Operation::Program { buffer, page }
             }
@@ -300,7 +300,8 @@ impl Chip {
         };
     }
 
-    /// The part that the array stands for, if the operation under way fits it.
+    /// The part that the array stands for, if the operation under way fits it
+    /// (1.1, 12.3).
     pub(crate) fn part_of(&self, array: &[u8]) -> Option<Part> {
         Part::from_array_len(array.len()).filter(|&part| self.operation.fits(part))
     }
@@ -309,19 +310,19 @@ impl Chip {
         &self.buffers[buffer.index()]
     }
 
-    /// 01: "the mark is set or WP is low".
+    /// Whether the chip is guarded (2.11).
     fn protection_active(&self) -> bool {
         self.protection_enabled || !self.wp_high
     }
 
-    /// 01: "every sector not sealed at the start".
+    /// What a Chip Erase takes if it starts now (6.7).
     fn unsealed_sectors(&self, part: Part) -> u32 {
         (0..part.sectors())
             .filter(|&sector| !self.is_sealed(sector))
             .fold(0, |set, sector| set | 1 << sector)
     }
 
-    /// 01: "Locking sets C0h (0a), 30h (0b) or FFh, over bits already set."
+    /// Sets all bits of the sector; those of others stay (7.13).
     fn lock(&mut self, sector: u16) {
         let (byte, bits) = sector_bits(sector);
         self.lockdown[byte] |= bits;
@@ -330,31 +331,31 @@ impl Chip {
     /// What a cut does to the register of the operation under way.
     fn cut_register(&mut self, operation: &Operation, junk: &[u8]) {
         match *operation {
-            // 01: "CF or FC: protection becomes J from 528."
+            // The junk behind the buffers' becomes protection (8.6).
             Operation::EraseProtection | Operation::ProgramProtection { .. } => {
                 self.protection.copy_from_slice(&junk[..16]);
             }
-            // 01: "9B: user bytes become J from 528, used is set."
+            // Or the user bytes, which thereby count as written (8.7).
             Operation::ProgramSecurity { .. } => {
                 self.user.copy_from_slice(&junk[..64]);
                 self.security_programmed = true;
             }
-            // 01: "Locking: the sector locks if J[528] is at least 80h, else
-            // keeps its bits."
+            // The junk decides whether 30 has come about (8.8).
             Operation::LockSector { sector } if junk[0] >= 0x80 => self.lock(sector),
             _ => {}
         }
     }
 }
 
-/// 01: "FC and 9B data wrap at 16 and 64, bytes not sent count as FFh".
+/// The data of an FC or a 9B at their full length (6.9).
 fn padded<const N: usize>(data: &[u8]) -> [u8; N] {
     let mut bytes = [0xFF; N];
     write_wrapping(&mut bytes, 0, data);
     bytes
 }
 
-/// Fills `reply` from `source`, beginning at `start` and wrapping at its end.
+/// Fills `reply` from `source`, beginning at `start` and wrapping at its end
+/// (3.15).
 fn copy_wrapping(source: &[u8], start: usize, reply: &mut [u8]) {
     let first = reply.len().min(source.len() - start);
     let (head, rest) = reply.split_at_mut(first);
@@ -364,7 +365,7 @@ fn copy_wrapping(source: &[u8], start: usize, reply: &mut [u8]) {
     }
 }
 
-/// Copies `source` to the beginning of `reply`, as far as it reaches.
+/// Copies `source` to the beginning of `reply`, as far as it reaches (3.14).
 fn copy_once(source: &[u8], reply: &mut [u8]) {
     let count = source.len().min(reply.len());
     reply[..count].copy_from_slice(&source[..count]);

@@ -1,4 +1,4 @@
-//! The command table.
+//! The command table (4.2, 4.3).
 
 use crate::operation::Buffer;
 
@@ -38,23 +38,21 @@ pub enum Command {
 #[derive(Clone, Copy, Debug, PartialEq, Eq)]
 pub struct Request {
     pub command: Command,
-    /// 01: "lead = bytes before data".
+    /// How many bytes of the frame are not data (4.1).
     pub lead: usize,
     /// The 24-bit number N; 0 for a command without address.
     pub address: u32,
 }
 
-/// Looks a frame up in the table.
-///
-/// 01: "A frame shorter than its lead, or with an opening not listed, is
-/// ignored".
+/// Looks a frame up in the table: none if its opening is in no row (3.4), or
+/// if the lead is not all there (3.5).
 pub fn decode(frame: &[u8]) -> Option<Request> {
     let (lead, command) = look_up(frame)?;
     if frame.len() < lead {
         return None;
     }
     let address = match command {
-        // 01: "the sector of the page in the last three" of the seven.
+        // 30 has its address behind its opening of four bytes (6.8).
         Command::LockSector => address(&frame[4..7]),
         _ if lead >= 4 => address(&frame[1..4]),
         _ => 0,
@@ -66,12 +64,12 @@ pub fn decode(frame: &[u8]) -> Option<Request> {
     })
 }
 
-/// 01: "The three address bytes make a 24-bit number N, first byte highest".
+/// The number N of three address bytes (3.7).
 fn address(bytes: &[u8]) -> u32 {
     bytes.iter().fold(0, |n, &byte| n << 8 | u32::from(byte))
 }
 
-/// 01: the command table, row by row.
+/// Lead and command of each row, by the opening (3.2, 3.3).
 fn look_up(frame: &[u8]) -> Option<(usize, Command)> {
     use Buffer::{One, Two};
     let row = match *frame {

@@ -1,7 +1,7 @@
 //! The slot driver: the frames of each call, one after the other.
 //!
 //! It knows nothing of a chip but the frames that go out and the replies that
-//! come back; a [`Link`] carries both.
+//! come back; a [`Link`] carries both. Section 10 of the specification.
 
 use crate::answer;
 use crate::part::{sector_bits, sector_of, PAGES_PER_BLOCK, PAGE_SIZE};
@@ -11,14 +11,14 @@ use crate::slot::{judge_patch, stored_len, with_recipe, HEADER_SIZE, SLOT_SIZE};
 const LEAD: usize = 4;
 const READ_LEAD: usize = 8;
 
-/// 01: "32 and 35 with three 00 and sixteen 00 each".
+/// 32 and 35: a lead, and room for the register's bytes (10.7).
 const REGISTER_FRAME: usize = LEAD + 16;
 
 const STATUS_READY: u8 = 0x80;
-/// 01: "bits 5-2 = 1001".
+/// The bits by which the chip is known (3.21).
 const STATUS_DENSITY: u8 = 0b0011_1100;
 const DENSITY: u8 = 0b0010_0100;
-/// 01: "bit 1 = mark set or WP low".
+/// The chip is guarded (3.21).
 const STATUS_PROTECT: u8 = 0x02;
 
 /// The way to a chip and back.
@@ -33,9 +33,9 @@ pub struct Driver<'a, L: Link> {
     pub link: &'a mut L,
     /// Below 512.
     pub slot: usize,
-    /// 01: "at most B times (the poll limit)".
+    /// B: how many polls each wait may have (10.15).
     pub poll_limit: usize,
-    /// 01: "polls is the number of status frames sent by waits".
+    /// Polls so far, of all waits (11.7).
     pub polls: u64,
 }
 
@@ -49,8 +49,8 @@ impl<'a, L: Link> Driver<'a, L> {
         }
     }
 
-    /// 01: "put, each page in order: 84 with all 264 bytes (268), 83 (4),
-    /// wait."
+    /// Every page is programmed, lowest first (10.4, 10.5), with the bytes of
+    /// 9.4.
     pub fn put(&mut self, recipe: &[u8]) -> Result<(), u8> {
         self.begin_writing()?;
         let bytes = with_recipe(recipe);
@@ -60,9 +60,9 @@ impl<'a, L: Link> Driver<'a, L> {
         Ok(())
     }
 
-    /// 01: "patch, each page: D2 (272), 84 with the page as changed (268), 83,
-    /// wait. [...] Under 12 or 13 (tested in this order) it still sends every
-    /// frame, pages unchanged."
+    /// Every page is read and programmed (10.4). The first one tells the verdict
+    /// (10.20); under 12 and 13 the frames are as many, with the bytes that
+    /// were read (9.8).
     ///
     /// The patch ends by 2,109.
     pub fn patch(&mut self, place: usize, bytes: &[u8]) -> Result<(), u8> {
@@ -82,8 +82,8 @@ impl<'a, L: Link> Driver<'a, L> {
         verdict
     }
 
-    /// 01: "get: D2 for all eight pages". The slot's bytes, and the length of
-    /// the recipe in them or answer 12.
+    /// Every page is read, however long the recipe is (10.4). The slot's bytes,
+    /// and the length of the recipe in them or answer 12 (9.9).
     pub fn get(&mut self, slot_bytes: &mut [u8; SLOT_SIZE]) -> Result<usize, u8> {
         self.wait()?;
         for (k, page) in slot_bytes.chunks_exact_mut(PAGE_SIZE).enumerate() {
@@ -92,7 +92,7 @@ impl<'a, L: Link> Driver<'a, L> {
         stored_len(slot_bytes)
     }
 
-    /// 01: "wipe: 50 (4), wait."
+    /// One erase of the slot's block (10.5).
     pub fn wipe(&mut self) -> Result<(), u8> {
         self.begin_writing()?;
         self.send_address(0x50, self.page(0))?;
@@ -100,15 +100,15 @@ impl<'a, L: Link> Driver<'a, L> {
         Ok(())
     }
 
-    /// 01: "A wait sends D7 00 until ready, at most B times (the poll limit).
-    /// The status is the second byte of the reply."
+    /// Polls until the chip is ready; the B-th busy one ends the call (10.15).
+    /// The status that ended the wait.
     fn wait(&mut self) -> Result<u8, u8> {
         for _ in 0..self.poll_limit {
             let mut reply = [0; 2];
             self.polls += 1;
             self.link.send(&[0xD7, 0x00], &mut reply)?;
             let status = reply[1];
-            // 01: "tested before ready".
+            // Whatever bit 7 is (10.14).
             if status & STATUS_DENSITY != DENSITY {
                 return Err(answer::CHIP);
             }
@@ -119,9 +119,8 @@ impl<'a, L: Link> Driver<'a, L> {
         Err(answer::BUSY)
     }
 
-    /// 01: "Put, patch and wipe then send 32 and 35 with three 00 and sixteen
-    /// 00 each, and end with 10 if the slot's sector is sealed by those replies
-    /// and the last status."
+    /// The opening of a call that writes: both registers are always read
+    /// (10.3), then it is told whether the slot's sector is sealed (10.16).
     fn begin_writing(&mut self) -> Result<(), u8> {
         let status = self.wait()?;
         let protection = self.register_byte(0x32)?;
@@ -135,7 +134,7 @@ impl<'a, L: Link> Driver<'a, L> {
         Ok(())
     }
 
-    /// The byte of a register that serves the slot's sector.
+    /// The byte of a register in which the slot's sector has its bits (10.13).
     fn register_byte(&mut self, opcode: u8) -> Result<u8, u8> {
         let mut frame = [0; REGISTER_FRAME];
         frame[0] = opcode;
@@ -145,7 +144,7 @@ impl<'a, L: Link> Driver<'a, L> {
         Ok(reply[LEAD + byte])
     }
 
-    /// D2 of the slot's page `k`.
+    /// D2 of the slot's page `k` (10.7, 10.19).
     fn read(&mut self, k: usize, page: &mut [u8]) -> Result<(), u8> {
         let mut frame = [0; READ_LEAD + PAGE_SIZE];
         frame[..LEAD].copy_from_slice(&naming(0xD2, self.page(k)));
@@ -157,7 +156,7 @@ impl<'a, L: Link> Driver<'a, L> {
 
     /// 84, 83 and a wait: the slot's page `k` becomes `bytes`.
     fn program(&mut self, k: usize, bytes: &[u8]) -> Result<(), u8> {
-        // 01: "An 84 has the address 00 00 00".
+        // The 84 loads the buffer from its first byte (10.7, 10.10).
         let mut frame = [0; LEAD + PAGE_SIZE];
         frame[0] = 0x84;
         frame[LEAD..].copy_from_slice(bytes);
@@ -171,7 +170,7 @@ impl<'a, L: Link> Driver<'a, L> {
         self.link.send(&naming(opcode, page), &mut [0; LEAD])
     }
 
-    /// 01: "Slot s (0 to P div 8 - 1) is block s."
+    /// The part's number of the slot's page `k` (9.1).
     fn page(&self, k: usize) -> u16 {
         (self.slot * PAGES_PER_BLOCK + k) as u16
     }
@@ -181,16 +180,14 @@ impl<'a, L: Link> Driver<'a, L> {
     }
 }
 
-/// 01: "D2, 83 and 50 name their page (50 the slot's first) by N = 512 times
-/// its number."
+/// Opcode and address of a page (10.8).
 fn naming(opcode: u8, page: u16) -> [u8; LEAD] {
     let [_, high, middle, low] = (512 * u32::from(page)).to_be_bytes();
     [opcode, high, middle, low]
 }
 
-/// Lays a patch over the slot's page `k`.
-///
-/// 01: "A patch puts bytes at a place counted from the recipe's first".
+/// Lays a patch over the slot's page `k`; its place counts behind the head
+/// (9.7).
 fn change(page: &mut [u8; PAGE_SIZE], k: usize, place: usize, bytes: &[u8]) {
     let (page_start, patch_start) = (k * PAGE_SIZE, HEADER_SIZE + place);
     let start = patch_start.max(page_start);

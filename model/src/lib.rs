@@ -1,8 +1,10 @@
-//! Second model of the AT45DB081D chip, written from document 01 alone.
+//! Second model of the AT45DB081D chip and its slot driver.
 //!
 //! It is plain and works in place; the conformance tests compare it with the
-//! proved library. Comments that begin with `01:` quote the sentence of
-//! document 01 that the code below them follows.
+//! proved library. It has tables and a structure of its own and depends on
+//! nothing of the library; what the two share is the layout of the record
+//! block. Numbers in parentheses are those of the rules in
+//! `docs/SPECIFICATION.md`.
 //!
 //! - [`part`]: what an array length says about pages, blocks and sectors
 //! - [`command`]: the command table

@@ -20,11 +20,9 @@ impl Buffer {
     }
 }
 
-/// 01: "the operation under way, if any, with the page, block, sector or
-/// register it names, the data of an FC or 9B, and the sectors of the part
-/// that a Chip Erase found unsealed".
+/// The operation under way, or none, with what belongs to it (2.4).
 ///
-/// Sectors are 0 for 0a, 1 for 0b, j + 1 for sector j.
+/// Sectors are 0 for 0a, 1 for 0b, j + 1 for sector j (1.5).
 #[derive(Clone, Copy, Debug, PartialEq, Eq)]
 pub enum Operation {
     Idle,
@@ -65,7 +63,7 @@ pub enum Operation {
     EraseSector {
         sector: u16,
     },
-    /// C7 94 80 9A; bit i is sector i.
+    /// C7 94 80 9A; bit i is sector i (2.5).
     EraseChip {
         sectors: u32,
     },
@@ -84,7 +82,7 @@ pub enum Operation {
         data: [u8; 64],
     },
     /// A record block's tag or buffer that names no operation: it lies beyond
-    /// every part.
+    /// every part (13.5).
     Unknown,
 }
 
@@ -93,8 +91,7 @@ impl Operation {
         matches!(self, Operation::Idle)
     }
 
-    /// Answer 1's second half: false if the operation "names a page, block or
-    /// sector beyond" the part.
+    /// False if the part lacks what the operation names (12.3).
     pub fn fits(&self, part: Part) -> bool {
         match *self {
             Operation::Program { page, .. }
@@ -116,9 +113,7 @@ impl Operation {
         }
     }
 
-    /// True for the operations on a register.
-    ///
-    /// 01: "During CF, FC, 30 and 9B only D7 is obeyed."
+    /// True for the operations on a register: CF, FC, 30 and 9B (5.5).
     pub fn is_on_register(&self) -> bool {
         matches!(
             self,
@@ -129,9 +124,8 @@ impl Operation {
         )
     }
 
-    /// The buffer that the operation uses.
-    ///
-    /// 01: "An array erase uses no buffer."
+    /// The buffer that the operation uses; erases of the array leave both free
+    /// (5.4).
     pub fn buffer(&self) -> Option<Buffer> {
         match *self {
             Operation::Program { buffer, .. }
@@ -143,10 +137,8 @@ impl Operation {
         }
     }
 
-    /// Visits the parts of the array that the operation erases or programs.
-    ///
-    /// 01: "Array bytes that the operation under way would erase or program
-    /// [...] (none for 53, 55, 60, 61)."
+    /// Visits the parts of the array that the operation writes: fetches and
+    /// compares have none, 58/59 have their page (2.5).
     pub fn each_altered_range(&self, part: Part, mut visit: impl FnMut(Range<usize>)) {
         match *self {
             Operation::Program { page, .. }

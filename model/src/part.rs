@@ -2,16 +2,16 @@
 
 use std::ops::Range;
 
-/// 01: "A page is 264 bytes".
+/// Bytes of a page, in both parts (1.3).
 pub const PAGE_SIZE: usize = 264;
 
-/// 01: "A block is eight pages from a multiple of 8".
+/// Block b is the eight pages from 8b on (1.4).
 pub const PAGES_PER_BLOCK: usize = 8;
 
 /// Pages of the sectors 1 to 15; sector 0 (0a and 0b together) has as many.
 const PAGES_PER_SECTOR: usize = 256;
 
-/// A part, told by the length of the array alone.
+/// A part, told by the length of the array alone (1.1).
 #[derive(Clone, Copy, Debug, PartialEq, Eq)]
 pub struct Part {
     pub pages: usize,
@@ -19,19 +19,19 @@ pub struct Part {
 }
 
 impl Part {
-    /// 01: "P = 4,096 (1,081,344 bytes)".
+    /// The full part.
     pub const FULL: Part = Part {
         pages: 4096,
         page_size: PAGE_SIZE,
     };
 
-    /// 01: "or the short part, P = 128 (33,792)".
+    /// The short part.
     pub const SHORT: Part = Part {
         pages: 128,
         page_size: PAGE_SIZE,
     };
 
-    /// The part whose array has this length, if there is one.
+    /// The part whose array has this length, if there is one (1.1).
     pub fn from_array_len(len: usize) -> Option<Part> {
         match len {
             1_081_344 => Some(Part::FULL),
@@ -44,7 +44,7 @@ impl Part {
         self.pages * self.page_size
     }
 
-    /// 01: "A cut takes junk J of 528 + 264P bytes."
+    /// Junk for both buffers and for the array (8.2).
     pub const fn junk_len(self) -> usize {
         2 * self.page_size + self.array_len()
     }
@@ -53,22 +53,23 @@ impl Part {
         self.pages / PAGES_PER_BLOCK
     }
 
-    /// Number of sectors, 0a and 0b counted apart: 17, or 2 in the short part.
+    /// Number of sectors, 0a and 0b counted apart: 17, or 2 in the short part
+    /// (1.7).
     pub fn sectors(self) -> u16 {
         sector_of((self.pages - 1) as u16) + 1
     }
 
-    /// 01: "page = (N div 512) mod P".
+    /// The page that an address names; beyond the last it starts over (3.8).
     pub fn page_of(self, address: u32) -> u16 {
         (address as usize / 512 % self.pages) as u16
     }
 
-    /// 01: "byte = (N mod 512) mod 264".
+    /// The byte that an address names in its page (3.9).
     pub fn byte_of(self, address: u32) -> usize {
         address as usize % 512 % self.page_size
     }
 
-    /// 01: "beginning at 264 times its number".
+    /// The array bytes of a page (1.2, 1.3).
     pub fn page_range(self, page: u16) -> Range<usize> {
         self.pages_range(usize::from(page), 1)
     }
@@ -77,8 +78,7 @@ impl Part {
         self.pages_range(usize::from(block) * PAGES_PER_BLOCK, PAGES_PER_BLOCK)
     }
 
-    /// 01: "0a is pages 0 to 7, 0b is 8 to 255 (to 127 in the short part),
-    /// sector j from 1 to 15 is pages 256j to 256j + 255."
+    /// The array bytes of a sector; 0b ends where the part does (1.5, 1.6).
     pub fn sector_range(self, sector: u16) -> Range<usize> {
         match sector {
             0 => self.pages_range(0, 8),
@@ -92,7 +92,8 @@ impl Part {
     }
 }
 
-/// The sector that a page lies in: 0 for 0a, 1 for 0b, j + 1 for sector j.
+/// The sector that a page lies in: 0 for 0a, 1 for 0b, j + 1 for sector j
+/// (1.5).
 pub fn sector_of(page: u16) -> u16 {
     match page {
         0..=7 => 0,
@@ -101,10 +102,8 @@ pub fn sector_of(page: u16) -> u16 {
     }
 }
 
-/// Where a sector's bits stand in the protection and lockdown registers.
-///
-/// 01: "Byte j serves sector j; in byte 0, bits 7-6 serve 0a and bits 5-4
-/// serve 0b."
+/// Where a sector's bits stand in the protection and lockdown registers: 0a
+/// and 0b share byte 0, any other sector has a byte of its own (2.7).
 pub fn sector_bits(sector: u16) -> (usize, u8) {
     match sector {
         0 => (0, 0xC0),

@@ -1,4 +1,5 @@
-//! The record block of 765 bytes, and the chip's calls over such a block.
+//! The record block of 765 bytes, whose layout is the library's too (13.1),
+//! and the chip's calls over such a block.
 
 use std::ops::Range;
 
@@ -11,7 +12,7 @@ pub const RECORD_LEN: usize = 765;
 /// The record as a block of bytes.
 pub type Record = [u8; RECORD_LEN];
 
-/// Where each field stands in the block.
+/// Where each field stands in the block (13.1).
 pub mod field {
     use super::Range;
 
@@ -34,7 +35,7 @@ pub mod field {
 }
 
 /// The tags of the operations under way; the opcodes of buffer 2 and 82/85
-/// share those of buffer 1.
+/// share those of buffer 1 (13.4).
 pub mod tag {
     pub const IDLE: u8 = 0x00;
     pub const PROGRAM: u8 = 0x83;
@@ -56,7 +57,8 @@ pub mod tag {
 }
 
 impl Chip {
-    /// Reads a block; a byte that holds a mark reads as set unless it is 0.
+    /// Reads a block; a byte that holds a mark reads as set unless it is 0
+    /// (13.2).
     pub fn from_record(record: &Record) -> Chip {
         Chip {
             protection: bytes(record, field::PROTECTION),
@@ -76,8 +78,8 @@ impl Chip {
         }
     }
 
-    /// Writes the whole block: marks are 0 or 1, and what the operation under
-    /// way does not have is 0.
+    /// Writes the whole block: marks are 0 or 1 (13.2), and what the operation
+    /// under way does not have is 0 (13.6).
     pub fn to_record(&self, record: &mut Record) {
         record[field::PROTECTION].copy_from_slice(&self.protection);
         record[field::LOCKDOWN].copy_from_slice(&self.lockdown);
@@ -115,7 +117,7 @@ pub fn end_busy(record: &mut Record, array: &mut [u8]) -> u8 {
     with_chip(record, |chip| chip.end_busy(array))
 }
 
-/// [`Chip::move_pin`] over a block: changes the WP byte alone.
+/// [`Chip::move_pin`] over a block: changes the WP byte alone (13.8).
 pub fn move_pin(record: &mut Record, high: bool) -> u8 {
     record[field::WP_HIGH] = u8::from(high);
     answer::ACCEPTED
@@ -127,7 +129,7 @@ pub fn cut(record: &mut Record, array: &mut [u8], junk: &[u8]) -> u8 {
 }
 
 /// [`Chip::call`] over a block; a refused one leaves it as it was, byte for
-/// byte.
+/// byte (13.9).
 pub fn call(record: &mut Record, lent: Lent, call: Call) -> Outcome {
     let mut chip = Chip::from_record(record);
     let outcome = chip.call(lent, call);
@@ -137,7 +139,8 @@ pub fn call(record: &mut Record, lent: Lent, call: Call) -> Outcome {
     outcome
 }
 
-/// Runs a call; a refused one leaves the block as it was, byte for byte.
+/// Runs a call; a refused one leaves the block as it was, byte for byte
+/// (13.7).
 fn with_chip(record: &mut Record, call: impl FnOnce(&mut Chip) -> u8) -> u8 {
     let mut chip = Chip::from_record(record);
     let answer = call(&mut chip);
@@ -154,7 +157,7 @@ fn bytes<const N: usize>(record: &Record, place: Range<usize>) -> [u8; N] {
 }
 
 /// A tag that is not known, or a buffer that the tag does not fit, reads as
-/// an operation beyond every part.
+/// an operation beyond every part (13.5).
 fn read_operation(record: &Record) -> Operation {
     let number = u16::from_be_bytes(bytes(record, field::NUMBER));
     match (record[field::TAG], record[field::BUFFER]) {

@@ -1,4 +1,5 @@
-//! Lines of document 01 about the slot driver, with the values typed from it.
+//! Examples of the slot driver's rules (sections 9 to 12 of
+//! `docs/SPECIFICATION.md`), with their values typed here.
 
 use at45db081d_model::{answer, Buffer, Call, Chip, Lent, Operation, Outcome, Part};
 
@@ -123,7 +124,7 @@ fn empty_script_counts_are_27_35_9_5() {
 }
 
 #[test]
-fn wipe_2_is_the_outline_of_the_document() {
+fn wipe_2_has_the_outline_of_the_readme() {
     let mut bench = Bench::fresh(Part::SHORT);
     let outcome = bench.wipe(&[], 2, 1);
     let expected = [

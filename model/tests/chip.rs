@@ -1,4 +1,5 @@
-//! Lines of document 01 about the chip, with the values typed from it.
+//! Examples of the chip's rules (sections 1 to 8 and 13 of
+//! `docs/SPECIFICATION.md`), with their values typed here.
 
 use at45db081d_model::command::decode;
 use at45db081d_model::part::{sector_bits, sector_of};

@@ -29,7 +29,8 @@ pub struct Chip {
 }
 
 impl Chip {
-    /// Makes a fresh chip: array and user bytes FFh, all else 0, WP high, idle.
+    /// Makes a fresh chip: FFh in all of its array and in its user bytes, the
+    /// factory bytes as given, WP high, everything else zero.
     pub fn fresh(factory: &[u8; FACTORY_LEN], array: &mut [u8]) -> Result<Chip, Error> {
         let mut record = [0; crate::RECORD_LEN];
         accepted(ffi::fresh(&mut record, factory, array))?;

@@ -1,6 +1,7 @@
 use std::fmt;
 
-/// An answer other than 0, by 01's number and word.
+/// An answer other than 0, by its number and word in `docs/SPECIFICATION.md`
+/// (12.1).
 ///
 /// After 1 to 7 nothing was sent and nothing has changed. 8 to 13 end a call
 /// that was under way; what its frames have done stays.
@@ -18,24 +19,24 @@ use std::fmt;
 #[derive(Clone, Copy, Debug, PartialEq, Eq, Hash)]
 #[repr(u8)]
 pub enum Error {
-    /// Array length not one of the two, or the operation under way names a
-    /// page, block or sector beyond the array.
+    /// No part has an array of this length, or the part lacks what the
+    /// operation under way names.
     Part = 1,
-    /// Frame length outside 1 to 1,100, or another reply length.
+    /// The frame is empty or over 1,100 bytes, or the reply's length is another.
     Frame = 2,
-    /// No such slot.
+    /// The part does not have this slot.
     Slot = 3,
-    /// Poll limit outside 1 to 1,000.
+    /// The poll limit is 0, or over 1,000.
     Limit = 4,
-    /// Recipe over 2,109 bytes, end of the patch over 2,109, or get buffer
-    /// under 2,109.
+    /// A recipe of more than 2,109 bytes, a patch that ends behind 2,109, or a
+    /// get buffer of less than 2,109 bytes.
     Size = 5,
     /// Log shorter than the call's frames may need; see [`crate::log_len`].
     Log = 6,
-    /// A script byte over 2; or a cut, and junk of another length than the
-    /// part's.
+    /// A script byte that is 3 or more; or a cut in it, and junk that has not
+    /// the part's length.
     Script = 7,
-    /// A status whose bits 5-2 are not 1001: no AT45DB081D, or a deep one.
+    /// A status without 1001 in bits 5-2: no AT45DB081D, or a deep one.
     Chip = 8,
     /// As many polls as the limit allows, and not ready.
     Busy = 9,
@@ -43,13 +44,14 @@ pub enum Error {
     Sealed = 10,
     /// The script cut the supply.
     Cut = 11,
-    /// The slot's version is not 1, or its length is over 2,109.
+    /// The slot holds no record: its first byte is not 1, or the length behind
+    /// it is over 2,109.
     Blank = 12,
-    /// The patch would end beyond the stored length.
+    /// The patch would end behind the recipe that is there.
     End = 13,
 }
 
-/// Every error with 01's word and what it says, in the order of the numbers.
+/// Every error with its word and what it says, in the order of the numbers.
 const TABLE: [(Error, &str, &str); 13] = [
     (
         Error::Part,
@@ -89,12 +91,12 @@ impl Error {
         TABLE.get(place).map(|(error, ..)| *error)
     }
 
-    /// 01's number.
+    /// The answer's number.
     pub fn number(self) -> u8 {
         self as u8
     }
 
-    /// 01's word.
+    /// The answer's word.
     pub fn word(self) -> &'static str {
         self.row().1
     }
@@ -122,7 +124,7 @@ impl std::error::Error for Error {}
 pub(crate) fn accepted(answer: u8) -> Result<(), Error> {
     match answer {
         0 => Ok(()),
-        _ => Err(Error::from_number(answer).expect("an answer of 01's table")),
+        _ => Err(Error::from_number(answer).expect("an answer of the table")),
     }
 }
 

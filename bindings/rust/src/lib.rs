@@ -8,7 +8,7 @@
 //! * [`Driver`] makes the same calls on a chip elsewhere, say a real one behind
 //!   a radio link: it yields frames and is given the replies.
 //!
-//! Every input is answered: 01's answers 1 to 13 are an [`Error`].
+//! Every input is answered: the answers 1 to 13 are an [`Error`].
 //!
 //! ```
 //! use slipknoll::{log_len, Chip, Part, Run, FACTORY_LEN, RECIPE_MAX};

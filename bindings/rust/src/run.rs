@@ -131,7 +131,7 @@ impl<'a> Run<'a> {
 pub struct Line {
     /// The frame's length.
     pub len: usize,
-    /// Its first four bytes; FFh where it is shorter.
+    /// Its first four bytes, with FFh for those that it has not.
     pub first: [u8; 4],
 }
 

@@ -1,4 +1,4 @@
--- 01's bench table holds: each line is computed by the checker from the definitions.
+-- The bench table holds: each line is computed by the checker from the definitions.
 -- Assumes nothing.
 use mathlib.Core.Path.{refl}
 use Rattle.slices.specs.Lists.{tabulate, over, splice, andOver, same, ringRead, ringWrite}

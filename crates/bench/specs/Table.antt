@@ -1,4 +1,4 @@
--- 01's bench table, all of it: addresses, sectors, status, pages, records, answers, frames, and the program's example.
+-- The bench table: addresses, sectors, status, pages, records, answers, frames, and the program's example.
 -- Assumes nothing.
 use Prim.Native.Nat.{ℕ, _+_}
 use mathlib.Core.Path.{_≡_}

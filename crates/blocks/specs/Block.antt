@@ -20,24 +20,25 @@ use Rattle.state.specs.declared.Chip.{Chip}
 use Rattle.state.specs.Memory.{bufferSize}
 use Rattle.blocks.specs.declared.Heading.{Heading}
 
--- n bytes from index a on
+-- (13.1) n bytes from index a on
 abbrev pub field : ℕ → ℕ → List ℕ → List ℕ
 field a n block = take n (drop a block)
 
--- "one byte each, 0 or 1 (anything else reads as 1)"
+-- (13.2) 0 is off, any other byte on
 abbrev pub flag : ℕ → Bool
 flag x = not (eqb x 0)
 
+-- (13.2) written as 0 or 1
 abbrev pub flagByte : Bool → ℕ
 flagByte b = cond b 1 0
 
 -- ---- the operation under way: tag, buffer, number, sector set, data
 
--- an operation beyond every part: what a tag that is none, or a buffer that the tag does not fit, reads as (answer 1)
+-- (13.5) an operation beyond every part: what a tag that is none, or a buffer that the tag does not fit, reads as (answer 1)
 abbrev pub beyond : Operation
 beyond = ErasePage 65535
 
--- the operation of a tag that goes with a buffer
+-- (13.4) the operation of a tag that goes with a buffer
 unfoldable pub bufferedOf : ℕ → Buffer → ℕ → Operation
 bufferedOf tag b n =
     cond (eqb tag 0x83) (Program b n)
@@ -47,7 +48,7 @@ bufferedOf tag b n =
     (cond (eqb tag 0x58) (Rewrite b n)
     beyond))))
 
--- the operation of a tag that goes with none; the sector set, and the 64 data bytes
+-- (13.4) the operation of a tag that goes with none; the sector set, and the 64 data bytes
 unfoldable pub plainOf : ℕ → ℕ → ℕ → List ℕ → Operation
 plainOf tag n sectors bytes =
     cond (eqb tag 0x00) Idle
@@ -61,7 +62,7 @@ plainOf tag n sectors bytes =
     (cond (eqb tag 0x9B) (ProgramSecurity (pack64 bytes))
     beyond))))))))
 
--- tag, buffer, number, sector set and data
+-- (13.4) the operation of tag, buffer, number, sector set and data
 unfoldable pub operationOf : ℕ → ℕ → ℕ → ℕ → List ℕ → Operation
 operationOf tag buffer n sectors bytes =
     cond (eqb buffer 0) (plainOf tag n sectors bytes)
@@ -69,14 +70,17 @@ operationOf tag buffer n sectors bytes =
     (cond (eqb buffer 2) (bufferedOf tag Two n)
     beyond))
 
--- tag, buffer, number and sector set of an operation: zero where it has none
+-- Aid: tag, buffer, number and sector set
 abbrev pub head : ℕ → ℕ → ℕ → ℕ → Heading
 head tag buffer n sectors = record { tag = tag; buffer = buffer; number = n; sectors = sectors }
 
+-- (13.4) 1 or 2
 abbrev pub bufferNumber : Buffer → ℕ
 bufferNumber One = 1
 bufferNumber Two = 2
 
+-- (13.4) tag, buffer, number and sector set of an operation
+-- (13.6) zero where it has none
 unfoldable pub headOf : Operation → Heading
 headOf Idle = head 0x00 0 0 0
 headOf (Program b page) = head 0x83 (bufferNumber b) page 0
@@ -93,7 +97,7 @@ headOf (ProgramProtection d) = head 0xFC 0 0 0
 headOf (LockSector s) = head 0x30 0 s 0
 headOf (ProgramSecurity d) = head 0x9B 0 0 0
 
--- the 64 data bytes: those of an FC (16) or a 9B, zeros elsewhere
+-- (13.6) the 64 data bytes: those of an FC (16) or a 9B, zeros elsewhere
 abbrev pub bytesHeld : Update → List ℕ
 bytesHeld Keep = replicate 64 0
 bytesHeld FillProtection = replicate 64 0
@@ -101,21 +105,25 @@ bytesHeld (MaskProtection d) = bytes16 d ++ replicate 48 0
 bytesHeld (Lock s) = replicate 64 0
 bytesHeld (WriteUser d) = bytes64 d
 
+-- (13.6) of an operation
 unfoldable pub dataBytes : Operation → List ℕ
 dataBytes o = bytesHeld (updateOf o)
 
 -- ---- the block
 
--- numbers are big-endian; bit i of the sector set is sector i
+-- (13.3) page, block or sector
 abbrev pub numberIn : List ℕ → ℕ
 numberIn block = getD block 166 0 * 256 + getD block 167 0
 
+-- (13.3) the sector set: bit i is sector i
 abbrev pub sectorsIn : List ℕ → ℕ
 sectorsIn block = getD block 168 0 * 16777216 + getD block 169 0 * 65536 + getD block 170 0 * 256 + getD block 171 0
 
+-- (13.4) the operation that a block holds
 unfoldable pub decodeOperation : List ℕ → Operation
 decodeOperation block = operationOf (getD block 164 0) (getD block 165 0) (numberIn block) (sectorsIn block) (field 172 64 block)
 
+-- (13.1) the registers that a block holds
 unfoldable pub decodeRegisters : List ℕ → Registers
 decodeRegisters block =
     record {
@@ -130,21 +138,24 @@ decodeRegisters block =
       operation = decodeOperation block;
     }
 
+-- (13.1) the chip that a block holds
 unfoldable pub decodeChip : List ℕ → Chip
 decodeChip block =
     record { registers = decodeRegisters block; buffer1 = field 236 bufferSize block; buffer2 = field 500 bufferSize block; compare = flag (getD block 764 0) }
 
--- the twelve bytes from 160 on
+-- (13.1) the twelve bytes from 160 on
 unfoldable pub headBytes : Registers → Heading → List ℕ
 headBytes r h =
     flagByte (r .used) ∷ flagByte (r .protect) ∷ flagByte (r .wp) ∷ flagByte (r .deep) ∷
     h .tag ∷ h .buffer ∷ h .number / 256 % 256 ∷ h .number % 256 ∷
     h .sectors / 16777216 % 256 ∷ h .sectors / 65536 % 256 ∷ h .sectors / 256 % 256 ∷ h .sectors % 256 ∷ []
 
+-- (13.1) the block up to the buffers
 unfoldable pub encodeRegisters : Registers → List ℕ
 encodeRegisters r =
     r .protection ++ (r .lockdown ++ (r .user ++ (r .factory ++ (headBytes r (headOf (r .operation)) ++ dataBytes (r .operation)))))
 
+-- (13.1) the whole block
 unfoldable pub encodeChip : Chip → List ℕ
 encodeChip c = encodeRegisters (c .registers) ++ (c .buffer1 ++ (c .buffer2 ++ (flagByte (c .compare) ∷ [])))
 

@@ -14,23 +14,24 @@ use Rattle.state.specs.Memory.{State, stateOf, chipIn}
 use Rattle.state.specs.Outcomes.{Left, pinOutcome}
 use Rattle.blocks.specs.Block.{decodeChip, encodeChip, flagByte}
 
--- the state that block and array hold
+-- (13.10) the state that block and array hold
 abbrev pub heldIn : List ℕ → List ℕ → State
 heldIn block xs = stateOf (decodeChip block) xs
 
--- the answer's number
+-- Aid: the answer's number
 abbrev pub answered : Left → ℕ
 answered o = numberOf (o .answer)
 
--- the block at exit: under answer 0 it holds the chip
+-- (13.7) the block at exit: under answer 0 it holds the chip
 unfoldable pub storedBy : List ℕ → Answer → Chip → List ℕ
 storedBy held a c = cond (eqb (numberOf a) 0) (encodeChip c) held
 
+-- (13.7) of what an entry point leaves
 abbrev pub storedIn : List ℕ → Left → List ℕ
 storedIn held o = storedBy held (o .answer) (chipIn (o .state))
 
--- a function of the C interface on the block `held`, whose entry point leaves o: its result r, and block, array and reply at exit. The block
--- reads back as the chip that is left
+-- (13.7) a function of the C interface on the block `held`, whose entry point leaves o: its result r, and block, array and reply at exit
+-- (13.10) the block reads back as the chip that is left
 pub record Met (held : List ℕ) (o : Left) (r : ℕ) (kept xs ys : List ℕ) : Type 0 where
   pub answer : r ≡ answered o
   pub block : kept ≡ storedIn held o
@@ -38,18 +39,20 @@ pub record Met (held : List ℕ) (o : Left) (r : ℕ) (kept xs ys : List ℕ) : 
   pub reply : ys ≡ o .reply
   pub holds : heldIn kept xs ≡ o .state
 
--- the same of a fresh chip, which is none where the array is refused
+-- (13.7) the same of a fresh chip, which is none where the array is refused
 pub record MetFresh (held : List ℕ) (o : Left) (r : ℕ) (kept xs : List ℕ) : Type 0 where
   pub answer : r ≡ answered o
   pub block : kept ≡ storedIn held o
   pub array : xs ≡ o .state .memory .array
   pub holds : r ≡ 0 → heldIn kept xs ≡ o .state
 
--- ---- a pin move changes the WP byte alone
+-- ---- a pin move
 
+-- (13.8) the WP byte, and no other
 unfoldable pub pinMoved : List ℕ → Bool → List ℕ
 pinMoved block high = set block 162 (flagByte high)
 
+-- (13.8) answer 0, and the chip with WP at its new level
 pub record MetPin (held : List ℕ) (high : Bool) (r : ℕ) (kept : List ℕ) : Type 0 where
   pub answer : r ≡ 0
   pub block : kept ≡ pinMoved held high

@@ -11,7 +11,8 @@ use Rattle.blocks.specs.Promises.{heldIn, Met, MetPin}
 use Rattle.slots.specs.Lists.{Op, call, raw, straight, pin, busyEnd, cut, lentTo, logOf}
 use Rattle.runs.specs.Promises.{Called}
 
--- what a caller has after a call: the number returned, block and array, the log, the three counts, and the get buffer or the reply; [] where none is lent
+-- (14.4) what a caller has after a call: the number returned, block and array, the log, the three counts, and the get buffer or the reply; [] where none
+-- is lent
 pub record Seen : Type 0 where
   pub number : ℕ
   pub block : List ℕ
@@ -20,11 +21,11 @@ pub record Seen : Type 0 where
   pub counts : List ℕ
   pub lent : List ℕ
 
--- no log and no counts are lent
+-- Aid: no log and no counts are lent
 abbrev pub Bare : Seen → Type 0
 Bare z = (z .log ≡ []) × (z .counts ≡ [])
 
--- the promise of the function that is called: slipknoll_put, _patch, _get, _wipe, _raw, _send, _move_pin, _end_busy, _cut
+-- (14.4) the promise of the function that is called: slipknoll_put, _patch, _get, _wipe, _raw, _send, _move_pin, _end_busy, _cut
 abbrev pub Does : Op → (held xs : List ℕ) → Seen → Type 0
 Does (call a place script payload junk log lent) held xs z =
     Called (call a place script payload junk log lent) held xs (z .number) (z .block) (z .array) (z .log) (z .counts) (z .lent)
@@ -35,19 +36,19 @@ Does (pin high) held xs z = MetPin held high (z .number) (z .block) × (z .array
 Does busyEnd held xs z = Met held (endOutcome (heldIn held xs)) (z .number) (z .block) (z .array) (z .lent) × Bare z
 Does (cut junk) held xs z = Met held (cutOutcome junk (heldIn held xs)) (z .number) (z .block) (z .array) (z .lent) × Bare z
 
--- a list of them
+-- (14.10) a list of them
 abbrev pub Chain : (held xs : List ℕ) → List Op → List Seen → Type 0
 Chain held xs [] [] = Unit {0}
 Chain held xs [] (z ∷ zs) = ⊥
 Chain held xs (o ∷ os) [] = ⊥
 Chain held xs (o ∷ os) (z ∷ zs) = Does o held xs z × Chain (z .block) (z .array) os zs
 
--- what is left after the last of them
+-- Aid: what is left after the last of them
 unfoldable pub lastIn : Seen → List Seen → Seen
 lastIn z [] = z
 lastIn z (y ∷ ys) = lastIn y ys
 
--- ---- what a caller reads of it
+-- ---- Aid: what a caller reads of it
 
 -- frames, polls, n; 0 where no counts are lent
 abbrev pub framesIn : Seen → ℕ
@@ -59,22 +60,24 @@ pollsIn z = getD (z .counts) 1 0
 abbrev pub countIn : Seen → ℕ
 countIn z = getD (z .counts) 2 0
 
--- the part of the log that was written: six bytes a frame
+-- (14.24) the part of the log that was written: six bytes a frame
 abbrev pub writtenIn : Seen → List ℕ
 writtenIn z = take (6 * framesIn z) (z .log)
 
 -- ---- demand 3: what is the same of two
 
--- 0, 12, 13
+-- (14.24) 0, 12, 13
 abbrev pub SoftNumber : ℕ → Type 0
 SoftNumber n = ((n ≡ 0) ⊎ (n ≡ 12)) ⊎ (n ≡ 13)
 
+-- (14.24) what is compared of two calls
 pub record SameSeen (y z : Seen) : Type 0 where
   pub written : writtenIn y ≡ writtenIn z
   pub frames : framesIn y ≡ framesIn z
   pub polls : pollsIn y ≡ pollsIn z
   pub answer : (y .number ≡ z .number) ⊎ (SoftNumber (y .number) × SoftNumber (z .number))
 
+-- (14.24) of two lists, one by one
 abbrev pub AllSeen : List Seen → List Seen → Type 0
 AllSeen [] [] = Unit {0}
 AllSeen [] (z ∷ zs) = ⊥
@@ -83,7 +86,7 @@ AllSeen (y ∷ ys) (z ∷ zs) = SameSeen y z × AllSeen ys zs
 
 -- ---- demand 2: what a get returns
 
--- refused (1 to 9), cut (11), or 0 with exactly the recipe
+-- (14.10) refused (1 to 9), cut (11), or 0 with exactly the recipe
 abbrev pub ReturnsIn : List ℕ → Seen → Type 0
 ReturnsIn recipe z =
     (((1 ≤ z .number) × (z .number ≤ 9)) ⊎ (z .number ≡ 11))
@@ -91,7 +94,7 @@ ReturnsIn recipe z =
 
 -- ---- demand 1: as a refusal leaves it
 
--- block, array, log and what was lent as they were; no frame, no poll, n 0
+-- (14.4) block, array, log and what was lent as they were; no frame, no poll, n 0
 pub record Refused (o : Op) (held xs : List ℕ) (z : Seen) : Type 0 where
   pub block : z .block ≡ held
   pub array : z .array ≡ xs

@@ -14,7 +14,7 @@ use Rattle.worlds.specs.Chains.{heardIn}
 use Rattle.driver_blocks.specs.Block.{toldNumber, decodeDriver, encodeDriver}
 use Rattle.chains.specs.Chains.{SoftNumber}
 
--- the block, the bytes read so far, the outlines of the frames that slipknoll_driver_frame and _next gave, how many frames and how many polls
+-- (14.28) the block, the bytes read so far, the outlines of the frames that slipknoll_driver_frame and _next gave, how many frames and how many polls
 pub record Held : Type 0 where
   pub block : List ℕ
   pub staged : List ℕ
@@ -22,14 +22,15 @@ pub record Held : Type 0 where
   pub frames : ℕ
   pub polls : ℕ
 
+-- Aid: nothing is sent yet
 abbrev pub begun : List ℕ → List ℕ → Held
 begun block staged = record { block = block; staged = staged; lines = []; frames = 0; polls = 0 }
 
--- the frame that there is to send; [] at the end
+-- Aid: the frame that there is to send; [] at the end
 abbrev pub sends : List ℕ → Held → List ℕ
 sends payload z = frameIn (decodeDriver (z .block)) payload (z .staged)
 
--- it is sent, and reply number `frames` handed to slipknoll_driver_next; after the end nothing
+-- (14.28) it is sent, and reply number `frames` handed to slipknoll_driver_next; after the end nothing
 unfoldable pub linked : List ℕ → (ℕ → List ℕ) → Held → Held
 linked payload replies z =
     cond (eqb (length (sends payload z)) 0) z
@@ -41,22 +42,23 @@ linked payload replies z =
       polls = z .polls + cond (pollIn (decodeDriver (z .block))) 1 0;
     })
 
+-- (14.28) n of them
 unfoldable pub chain : ℕ → List ℕ → (ℕ → List ℕ) → Held → Held
 chain zero payload replies z = z
 chain (suc n) payload replies z = chain n payload replies (linked payload replies z)
 
--- what slipknoll_driver_answer tells
+-- Aid: what slipknoll_driver_answer tells
 abbrev pub toldOf : Held → ℕ
 toldOf z = toldNumber (toldIn (decodeDriver (z .block)))
 
--- the replies of two worlds agree in what is heard of each of the next n frames; frame by frame, as the first world has them
+-- (14.28) the replies of two worlds agree in what is heard of each of the next n frames; frame by frame, as the first world has them
 abbrev pub Agree : ℕ → Geometry → List ℕ → (replies others : ℕ → List ℕ) → Held → Type 0
 Agree zero g payload replies others z = Unit {0}
 Agree (suc n) g payload replies others z =
     (eqb (length (sends payload z)) 0 ≡ false → heardIn g (decodeDriver (z .block)) (replies (z .frames)) ≡ heardIn g (decodeDriver (z .block)) (others (z .frames)))
     × Agree n g payload replies others (linked payload replies z)
 
--- what is the same of both: the frames' outlines, their number, the polls, and what is told (0, 12 and 13 as one)
+-- (14.28) what is the same of both: the frames' outlines, their number, the polls, and what is told (0, 12 and 13 as one)
 pub record Same (y z : Held) : Type 0 where
   pub lines : y .lines ≡ z .lines
   pub frames : y .frames ≡ z .frames

@@ -1,6 +1,6 @@
-// The AT45DB081D as document 01 condenses it: a chip record by value and the array as a lent slice.
-// Entry points: fresh, send, end_busy, move_pin, cut, and number. None has a `requires`: bad input is refused, and a refusal
-// changes nothing.
+// The AT45DB081D as docs/SPECIFICATION.md describes it: a chip record by value and the array as a lent slice.
+// Entry points: fresh, send, end_busy, move_pin, cut; `number`, for the answers, is one of crate state. None has a `requires`: bad input is
+// refused, and a refusal changes nothing.
 ghost use mathlib.Core.List.{List, []};
 ghost use Prim.Native.Nat.{ℕ};
 ghost use Rattle.state.specs.Memory.{stateOf};

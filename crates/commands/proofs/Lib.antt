@@ -1,4 +1,4 @@
-mod Places
-mod Steps
+pub mod Places
+pub mod Steps
 pub mod Rules
 pub mod Frames

@@ -1,4 +1,4 @@
--- The command table of 01, row by row: the opcode or the four-byte sequence that opens a frame, the lead, the effect.
+-- The command table, row by row: the opcode or the four bytes that open a frame, the lead, the effect.
 -- Assumes nothing.
 use Prim.Native.Nat.{ℕ}
 use mathlib.Core.List.{List, [], _∷_}
@@ -8,11 +8,11 @@ use Rattle.commands.specs.declared.Command.{Command}
 use Rattle.commands.specs.declared.Effect.{Effect}
 use Rattle.commands.specs.declared.Effect.the-variants.{ReadPage, ReadArray, ReadBuffer, WriteBuffer, Program, ProgramOver, ProgramThrough, ErasePage, EraseBlock, EraseSector, EraseChip, Transfer, Compare, Rewrite, ProtectOn, ProtectOff, EraseProtection, ProgramProtection, LockSector, ProgramSecurity, ReadProtection, ReadLockdown, ReadSecurity, ReadStatus, ReadId, PowerDown, Resume, Unlisted}
 
--- one row whose opening is an opcode
+-- (4.1) a row whose opening is one byte
 abbrev pub row : ℕ → ℕ → Effect → Command
 row opcode lead effect = (opcode, lead, effect)
 
--- the rows that open with one byte
+-- (4.2) the rows that open with one byte
 unfoldable pub commands : List Command
 commands =
     row 0xD2 8 ReadPage ∷
@@ -48,13 +48,13 @@ commands =
     row 0xAB 1 Resume ∷
     []
 
--- a row whose opening is four bytes
+-- (4.1) a row whose opening is four bytes
 pub record Sequence : Type 0 where
   pub opening : List ℕ
   pub lead : ℕ
   pub effect : Effect
 
--- the rows that open with four bytes
+-- (4.3) the rows that open with four bytes
 unfoldable pub sequences : List Sequence
 sequences =
     record { opening = 0xC7 ∷ 0x94 ∷ 0x80 ∷ 0x9A ∷ []; lead = 4; effect = EraseChip } ∷

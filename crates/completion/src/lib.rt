@@ -5,14 +5,13 @@ ghost use mathlib.Core.List.{[]};
 ghost use Prim.Native.Nat.{_<_};
 ghost use lib.ListN.{length};
 ghost use Rattle.geometry.specs.Parts.{Sized};
-ghost use Rattle.slices.specs.Lists.{splice};
 ghost use Rattle.registers.specs.Operations.{within};
-ghost use Rattle.memory.specs.Pages.{programmed, programmedOver, transferred, differing, erased};
-ghost use Rattle.state.specs.Lent.{memoryIn, bufferStart, lent};
+ghost use Rattle.memory.specs.Pages.{erased};
+ghost use Rattle.state.specs.Lent.{memoryIn};
 ghost use Rattle.state.specs.Completion.{inTarget, completedMemory};
 ghost use Rattle.state.specs.Memory.{stateOf};
 ghost use Rattle.state.specs.Outcomes.{Leaves, endedBy};
-use commands::Buffer;
+ghost use Rattle.completion.specs.Work.{arrayBy, bufferBy, bitBy};
 use geometry::Geometry;
 use geometry::Part;
 use registers::Operation;
@@ -21,44 +20,27 @@ use state::Answer;
 use state::Chip;
 use state::Outcome;
 
-// 83/86, 82/85: the page becomes the buffer.
-fn program(g: Geometry, buffers: &[u8], array: &mut [u8], buffer: Buffer, page: usize)
-    requires { ⌜ (Sized g (length (now array))) × (page < g .pages) × (length (now buffers) ≡ 528) ⌝ }
-    ensures { λ _. ⌜ now (array .exit) ≡ programmed g page (lent buffer (now (buffers .entry))) (now (array .entry)) ⌝ }
+// What a work on a page does to the array, to the buffer that it uses, and to the compare bit, which it returns.
+fn work(g: Geometry, w: Work, bit: bool, page: usize, array: &mut [u8], buffer: &mut [u8]) -> bool
+    requires { ⌜ (Sized g (length (now array))) × (page < g .pages) × (length (now buffer) ≡ 264) ⌝ }
+    ensures { λ r. ⌜ (now (array .exit) ≡ arrayBy g page (now (buffer .entry)) (now (array .entry)) w) × (now (buffer .exit) ≡ bufferBy g page (now (array .entry)) (now (buffer .entry)) w) × (r ≡ bitBy g page (now (array .entry)) (now (buffer .entry)) bit w) ⌝ }
 {
-    let a = state::buffer_start(buffer);
-    let e = a + 264;
-    memory::program(g, array, page, &buffers[a..e]);
-}
-
-// 88/89: the page becomes page AND buffer.
-fn program_over(g: Geometry, buffers: &[u8], array: &mut [u8], buffer: Buffer, page: usize)
-    requires { ⌜ (Sized g (length (now array))) × (page < g .pages) × (length (now buffers) ≡ 528) ⌝ }
-    ensures { λ _. ⌜ now (array .exit) ≡ programmedOver g page (lent buffer (now (buffers .entry))) (now (array .entry)) ⌝ }
-{
-    let a = state::buffer_start(buffer);
-    let e = a + 264;
-    memory::program_over(g, array, page, &buffers[a..e]);
-}
-
-// 53/55, 58/59: the buffer becomes the page.
-fn transfer(g: Geometry, buffers: &mut [u8], array: &[u8], buffer: Buffer, page: usize)
-    requires { ⌜ (Sized g (length (now array))) × (page < g .pages) × (length (now buffers) ≡ 528) ⌝ }
-    ensures { λ _. ⌜ now (buffers .exit) ≡ splice (bufferStart buffer) (transferred g page (now (array .entry)) (lent buffer (now (buffers .entry)))) (now (buffers .entry)) ⌝ }
-{
-    let a = state::buffer_start(buffer);
-    let e = a + 264;
-    memory::transfer(g, array, page, &mut buffers[a..e]);
-}
-
-// 60/61: the compare bit tells whether buffer and page differ.
-fn compare(g: Geometry, buffers: &[u8], array: &[u8], buffer: Buffer, page: usize) -> bool
-    requires { ⌜ (Sized g (length (now array))) × (page < g .pages) × (length (now buffers) ≡ 528) ⌝ }
-    ensures { λ r. ⌜ r ≡ differing g page (now (array .entry)) (lent buffer (now (buffers .entry))) ⌝ }
-{
-    let a = state::buffer_start(buffer);
-    let e = a + 264;
-    memory::page_differs(g, array, page, &buffers[a..e])
+    match w {
+        Work::Program => {
+            memory::program(g, array, page, buffer);
+            bit
+        }
+        Work::ProgramOver => {
+            memory::program_over(g, array, page, buffer);
+            bit
+        }
+        Work::Transfer => {
+            memory::transfer(g, array, page, buffer);
+            bit
+        }
+        Work::Compare => memory::page_differs(g, array, page, buffer),
+        _ => bit,
+    }
 }
 
 // 81, 50, 7C, C7 94 80 9A: what the operation erases becomes FFh.
@@ -92,26 +74,13 @@ pub fn complete_memory(
     let u = f.usage;
     let buffer = registers::buffer_of(u);
     let w = f.work;
-    match w {
-        Work::Rest => bit,
-        Work::Program => {
-            program(g, buffers, array, buffer, page);
-            bit
-        }
-        Work::ProgramOver => {
-            program_over(g, buffers, array, buffer, page);
-            bit
-        }
-        Work::Transfer => {
-            transfer(g, buffers, array, buffer, page);
-            bit
-        }
-        Work::Compare => compare(g, buffers, array, buffer, page),
-        Work::Erase => {
-            erase(g, array, o);
-            bit
-        }
+    if let Work::Erase = w {
+        erase(g, array, o);
+        return bit;
     }
+    let a = state::buffer_start(buffer);
+    let e = a + 264;
+    work(g, w, bit, page, array, &mut buffers[a..e])
 }
 
 // The busy end of a chip by value.
@@ -123,7 +92,7 @@ pub fn end_in(g: Geometry, c: Chip, array: &mut [u8]) -> Outcome
     let o = r.operation;
     let mut buffers = state::buffers_of(c);
     let bit = complete_memory(g, c.compare, &mut buffers, array, o);
-    let after = control::complete(g, r);
+    let after = register_ends::complete(g, r);
     Outcome {
         answer: Answer::Done,
         chip: state::chip_of(after, buffers, bit),

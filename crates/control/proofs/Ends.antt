@@ -38,7 +38,7 @@ pub completed-keep : (r : Registers) → updateOf (r .operation) ≡ Keep → co
 unfolding completed completedBy
 completed-keep r e = λ i. withOperation (updated (e i) r) Idle
 
--- "a busy end while idle changes nothing"
+-- in an idle chip a busy end keeps the registers
 pub completed-idle : (r : Registers) → r .operation ≡ Idle → completed r ≡ r
 completed-idle r e = completed-keep r (ap updateOf e) ∙ (λ i. withOperation r (sym e i))
 

@@ -1,4 +1,4 @@
-mod Steps
+pub mod Steps
 pub mod Rows
 pub mod Names
 pub mod Frames

@@ -229,7 +229,7 @@ starts-within g n r f o z (programs-protection u) = refl
 starts-within g n r f o z (locks-sector a) = lt-ltb (sectorOf (pageAt g a)) (sectorCount g) (sector-few g (pageAt g a) (page-few g n a z))
 starts-within g n r f o z (programs-security u) = refl
 
--- a frame never leaves an operation that names something beyond the part
+-- an operation within the part is followed by one within the part, whatever the frame
 pub control-within : (g : Geometry) (n : ℕ) (r : Registers) (f : List ℕ) → Sized g n → within g (r .operation) ≡ true
     → within g (control g r f .registers .operation) ≡ true
 control-within g n r f z h = control-operation g r f (λ o. within g o ≡ true) h (λ o y s. starts-within g n r f o z s)

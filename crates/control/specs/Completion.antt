@@ -13,7 +13,10 @@ use Rattle.registers.specs.Facts.{updateOf}
 use Rattle.registers.specs.Fields.{withProtection, withLockdown, withUser, withOperation}
 use Rattle.registers.specs.Protection.{lockedBytes}
 
--- CF: "protection bytes all FFh"; FC: "protection AND data"; 30: "locks the sector"; 9B: "user bytes = data, once; sets used"
+-- (7.11) CF fills the protection bytes
+-- (7.12) FC clears protection bits by the data that it holds
+-- (7.13) 30 sets the sector's bits in the lockdown bytes
+-- (7.14) 9B makes its data the user bytes
 abbrev pub updated : Update → Registers → Registers
 updated Keep r = r
 updated FillProtection r = withProtection r (replicate 16 255)
@@ -21,9 +24,10 @@ updated (MaskProtection d) r = withProtection r (andOver (r .protection) (bytes1
 updated (Lock s) r = withLockdown r (lockedBytes (r .lockdown) s)
 updated (WriteUser d) r = withUser r (bytes64 d)
 
+-- (7.2) by the operation alone, whatever marks and WP are by then
 unfoldable pub completedBy : Operation → Registers → Registers
 completedBy o r = updated (updateOf o) r
 
--- the registers after a busy end: the operation has taken effect, the chip is idle
+-- (7.1) the registers after a busy end: the operation has taken effect, and is none any more
 unfoldable pub completed : Registers → Registers
 completed r = withOperation (completedBy (r .operation) r) Idle

@@ -26,58 +26,63 @@ use Rattle.registers.specs.Fields.{withOperation, withProtect, withDeep}
 use Rattle.control.specs.Obeyed.{obeyed}
 use Rattle.registers.specs.Protection.{sealed, unsealedSet}
 
--- the frame leaves these registers and asks this of the memory; its data begin after the lead
+-- Aid: the frame leaves these registers and asks this of the memory; its data begin after the lead
 abbrev pub decided : Registers → Action → ℕ → Decision
 decided r a lead = record { registers = r; action = a; lead = lead }
 
--- "Ignored": nothing changes, every reply byte is FFh
+-- (5.1) the registers stay, and nothing is asked of the memory
 abbrev pub ignored : Registers → Decision
 ignored r = decided r A.Silent 0
 
--- the operation starts when the frame ends
+-- (6.4) the operation is under way from the frame's end on
 abbrev pub started : Registers → Operation → Decision
 started r o = decided (withOperation r o) A.Silent 0
 
--- "Ignored: a program or erase naming a sealed sector"
+-- (5.9) ignored on a page of a sealed sector
 unfoldable pub startedOn : Registers → ℕ → Operation → Decision
 startedOn r page o = cond (sealed r (sectorOf page)) (ignored r) (started r o)
 
--- 82/85: "as 84/87, then as 83/86"; sealed, they "write no buffer"
+-- (5.10) 82/85 do nothing on a page of a sealed sector, and write no buffer
+-- (6.5) else they write the buffer at once, and start what 83/86 start
 unfoldable pub programmedThrough : Registers → Buffer → ℕ → ℕ → ℕ → Decision
 programmedThrough r b page start lead =
     cond (sealed r (sectorOf page)) (ignored r) (decided (withOperation r (O.Program b page)) (A.WriteBuffer b start) lead)
 
--- 3D 2A 7F 9A: "protect mark .. off", ignored "while WP is low"
+-- (5.11) 9A does nothing with WP low
+-- (6.3) else it clears the protect mark at once
 unfoldable pub protectOff : Registers → Decision
 protectOff r = cond (r .wp) (decided (withProtect r false) A.Silent 0) (ignored r)
 
--- 3D 2A 7F CF, ignored "while WP is low"
+-- (5.12) CF does nothing with WP low
 unfoldable pub protectionErased : Registers → Decision
 protectionErased r = cond (r .wp) (started r O.EraseProtection) (ignored r)
 
--- an FC's data: "wrap at 16 .., bytes not sent count as FFh"
+-- (6.9) an FC's data
 unfoldable pub protectionData : List ℕ → Data16
 protectionData f = pack16 (padded 16 (drop 4 f))
 
--- 3D 2A 7F FC, ignored "while WP is low"; "at the start the 16 or 64 bytes also overwrite the beginning of buffer 1"
+-- (5.13) FC does nothing with WP low, to buffer 1 neither
 unfoldable pub protectionProgrammed : Registers → List ℕ → Decision
 protectionProgrammed r f =
     cond (r .wp) (decided (withOperation r (O.ProgramProtection (protectionData f))) (A.LoadProtection (protectionData f)) 0) (ignored r)
 
--- 3D 2A 7F 30: "locks the sector of the page in the last three" bytes of the lead
+-- (6.8) 30 has its address in bytes 4 to 6
 unfoldable pub sectorLocked : Geometry → Registers → List ℕ → Decision
 sectorLocked g r f = started r (O.LockSector (sectorOf (pageAt g (addressAt f 4))))
 
--- a 9B's data: "wrap at .. 64, bytes not sent count as FFh"
+-- (6.9) a 9B's data
 unfoldable pub securityData : List ℕ → Data64
 securityData f = pack64 (padded 64 (drop 4 f))
 
--- 9B 00 00 00: "once": ignored "once used"
+-- (5.14) 9B does nothing with the used mark set, to buffer 1 neither
 unfoldable pub securityProgrammed : Registers → List ℕ → Decision
 securityProgrammed r f =
     cond (r .used) (ignored r) (decided (withOperation r (O.ProgramSecurity (securityData f))) (A.LoadSecurity (securityData f)) 0)
 
--- a row of the command table, for a frame that is obeyed: page and start are the page and byte of the frame's first address
+-- (5.15) a row of the command table, by the page and the byte of the frame's address; most test neither seals nor WP nor used
+-- (5.16) nor does a Chip Erase, whatever is sealed
+-- (6.3) A9, B9 and AB change their mark at once
+-- (6.6) 50 takes the block of the page, 7C its sector
 unfoldable pub rowDecided : Geometry → Registers → List ℕ → ℕ → ℕ → ℕ → Effect → Decision
 rowDecided g r f page start lead E.ReadPage = decided r (A.ReadPage page start) lead
 rowDecided g r f page start lead E.ReadArray = decided r (A.ReadArray (pageStart g page + start)) lead
@@ -108,13 +113,14 @@ rowDecided g r f page start lead E.PowerDown = decided (withDeep r true) A.Silen
 rowDecided g r f page start lead E.Resume = decided (withDeep r false) A.Silent 0
 rowDecided g r f page start lead E.Unlisted = ignored r
 
--- the row with the page and the byte of the frame's first address
+-- (3.10) the address is in bytes 1 to 3
 abbrev pub rowOf : Geometry → Registers → List ℕ → ℕ → Effect → Decision
 rowOf g r f lead e = rowDecided g r f (pageAt g (addressAt f 1)) (byteAt g (addressAt f 1)) lead e
 
+-- (6.1) a frame with its row, obeyed or ignored
 unfoldable pub decodedControl : Geometry → Registers → List ℕ → Decoded → Decision
 decodedControl g r f d = cond (obeyed r (d .effect)) (rowOf g r f (d .lead) (d .effect)) (ignored r)
 
--- what a frame does to the registers, and what it asks of the memory
+-- (6.1) what a frame does to the registers, and what it asks of the memory
 unfoldable pub control : Geometry → Registers → List ℕ → Decision
 control g r f = decodedControl g r f (decodeOf f)

@@ -1,5 +1,4 @@
--- Which frames a deep or busy chip obeys (01: "Ignored: .. every frame but AB while deep; while busy, all but D7, 9F and reads
--- and writes of a buffer the operation doesn't use. During CF, FC, 30 and 9B only D7 is obeyed. An array erase uses no buffer.").
+-- Which frames a deep or a busy chip obeys.
 -- Assumes nothing.
 use mathlib.Core.Bool.{Bool, true, false, cond, not, _&&_}
 use Rattle.commands.specs.declared.Buffer.{Buffer}
@@ -14,7 +13,7 @@ use Rattle.registers.specs.declared.Usage.{Usage}
 use Rattle.registers.specs.declared.Usage.the-variants.{Free, NoBuffer, Uses, Exclusive}
 use Rattle.registers.specs.Facts.{factsOf}
 
--- what matters of a command for whether it is obeyed
+-- (5.6) what matters of a command for whether it is obeyed
 unfoldable pub classOf : Effect → Class
 classOf E.ReadPage = Other
 classOf E.ReadArray = Other
@@ -45,16 +44,20 @@ classOf E.PowerDown = Other
 classOf E.Resume = Wake
 classOf E.Unlisted = Other
 
--- what matters of the operation under way
+-- Aid: what matters of the operation under way
 abbrev pub usageOf : Operation → Usage
 usageOf o = factsOf o .usage
 
+-- Aid: the buffers are one
 abbrev pub sameBuffer : Buffer → Buffer → Bool
 sameBuffer One One = true
 sameBuffer One Two = false
 sameBuffer Two One = false
 sameBuffer Two Two = true
 
+-- (5.2) an idle chip: every command
+-- (5.3) a busy one: D7, 9F, and a buffer that is free
+-- (5.5) with CF, FC, 30 or 9B: D7
 unfoldable pub allowed : Usage → Class → Bool
 allowed Free c = true
 allowed NoBuffer Status = true
@@ -73,6 +76,7 @@ allowed Exclusive Wake = false
 allowed Exclusive (OfBuffer b) = false
 allowed Exclusive Other = false
 
+-- (5.7) the command is AB
 abbrev pub isWake : Class → Bool
 isWake Status = false
 isWake Id = false
@@ -80,6 +84,7 @@ isWake Wake = true
 isWake (OfBuffer b) = false
 isWake Other = false
 
--- both rules hold at once: a chip that is deep and busy, as a caller may make it, obeys nothing
+-- (5.7) a deep chip obeys AB alone
+-- (5.8) that too must be let through by what is under way, and none does
 unfoldable pub obeyed : Registers → Effect → Bool
 obeyed r e = cond (r .deep) (isWake (classOf e)) true && allowed (usageOf (r .operation)) (classOf e)

@@ -1,4 +1,4 @@
--- A cut, as far as it concerns the registers: of the junk they see only what the rule takes for a register.
+-- A cut, as far as it concerns the registers. They see no more of the junk than reaches one.
 -- Assumes nothing.
 use Prim.Native.Nat.{ℕ, _*_}
 use mathlib.Core.Bool.{cond}
@@ -15,12 +15,11 @@ use Rattle.registers.specs.Facts.{updateOf}
 use Rattle.registers.specs.Fields.{withProtection, withLockdown, withUser, restarted}
 use Rattle.registers.specs.Protection.{lockedBytes}
 
--- the junk after the two buffers' (from 528): "becomes J from 528"
+-- (8.6) the junk behind the two buffers'
 abbrev pub afterBuffers : Geometry → List ℕ → List ℕ
 afterBuffers g junk = drop (2 * g .size) junk
 
--- what of that reaches a register ("what the cut rule takes of J for any register"): 16 bytes for CF and FC, 64 for 9B,
--- for a lock only whether the first byte is at least 80h (1 or 0), else nothing
+-- (8.9) what of it reaches a register: 16 bytes for CF and FC, 64 for 9B, for a lock only whether the first byte is 80h or more (1 or 0), else nothing
 abbrev pub reached : Update → List ℕ → List ℕ
 reached Keep junk = []
 reached FillProtection junk = take 16 junk
@@ -28,11 +27,13 @@ reached (MaskProtection d) junk = take 16 junk
 reached (Lock s) junk = cond (leb 128 (getD junk 0 0)) (1 ∷ []) (0 ∷ [])
 reached (WriteUser d) junk = take 64 junk
 
+-- (8.9) the same of all the junk
 unfoldable pub reaching : Geometry → Operation → List ℕ → List ℕ
 reaching g o junk = reached (updateOf o) (afterBuffers g junk)
 
--- "CF or FC: protection becomes J from 528. 9B: user bytes become J from 528, used is set. Locking: the sector locks if J[528]
--- is at least 80h, else keeps its bits."
+-- (8.6) CF, FC: the protection bytes are junk
+-- (8.7) 9B: the user bytes are, and used is set
+-- (8.8) 30: the sector is locked, or lockdown stays
 abbrev pub spoilt : Update → List ℕ → Registers → Registers
 spoilt Keep w r = r
 spoilt FillProtection w r = withProtection r (over w (r .protection))
@@ -40,9 +41,10 @@ spoilt (MaskProtection d) w r = withProtection r (over w (r .protection))
 spoilt (Lock s) w r = cond (eqb (getD w 0 0) 1) (withLockdown r (lockedBytes (r .lockdown) s)) r
 spoilt (WriteUser d) w r = withUser r (over w (r .user))
 
+-- (8.11) no register but the one that the operation names
 unfoldable pub lostBy : Operation → List ℕ → Registers → Registers
 lostBy o w r = spoilt (updateOf o) w r
 
--- the registers after a cut, given what of the junk reaches one: "all else keeps, WP included"
+-- (8.11) the registers after a cut, given what of the junk reaches one
 unfoldable pub lost : Registers → List ℕ → Registers
 lost r w = restarted (lostBy (r .operation) w r)

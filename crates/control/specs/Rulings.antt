@@ -1,5 +1,5 @@
 -- Aid: decisions in short. A frame goes by the marks of the registers alone, and changes one thing of them at most. What is said here of marks
--- and changes is tied to 01's rules by `Applies`: the ruling, applied to any registers that have the marks, is their decision.
+-- and changes is tied to the rules by `Applies`: the ruling, applied to any registers that have the marks, is their decision.
 -- Assumes nothing.
 use Prim.Native.Nat.{ℕ}
 use mathlib.Core.Path.{_≡_}

@@ -49,7 +49,7 @@ pub record Fixed (r n : Registers) : Type 0 where
   pub used : n .used ≡ r .used
   pub wp : n .wp ≡ r .wp
 
--- the registers' lengths: "protection (16 bytes), lockdown (16), security (64 user bytes, 64 factory bytes ..)"
+-- (2.3) how many bytes each register has
 pub record Lengths (r : Registers) : Type 0 where
   pub protection : length (r .protection) ≡ 16
   pub lockdown : length (r .lockdown) ≡ 16

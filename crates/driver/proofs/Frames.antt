@@ -17,7 +17,7 @@ use Rattle.slots.specs.declared.Step.{Step}
 use Rattle.slots.specs.Driver.{shapeOf, frameOf, isEnded}
 use Rattle.slots.proofs.Accepted.{picked}
 use Rattle.slots.proofs.Driven.{other}
-use Rattle.turns.proofs.Turns.{part-pages}
+use Rattle.records.proofs.Parts.{part-pages}
 use Rattle.worlds.proofs.Shapes.{frame-length, shape-fits}
 use Rattle.worlds.specs.Turns.{holdingOf, stepIn}
 use Rattle.worlds.specs.Step.{stageBy, frameBy, frameIn, tookIn, stagedIn, nextIn}

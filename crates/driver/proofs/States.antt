@@ -1,47 +1,20 @@
--- A state that counts as going is sound: the test of states asks for a slot of the part and for a step at the place, and a part has at most 512 slots.
+-- A reply by the stage as it counts: an ended state stays as it is, one that goes on takes the reply in; and the part is the array's.
 -- Assumes nothing.
-use Prim.Native.Nat.{ℕ, _<_}
-use native.Mathlib.Omega.{arith}
+use Prim.Native.Nat.{ℕ}
 use mathlib.Core.Path.{_≡_, sym, ap, _∙_}
 use mathlib.Core.Bool.{true, false}
 use mathlib.Core.List.{List}
-use lib.Dec.{eqb}
-use borrow.Author.Tests.{eq-eqb, ne-eqb}
 use Rattle.geometry.specs.declared.Geometry.{Geometry}
 use Rattle.geometry.specs.declared.Part.{Part}
 use Rattle.geometry.specs.declared.Part.the-variants.{Known}
 use Rattle.geometry.specs.Parts.{partOf}
-use Rattle.geometry.proofs.Pages.{sized}
-use Rattle.state.specs.declared.Answer.{Answer}
-use Rattle.state.specs.Answers.{numberOf}
 use Rattle.slots.specs.declared.Driver.{Driver}
 use Rattle.slots.specs.declared.Stage.{Stage}
 use Rattle.slots.specs.Driver.{isEnded}
-use Rattle.slots.specs.Refusals.{earlyRefusal}
-use Rattle.slots.proofs.Accepted.{picked, early}
+use Rattle.slots.proofs.Accepted.{picked}
 use Rattle.slots.proofs.Driven.{other}
-use Rattle.worlds.specs.Turns.{askedOf, with, dataAfter, tookOn, Sound}
-use Rattle.worlds.specs.Step.{stageBy, stageIn, staged-at, tookBy, tookIn, stagedBy, stagedIn}
-use Rattle.worlds.proofs.Sane.{going-facts}
-
--- ---- an answer's number is 0 only where nothing is refused
-
-pub none : (a : Answer) {n : ℕ} → n ≡ numberOf a → n ≡ 0 → eqb (numberOf a) 0 ≡ true
-none a e z = eq-eqb (numberOf a) 0 (sym e ∙ z)
-
-pub some : (a : Answer) {n : ℕ} → n ≡ numberOf a → (n ≡ 0 → ⊥) → eqb (numberOf a) 0 ≡ false
-some a e z = ne-eqb (numberOf a) 0 (λ h. z (e ∙ h))
-
--- ---- states
-
-module _ (g : Geometry) (d : Driver) (p : partOf (d .array) ≡ Known g) where
-  pub asked-slot : eqb (numberOf (earlyRefusal g (askedOf d) false)) 0 ≡ true → d .slot < 512
-  asked-slot e = let z = sized (d .array) g p in omega (arith, early g (askedOf d) false e .fits, z .few)
-
-  pub going-sound : isEnded (stageBy (Known g) d) ≡ false → Sound g d
-  going-sound e =
-      let f = going-facts g d e .1 in
-      record { part = p; slot = omega (arith, f .asked .fits); step = f .step }
+use Rattle.worlds.specs.Turns.{with, dataAfter, tookOn}
+use Rattle.worlds.specs.Step.{stageBy, staged-at, tookBy, tookIn, stagedBy, stagedIn}
 
 -- ---- a reply by the stage as it counts
 
@@ -64,10 +37,6 @@ module _ (g : Geometry) (d : Driver) (payload staged reply : List ℕ) where
 -- ---- by the array's part
 
 module _ (d : Driver) {p : Part} (e : p ≡ partOf (d .array)) where
-  pub stage-in : {s : Stage} → s ≡ stageBy p d → s ≡ stageIn d
-  unfolding stageIn
-  stage-in h = h ∙ ap (λ (q : Part). stageBy q d) e
-
   pub took-in : (payload staged reply : List ℕ) {f : Driver} {ys : List ℕ}
       → (f ≡ tookBy p d payload staged reply) × (ys ≡ stagedBy p d payload staged reply)
       → (f ≡ tookIn d payload staged reply) × (ys ≡ stagedIn d payload staged reply)

@@ -1,3 +1,2 @@
-mod Stored
 pub mod RoundTrip
 pub mod Fitting

@@ -24,45 +24,49 @@ use Rattle.slots.specs.declared.Verdict.the-variants.{Good, Blank, Beyond}
 
 -- ---- what is written
 
--- the calls' bytes lie four bits apart, so that no flipped bit makes one call another
+-- (13.13) the calls' bytes lie four bits apart, so that no flipped bit makes one call another
 unfoldable pub kindNumber : Kind → ℕ
 kindNumber Put = 0x0F
 kindNumber Patch = 0x33
 kindNumber Get = 0x55
 kindNumber Wipe = 0xF0
 
+-- (13.14) the verdict
 unfoldable pub verdictNumber : Verdict → ℕ
 verdictNumber Good = 0
 verdictNumber Blank = 1
 verdictNumber Beyond = 2
 
+-- (13.14) going, or ended
 unfoldable pub stageNumber : Stage → ℕ
 stageNumber Going = 0
 stageNumber (Ended a) = 1
 
--- the answer's number at the end, 0 before it
+-- (13.14) the answer's number at the end, 0 before it
 unfoldable pub endNumber : Stage → ℕ
 endNumber Going = 0
 endNumber (Ended a) = numberOf a
 
+-- (13.15) 0 or 1
 abbrev pub flagByte : Bool → ℕ
 flagByte b = cond b 1 0
 
--- what is told of a driver: the answer's number; 255 while it is running
+-- (13.17) what is told of a driver: the answer's number; 255 while it is running
 unfoldable pub toldNumber : Told → ℕ
 toldNumber Running = 255
 toldNumber (Answered a) = numberOf a
 
 -- ---- what a byte reads as
 
--- a byte that is no call's reads as a get, which changes nothing
+-- (13.13) a byte that is no call's reads as a get, which changes nothing
 unfoldable pub kindOf : ℕ → Kind
 kindOf n = cond (eqb n 0x0F) Put (cond (eqb n 0x33) Patch (cond (eqb n 0xF0) Wipe Get))
 
+-- (13.14) the verdict that a byte reads as
 unfoldable pub verdictOf : ℕ → Verdict
 verdictOf n = cond (eqb n 0) Good (cond (eqb n 1) Blank Beyond)
 
--- the answer of a number of the table
+-- (13.14) the answer of a number of the table
 unfoldable pub answerAt : ℕ → Answer
 answerAt n =
     cond (eqb n 0) Answers.Done
@@ -80,23 +84,25 @@ answerAt n =
     (cond (eqb n 12) Answers.Blank
     Answers.End))))))))))))
 
--- 0 or 1; anything else reads as 1
+-- (13.15) 0 is off, any other byte on
 abbrev pub flag : ℕ → Bool
 flag x = not (eqb x 0)
 
 -- ---- the block
 
--- its first four bytes are such as a state is written with: a call, a verdict, a stage and an answer
+-- (13.16) the byte is a call's
 unfoldable pub isKind : ℕ → Bool
 isKind n = (eqb n 0x0F || eqb n 0x33) || (eqb n 0x55 || eqb n 0xF0)
 
+-- (13.16) a block's first four bytes are such as a state is written with: a call, a verdict, a stage and an answer
 unfoldable pub isOurs : List ℕ → Bool
 isOurs block = (isKind (getD block 0 0) && leb (getD block 1 0) 2) && (leb (getD block 2 0) 1 && leb (getD block 3 0) 13)
 
--- going, or ended with an answer; a block that is not ours has ended with 1
+-- (13.16) going, or ended with an answer; a block that is not ours has ended with 1
 unfoldable pub stageOf : Bool → ℕ → ℕ → Stage
 stageOf ours n a = cond ours (cond (eqb n 0) Going (Ended (answerAt a))) (Ended Answers.Part)
 
+-- (13.12) the course that a block holds
 unfoldable pub decodeCourse : List ℕ → Course
 decodeCourse block =
     record {
@@ -107,6 +113,7 @@ decodeCourse block =
       guarded = flag (getD block 6 0);
     }
 
+-- (13.12) the state that a block holds
 unfoldable pub decodeDriver : List ℕ → Driver
 decodeDriver block =
     record {
@@ -119,18 +126,19 @@ decodeDriver block =
       course = decodeCourse block;
     }
 
--- the first eight bytes; the place modulo 256
+-- (13.12) the first eight bytes; the place modulo 256
 unfoldable pub headBytes : Kind → Verdict → Course → List ℕ
 headBytes k v c =
     kindNumber k ∷ verdictNumber v ∷ stageNumber (c .stage) ∷ endNumber (c .stage) ∷
     c .place % 256 ∷ flagByte (c .listed) ∷ flagByte (c .guarded) ∷ 0 ∷ []
 
+-- (13.12) the whole block
 unfoldable pub encodeDriver : Driver → List ℕ
 encodeDriver d =
     headBytes (d .kind) (d .verdict) (d .course)
     ++ (wordBytes (d .array) ++ (wordBytes (d .slot) ++ (wordBytes (d .limit) ++ (wordBytes (d .place) ++ wordBytes (d .course .left)))))
 
--- ---- the states that a block can hold: the place in the plan in one byte, the numbers in eight
+-- ---- Aid: the states that a block can hold: the place in the plan in one byte, the numbers in eight
 
 pub record Fits (d : Driver) : Type 0 where
   pub array : d .array < 2 ^ 64

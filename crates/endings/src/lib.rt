@@ -12,10 +12,23 @@ ghost use Rattle.runs.specs.Exchange.{Canonical};
 ghost use Rattle.runs.specs.Runs.{lastOf, answerOf};
 use geometry::Geometry;
 use geometry::Part;
+use runs::Done;
 use runs::Session;
 use slots::Kind;
 use slots::Told;
 use state::Answer;
+
+// A call refused: nothing changes.
+pub fn refuse(a: Answer) -> Done
+    ensures { λ r. ⌜ r ≡ record { answer = a; frames = 0; polls = 0; count = 0 } ⌝ }
+{
+    Done {
+        answer: a,
+        frames: 0,
+        polls: 0,
+        count: 0,
+    }
+}
 
 // The answer that a driver tells; a call that was driven to its end has one.
 fn answer_in(t: Told) -> Answer
@@ -35,7 +48,7 @@ pub fn answer(s: Session) -> Answer
     let c = d.course;
     let v = d.verdict;
     let stage = c.stage;
-    answer_in(driver::tell(stage, v))
+    answer_in(tellings::tell(stage, v))
 }
 
 // The buffer begins with the first n of the bytes, as far as both reach.
@@ -51,7 +64,7 @@ fn lay_over(buffer: &mut [u8], bytes: &[u8], n: usize)
 pub fn deliver(kind: Kind, a: Answer, staged: &[u8; 2112], buffer: &mut [u8]) -> usize
     ensures { λ r. ⌜ (r ≡ countOf kind a (now (staged .entry))) × (now (buffer .exit) ≡ delivered (countOf kind a (now (staged .entry))) (now (staged .entry)) (now (buffer .entry))) ⌝ }
 {
-    let n = driver::count_of(kind, a, staged);
+    let n = tellings::count_of(kind, a, staged);
     let bytes = &staged[..];
     lay_over(buffer, &bytes[3..], n);
     n

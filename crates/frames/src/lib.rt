@@ -6,7 +6,6 @@ ghost use Prim.Native.Nat.{_≤_, _<_};
 ghost use lib.ListN.{length};
 ghost use Rattle.geometry.specs.Parts.{Sized};
 ghost use Rattle.slices.specs.Lists.{over, splice, ringWrite};
-ghost use Rattle.registers.specs.Data.{bytes16, bytes64};
 ghost use Rattle.registers.specs.Protection.{guarded};
 ghost use Rattle.control.specs.Names.{Names};
 ghost use Rattle.control.specs.Rulings.{WithMarks};
@@ -20,8 +19,6 @@ use control::Action;
 use control::Marks;
 use geometry::Geometry;
 use geometry::Part;
-use registers::Data16;
-use registers::Data64;
 use registers::Usage;
 use state::Answer;
 use state::Chip;
@@ -153,20 +150,13 @@ fn write_buffer(g: Geometry, buffers: &mut [u8], buffer: Buffer, start: usize, b
     slices::ring_write(&mut buffers[a..e], g.size, start, bytes);
 }
 
-fn load_protection(buffers: &mut [u8], data: Data16)
-    requires { ⌜ length (now buffers) ≡ 528 ⌝ }
-    ensures { λ _. ⌜ now (buffers .exit) ≡ over (bytes16 «data») (now (buffers .entry)) ⌝ }
+// The first bytes of buffer 1 become `bytes`.
+fn lay(buffers: &mut [u8], bytes: &[u8])
+    requires { ⌜ length (now bytes) ≤ length (now buffers) ⌝ }
+    ensures { λ _. ⌜ now (buffers .exit) ≡ over (now (bytes .entry)) (now (buffers .entry)) ⌝ }
 {
-    let bytes = registers::unpacked16(data);
-    slices::copy(&mut buffers[..16], &bytes);
-}
-
-fn load_security(buffers: &mut [u8], data: Data64)
-    requires { ⌜ length (now buffers) ≡ 528 ⌝ }
-    ensures { λ _. ⌜ now (buffers .exit) ≡ over (bytes64 «data») (now (buffers .entry)) ⌝ }
-{
-    let bytes = registers::unpacked64(data);
-    slices::copy(&mut buffers[..64], &bytes);
+    let n = bytes.len();
+    slices::copy(&mut buffers[..n], bytes);
 }
 
 // What a frame writes into a buffer; `bytes`: its data.
@@ -175,21 +165,16 @@ pub fn act(g: Geometry, buffers: &mut [u8], a: Action, bytes: &[u8])
     ensures { λ _. ⌜ now (buffers .exit) ≡ actedOn g a (now (bytes .entry)) (now (buffers .entry)) ⌝ }
 {
     match a {
-        Action::Silent => {}
-        Action::ReadPage { page: _, start: _ } => {}
-        Action::ReadArray { start: _ } => {}
-        Action::ReadBuffer {
-            buffer: _,
-            start: _,
-        } => {}
         Action::WriteBuffer { buffer, start } => write_buffer(g, buffers, buffer, start, bytes),
-        Action::LoadProtection { data } => load_protection(buffers, data),
-        Action::LoadSecurity { data } => load_security(buffers, data),
-        Action::ReadProtection => {}
-        Action::ReadLockdown => {}
-        Action::ReadSecurity => {}
-        Action::ReadStatus => {}
-        Action::ReadId => {}
+        Action::LoadProtection { data } => {
+            let laid = registers::unpacked16(data);
+            lay(buffers, &laid)
+        }
+        Action::LoadSecurity { data } => {
+            let laid = registers::unpacked64(data);
+            lay(buffers, &laid)
+        }
+        _ => {}
     }
 }
 
@@ -221,7 +206,7 @@ pub fn send_to(g: Geometry, c: Chip, array: &[u8], frame: &[u8], reply: &mut [u8
     }
     let r = c.registers;
     let m = control::marks_of(r);
-    let d = control::control_frame(g, m, frame);
+    let d = rulings::control_frame(g, m, frame);
     let a = d.action;
     let lead = d.lead;
     let security = state::security_of(r);

@@ -119,7 +119,7 @@ module _ (g : Geometry) where
   unfolding sectorCount
   sector-few page l = omega (arith, sector-mono page (g .pages - 1) (omega arith))
 
-  -- "Sectors: 0a .., 0b .., sector j from 1 to 15": 17 at most
+  -- 17 at most
   pub sector-most : g .pages ≤ 4096 → sectorCount g ≤ 17
   unfolding sectorCount
   sector-most l = by-page (λ t. t + 1 ≤ 17) (g .pages - 1) (λ a. omega arith) (λ a. omega arith)

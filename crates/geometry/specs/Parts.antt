@@ -1,5 +1,5 @@
--- Parts, pages and addresses (01, "The chip"). Page size, page count and address field are parameters of every definition;
--- a part is looked up from the array's length.
+-- Parts, pages and addresses. Page size, page count and address field are parameters of every definition; a part is looked up from the array's
+-- length. The numbers in parentheses are those of docs/SPECIFICATION.md, here and in every crate.
 -- Assumes nothing.
 use Prim.Native.Nat.{ℕ, _+_, _*_, _/_, _%_, _<_, _≤_}
 use mathlib.Core.Path.{_≡_}
@@ -12,37 +12,37 @@ use Rattle.geometry.specs.declared.Part.{Part}
 use Rattle.geometry.specs.declared.Part.the-variants.{Known, Unknown}
 use Rattle.geometry.specs.declared.Run.{Run}
 
--- "P = 4,096 (1,081,344 bytes) or the short part, P = 128 (33,792). A page is 264 bytes". An address gives a page 512 numbers.
+-- (1.1) the part of an array of n bytes: bytes a page, pages, and how many address numbers fall to a page
 unfoldable pub partOf : ℕ → Part
 partOf n =
     cond (eqb n 1081344) (Known (record { size = 264; pages = 4096; field = 512 }))
     (cond (eqb n 33792) (Known (record { size = 264; pages = 128; field = 512 })) Unknown)
 
--- "The three address bytes make a 24-bit number N, first byte highest": those from index a of a frame
+-- (3.7) the address that three bytes of a frame from index a on make, the most significant first
 unfoldable pub addressAt : List ℕ → ℕ → ℕ
 addressAt f a = getD f a 0 * 65536 + getD f (a + 1) 0 * 256 + getD f (a + 2) 0
 
--- "page = (N div 512) mod P"
+-- (3.8) the page that an address names
 unfoldable pub pageAt : Geometry → ℕ → ℕ
 pageAt g n = n / g .field % g .pages
 
--- "byte = (N mod 512) mod 264"
+-- (3.9) the byte that it names in that page
 unfoldable pub byteAt : Geometry → ℕ → ℕ
 byteAt g n = n % g .field % g .size
 
--- "A page is 264 bytes beginning at 264 times its number"
+-- (1.2) where a page starts in the array
 unfoldable pub pageStart : Geometry → ℕ → ℕ
 pageStart g page = page * g .size
 
--- a page's bytes
+-- (1.3) a page's bytes
 unfoldable pub pageOf : Geometry → ℕ → List ℕ → List ℕ
 pageOf g page xs = take (g .size) (drop (pageStart g page) xs)
 
--- a run of pages: `count` pages from page `first` on
+-- Aid: a run of pages: `count` pages from page `first` on
 abbrev pub run : ℕ → ℕ → Run
 run first count = record { first = first; count = count }
 
--- the page is in the run
+-- Aid: the page is in the run
 unfoldable pub inRun : Run → ℕ → Bool
 inRun r page = leb (r .first) page && ltb page (r .first + r .count)
 

@@ -1,4 +1,4 @@
--- Sectors (01, "The chip"), numbered 0 to 16: 0 is 0a, 1 is 0b, and j + 1 is sector j.
+-- Sectors, by their numbers 0 to 16: 0 is 0a, 1 is 0b, and j + 1 is sector j.
 -- Assumes nothing.
 use Prim.Native.Nat.{ℕ, zero, suc, _+_, _-_, _*_, _/_, min}
 use mathlib.Core.Bool.{cond}
@@ -7,25 +7,25 @@ use Rattle.geometry.specs.declared.Geometry.{Geometry}
 use Rattle.geometry.specs.declared.Run.{Run}
 use Rattle.geometry.specs.Parts.{run}
 
--- "0a is pages 0 to 7, 0b is 8 to 255 .., sector j from 1 to 15 is pages 256j to 256j + 255"
+-- (1.5) the sector that a page is in
 unfoldable pub sectorOf : ℕ → ℕ
 sectorOf page = cond (ltb page 8) 0 (page / 256 + 1)
 
--- a sector's first page
+-- (1.5) a sector's first page
 unfoldable pub firstPage : ℕ → ℕ
 firstPage zero = 0
 firstPage (suc zero) = 8
 firstPage (suc (suc j)) = 256 * suc j
 
--- the page after a sector's last
+-- (1.5) the page after a sector's last
 unfoldable pub endPage : ℕ → ℕ
 endPage zero = 8
 endPage (suc j) = 256 * suc j
 
--- a sector's pages, as far as the part has them: 0b is "8 to 255 (to 127 in the short part)"
+-- (1.6) a sector's pages, as far as the part has them
 unfoldable pub sectorRun : Geometry → ℕ → Run
 sectorRun g s = run (min (firstPage s) (g .pages)) (min (endPage s) (g .pages) - min (firstPage s) (g .pages))
 
--- how many sectors the part has: those up to its last page's
+-- (1.7) how many sectors the part has: those up to its last page's
 unfoldable pub sectorCount : Geometry → ℕ
 sectorCount g = sectorOf (g .pages - 1) + 1

@@ -32,7 +32,7 @@ fn send_in(
 {
     let compare = blocks::is_set(block[764]);
     let m = blocks::marks_at(block, o);
-    let d = control::control_frame(g, m, frame);
+    let d = rulings::control_frame(g, m, frame);
     let a = d.action;
     let lead = d.lead;
     let change = d.change;
@@ -47,7 +47,7 @@ fn send_in(
         lead,
         reply,
     );
-    blocks::settle(block, o, change);
+    settling::settle(block, o, change);
     frames::act(g, &mut block[236..764], a, &frame[lead..]);
 }
 
@@ -99,9 +99,9 @@ fn end_in(g: Geometry, block: &mut [u8], o: Operation, array: &mut [u8])
     ensures { λ _. ⌜ (now (block .exit) ≡ encodeChip (chipIn (endedState g (heldIn (now (block .entry)) (now (array .entry)))))) × (now (array .exit) ≡ endedState g (heldIn (now (block .entry)) (now (array .entry))) .memory .array) ⌝ }
 {
     let compare = blocks::is_set(block[764]);
-    blocks::rest(block);
+    settling::rest(block);
     let bit = completion::complete_memory(g, compare, &mut block[236..764], array, o);
-    block[764] = blocks::flag_byte(bit);
+    block[764] = block_parts::flag_byte(bit);
 }
 
 // The operation under way ends and takes effect. Answers 0, 1.
@@ -112,7 +112,7 @@ pub fn end_busy(block: &mut [u8; 765], array: &mut [u8]) -> u8
     if !is_plain(o) {
         let c = blocks::decode(block);
         let e = chip::end_busy(c, array);
-        return blocks::store(block, e);
+        return storing::store(block, e);
     }
     let p = registers::place(array.len(), o);
     match p {
@@ -132,14 +132,14 @@ pub fn fresh(block: &mut [u8; 765], factory: &[u8; 64], array: &mut [u8]) -> u8
 {
     let bytes = *factory;
     let o = chip::fresh(bytes, array);
-    blocks::store(block, o)
+    storing::store(block, o)
 }
 
 // The WP pin is moved. Answer 0.
 pub fn move_pin(block: &mut [u8; 765], high: bool) -> u8
     ensures { λ r. ⌜ MetPin (now (block .entry)) high r (now (block .exit)) ⌝ }
 {
-    blocks::move_pin(block, high);
+    storing::move_pin(block, high);
     0
 }
 
@@ -149,5 +149,5 @@ pub fn cut(block: &mut [u8; 765], array: &mut [u8], junk: &[u8]) -> u8
 {
     let c = blocks::decode(block);
     let o = chip::cut(c, array, junk);
-    blocks::store(block, o)
+    storing::store(block, o)
 }

@@ -171,7 +171,7 @@ module _ (g : Geometry) (junk : List ℕ) (r : Run) (xs : List ℕ) where
   unfolding junked
   junked-other q e = page-left g r part xs some q e
 
-  -- a byte in a page of the run: the junk "at 528 plus their array address"
+  -- a byte in a page of the run: the junk behind the buffers', at its own index
   pub junked-in : (k : ℕ) → 0 < g .size → inRun r (k / g .size) ≡ true → k < length xs → length junk ≡ 2 * g .size + length xs → getD (junked g junk r xs) k 0 ≡ getD junk (2 * g .size + k) 0
   unfolding junked
   junked-in k s e l j =

@@ -11,40 +11,40 @@ use Rattle.geometry.specs.declared.Run.{Run}
 use Rattle.geometry.specs.Parts.{pageStart, pageOf}
 use Rattle.geometry.specs.Sectors.{sectorRun}
 
--- 83/86: "page becomes buffer 1/2"
+-- (7.4) 83/86 and 82/85: the array with the buffer for the page
 unfoldable pub programmed : Geometry → ℕ → List ℕ → List ℕ → List ℕ
 programmed g page buffer xs = splice (pageStart g page) (take (g .size) buffer) xs
 
--- 88/89: "page becomes page AND buffer"
+-- (7.5) 88/89: with the page ANDed with the buffer
 unfoldable pub programmedOver : Geometry → ℕ → List ℕ → List ℕ → List ℕ
 programmedOver g page buffer xs = splice (pageStart g page) (andOver (pageOf g page xs) (take (g .size) buffer)) xs
 
--- 53/55, 58/59: "buffer 1/2 becomes page"
+-- (7.6) 53/55 and 58/59: the buffer, with the page's bytes
 unfoldable pub transferred : Geometry → ℕ → List ℕ → List ℕ → List ℕ
 transferred g page xs buffer = over (pageOf g page xs) buffer
 
--- 60/61: "compare bit = 1 if buffer and page differ, else 0"
+-- (7.8) 60/61: whether a byte of the page is another than the buffer's
 unfoldable pub differing : Geometry → ℕ → List ℕ → List ℕ → Bool
 differing g page xs buffer = not (same (take (g .size) buffer) (pageOf g page xs))
 
--- a run of pages erased "to FFh"
+-- (7.9) a run of pages with FFh in every byte
 unfoldable pub erased : Geometry → Run → List ℕ → List ℕ
 erased g r xs = splice (pageStart g (r .first)) (replicate (r .count * g .size) 255) xs
 
--- a run of pages whose bytes "become J at 528 plus their array address"
+-- (8.5) a run of pages made junk: array byte i is the junk's byte 2 * size + i
 unfoldable pub junked : Geometry → List ℕ → Run → List ℕ → List ℕ
 junked g junk r xs =
     splice (pageStart g (r .first)) (take (r .count * g .size) (drop (2 * g .size + pageStart g (r .first)) junk)) xs
 
--- f done to each of n sectors from s on whose bit of the set is 1, lowest first
+-- (7.10) f done to each of n sectors from s on whose bit of the set is 1, lowest first
 unfoldable pub eachSector : (Run → List ℕ → List ℕ) → Geometry → ℕ → ℕ → ℕ → List ℕ → List ℕ
 eachSector f g zero s sectors xs = xs
 eachSector f g (suc n) s sectors xs = eachSector f g n (s + 1) (sectors / 2) (cond (eqb (sectors % 2) 1) (f (sectorRun g s) xs) xs)
 
--- f done to each sector of a set: bit i is sector i
+-- (7.10) f done to each sector of a set
 unfoldable pub inSectors : (Run → List ℕ → List ℕ) → Geometry → ℕ → List ℕ → List ℕ
 inSectors f g sectors xs = eachSector f g 17 0 sectors xs
 
--- a cut: "Buffers become J's first 264 bytes and the next 264": the buffer becomes the junk from index at on
+-- (8.4) a buffer made junk: the junk from index at on
 unfoldable pub junkBuffer : Geometry → List ℕ → ℕ → List ℕ → List ℕ
 junkBuffer g junk at buffer = over (take (g .size) (drop at junk)) buffer

@@ -1,5 +1,4 @@
--- Replies: "Reply length equals frame length; reply bytes that carry no data read (before it, after its end, in an ignored or
--- non-reading frame) are FFh."
+-- The bytes of a reply.
 -- Assumes nothing.
 use Prim.Native.Nat.{ℕ, _+_, _-_, _%_}
 use mathlib.Core.Bool.{cond}
@@ -8,18 +7,18 @@ use lib.ListN.{getD}
 use lib.Dec.{ltb}
 use Rattle.slices.specs.Lists.{tabulate}
 
--- n bytes: FFh in the lead, then the data f 0, f 1, ..
+-- (3.11) n bytes: FFh for those of the lead, then the data f 0, f 1, ..
 unfoldable pub replied : ℕ → ℕ → (ℕ → ℕ) → List ℕ
 replied n lead f = tabulate n (λ i. cond (ltb i lead) 255 (f (i - lead)))
 
--- no data
+-- (3.13) nothing is read
 abbrev pub noData : ℕ → ℕ
 noData i = 255
 
--- bytes read once, then FFh
+-- (3.14) bytes read once, then FFh
 abbrev pub onceData : List ℕ → ℕ → ℕ
 onceData bytes i = getD bytes i 255
 
--- bytes read from index start on, wrapping at size
+-- (3.15) bytes read in a ring of `size`, from index start on
 abbrev pub ringData : ℕ → ℕ → List ℕ → ℕ → ℕ
 ringData size start bytes i = getD bytes ((start + i) % size) 0

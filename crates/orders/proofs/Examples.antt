@@ -1,21 +1,23 @@
 -- Lines worked out by the definition.
 -- Assumes nothing.
 use mathlib.Core.Path.{_≡_, refl}
-use Rattle.orders.specs.Letters.{bytes}
+use Rattle.words.specs.Letters.{bytes}
 use Rattle.orders.specs.Lines.{saidBy, readOf}
-use Rattle.orders.specs.Words.{commandOf, otherCommandOf, beginsWith, keyOf}
-use Rattle.orders.specs.Operands.{numberAs, takeFirst, takePlace, takeBytes, operandsOf}
-use Rattle.orders.specs.Options.{takeValue, takeOption, takeWord, takeWords, optionsOf, orderOf}
+use Rattle.words.specs.Words.{commandOf, beginsWith, keyOf}
+use Rattle.word_values.specs.Values.{numberAs}
+use Rattle.operands.specs.Operands.{takeFirst, takePlace, takeBytes, operandsOf}
+use Rattle.options.specs.Options.{takeValue, takeOption, takeWord, takeWords, optionsOf}
+use Rattle.orders.specs.Orders.{orderOf}
 use Rattle.slices.specs.Lists.{same}
 use Rattle.text.specs.Lists.{every, leading, scan}
 use Rattle.text.specs.Words.{isBlank, notBlank}
 use Rattle.text.specs.Decimal.{isDigit, valueFrom, belowLimit, numberOf}
 use Rattle.text.specs.Hexadecimal.{nibbleOf, isHexDigit, hexOf}
-use Rattle.orders.specs.declared.Command.the-variants as Command
-use Rattle.orders.specs.declared.Key.the-variants as Key
+use Rattle.words.specs.declared.Command.the-variants as Command
+use Rattle.words.specs.declared.Key.the-variants as Key
 use Rattle.orders.specs.declared.Lent.the-variants as Lent
-use Rattle.orders.specs.declared.Name.the-variants as Name
-use Rattle.orders.specs.declared.Fault.the-variants as Fault
+use Rattle.faults.specs.declared.Name.the-variants as Name
+use Rattle.faults.specs.declared.Fault.the-variants as Fault
 use Rattle.orders.specs.declared.Reading.the-variants as Reading
 
 -- blanks of all kinds, leading zeros, either case of digits, a seed modulo 256, an empty script; the words left to right
@@ -54,5 +56,5 @@ pub worked :
     (readOf (bytes "get 1 reply=65537") ≡ Reading.Fault (Fault.Over Key.Reply)) ×
     (readOf (bytes "pin 1 b=2") ≡ Reading.Fault Fault.TooManyWords) ×
     (readOf (bytes " \t\r") ≡ Reading.Fault Fault.NoCommand)
-unfolding readOf saidBy commandOf otherCommandOf beginsWith keyOf numberAs takeFirst takePlace takeBytes operandsOf takeValue takeOption takeWord takeWords optionsOf orderOf same every leading scan isBlank notBlank isDigit valueFrom belowLimit numberOf nibbleOf isHexDigit hexOf
+unfolding readOf saidBy commandOf beginsWith keyOf numberAs takeFirst takePlace takeBytes operandsOf takeValue takeOption takeWord takeWords optionsOf orderOf same every leading scan isBlank notBlank isDigit valueFrom belowLimit numberOf nibbleOf isHexDigit hexOf
 worked = (refl, refl, refl, refl, refl, refl, refl, refl)

@@ -1,7 +1,3 @@
-pub mod Steps
-pub mod Spans
-pub mod Texts
-pub mod Turns
 pub mod Sound
 pub mod Whole
 pub mod Examples

@@ -6,15 +6,15 @@ use mathlib.Core.List.{List}
 use Prim.Native.Nat.{ℕ, _≤_, _<_}
 use lib.ListN.{length}
 use borrow.Author.Tests.{lt-ltb, le-ltb, eq-eqb, ne-eqb}
-use Rattle.orders.specs.Words.{wordFrom, partOf, commandOf}
+use Rattle.words.specs.Words.{wordFrom, partOf, commandOf}
 use Rattle.orders.specs.Lines.{withCommand, saidBy, readOf}
 use Rattle.orders.specs.Bounds.{Sound, SoundReading}
-use Rattle.orders.specs.declared.Span.{Span}
-use Rattle.orders.specs.declared.Fault.the-variants as Fault
+use Rattle.words.specs.declared.Span.{Span}
+use Rattle.faults.specs.declared.Fault.the-variants as Fault
 use Rattle.orders.specs.declared.Order.{Order}
 use Rattle.orders.specs.declared.Reading.{Reading}
 use Rattle.orders.specs.declared.Reading.the-variants as Reading
-use Rattle.orders.specs.declared.words.Chosen.{Chosen}
+use Rattle.words.specs.declared.Chosen.{Chosen}
 use Rattle.orders.proofs.Sound.{read-sound}
 
 done : (xs : List ℕ) (r : Reading) → r ≡ readOf xs → SoundReading (length xs) r × (r ≡ readOf xs)

@@ -1,7 +1,3 @@
-pub mod Letters
-pub mod Words
-pub mod Operands
-pub mod Options
+pub mod Orders
 pub mod Lines
 pub mod Bounds
-pub mod Messages

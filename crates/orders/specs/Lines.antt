@@ -5,21 +5,22 @@ use mathlib.Core.Bool.{cond}
 use mathlib.Core.List.{List}
 use lib.ListN.{length}
 use lib.Dec.{ltb, eqb}
-use Rattle.orders.specs.Words.{wordFrom, partOf, commandOf}
-use Rattle.orders.specs.Operands.{operandsOf}
-use Rattle.orders.specs.Options.{optionsOf, orderOf}
-use Rattle.orders.specs.declared.Command.{Command}
-use Rattle.orders.specs.declared.Span.{Span}
-use Rattle.orders.specs.declared.Fault.the-variants as Fault
+use Rattle.words.specs.Words.{wordFrom, partOf, commandOf}
+use Rattle.operands.specs.Operands.{operandsOf}
+use Rattle.options.specs.Options.{optionsOf}
+use Rattle.orders.specs.Orders.{orderOf}
+use Rattle.words.specs.declared.Command.{Command}
+use Rattle.words.specs.declared.Span.{Span}
+use Rattle.faults.specs.declared.Fault.the-variants as Fault
 use Rattle.orders.specs.declared.Reading.{Reading}
 use Rattle.orders.specs.declared.Reading.the-variants as Reading
-use Rattle.orders.specs.declared.words.Chosen.{Chosen}
-use Rattle.orders.specs.declared.words.Chosen.the-variants as Chosen
-use Rattle.orders.specs.declared.operands.Taken.{Taken}
-use Rattle.orders.specs.declared.operands.Step.{Step}
-use Rattle.orders.specs.declared.operands.Step.the-variants as Step
-use Rattle.orders.specs.declared.options.Choice.{Choice}
-use Rattle.orders.specs.declared.options.Choice.the-variants as Choice
+use Rattle.words.specs.declared.Chosen.{Chosen}
+use Rattle.words.specs.declared.Chosen.the-variants as Chosen
+use Rattle.operands.specs.declared.Taken.{Taken}
+use Rattle.operands.specs.declared.Step.{Step}
+use Rattle.operands.specs.declared.Step.the-variants as Step
+use Rattle.options.specs.declared.Choice.{Choice}
+use Rattle.options.specs.declared.Choice.the-variants as Choice
 
 -- the order of a line whose options are these
 abbrev pub withOptions : Command → Taken → Choice → Reading

@@ -1,43 +1,24 @@
 // What a line of the program `outline` says, or what is wrong with it. No function that outsiders call has a `requires`.
 ghost use mathlib.Core.Path.{_≡_};
-ghost use Prim.Native.Nat.{_≤_};
 ghost use lib.ListN.{length};
+ghost use Rattle.operands.specs.Operands.{operandsOf};
 ghost use Rattle.orders.specs.Bounds.{SoundReading};
+ghost use Rattle.orders.specs.Orders.{valueOr, lentOf, orderOf};
 ghost use Rattle.orders.specs.Lines.{withOperands, readOf};
-ghost use Rattle.orders.specs.Operands.{operandsOf};
-ghost use Rattle.orders.specs.Messages.{Put, textOf};
+pub use faults::Fault;
+pub use faults::message;
 use operands::Step;
+use operands::Taken;
 use options::Choice;
-pub use options::is_call;
+use options::Setting;
+use options::Settings;
 use words::Chosen;
-
-mod messages;
-mod operands;
-mod options;
-mod words;
+pub use words::Command;
+pub use words::Span;
+pub use words::is_call;
 
 // The longest line, in characters.
 const LONGEST: usize = 8192;
-
-pub enum Command {
-    Put,
-    Patch,
-    Get,
-    Wipe,
-    Raw,
-    Send,
-    End,
-    Pin,
-    Cut,
-    Part,
-    Sum,
-}
-
-// A part of the line.
-pub struct Span {
-    pub start: usize,
-    pub end: usize,
-}
 
 // A length lent: as the call needs, or as given.
 pub enum Lent {
@@ -64,46 +45,6 @@ pub struct Order {
     pub log: Lent,
     pub buffer: Lent,
     pub reply: Lent,
-}
-
-// The options of a call: b, script, junk, junklen, log, buffer, reply.
-pub enum Key {
-    Limit,
-    Script,
-    Seed,
-    Junk,
-    Log,
-    Buffer,
-    Reply,
-}
-
-// What a fault lies in: a word by its place, or the value of an option.
-pub enum Name {
-    Slot,
-    Place,
-    Hex,
-    Seed,
-    Level,
-    Pages,
-    Option(Key),
-}
-
-// What is wrong with a line. TooLong is also for whoever reads a line in parts and never holds it whole.
-pub enum Fault {
-    TooLong,
-    NoCommand,
-    UnknownCommand,
-    Missing(Name),
-    NotNumber(Name),
-    TooLarge(Name),
-    NotHex(Name),
-    Odd(Name),
-    NotLevel,
-    NotPages,
-    UnknownOption,
-    TooManyWords,
-    Twice,
-    Over(Key),
 }
 
 pub enum Reading {
@@ -140,7 +81,7 @@ fn read_rest(line: &[u8], c: Command, at: usize) -> Reading
         Step::More(o) => {
             let p = options::read_options(line, c, o.at);
             match p {
-                Choice::More(q) => Reading::Order(options::order_of(c, o, q)),
+                Choice::More(q) => Reading::Order(order_of(c, o, q)),
                 Choice::Fault(f) => Reading::Fault(f),
             }
         }
@@ -148,28 +89,44 @@ fn read_rest(line: &[u8], c: Command, at: usize) -> Reading
     }
 }
 
-// The text of a fault, at the start of `out`, and its length.
-pub fn message(f: Fault, out: &mut [u8; 64]) -> usize
-    ensures { λ r. ⌜ Put 0 (textOf f) (now (out .entry)) (now (out .exit)) r × (r ≤ 64) ⌝ }
+fn value_or(s: Setting, default: usize) -> usize
+    ensures { λ r. ⌜ r ≡ valueOr s default ⌝ }
 {
-    match f {
-        Fault::TooLong => messages::put(out, 0, b"longer than 8192 characters"),
-        Fault::NoCommand => messages::put(out, 0, b"no command"),
-        Fault::UnknownCommand => messages::put(out, 0, b"unknown command"),
-        Fault::Missing(n) => messages::missing(n, out),
-        Fault::NotNumber(n) => messages::named(n, b" is not a number", out),
-        Fault::TooLarge(n) => messages::named(n, b" is too large", out),
-        Fault::NotHex(n) => messages::named(
-            n,
-            b" has a character that is not a hexadecimal digit",
-            out,
-        ),
-        Fault::Odd(n) => messages::named(n, b" has an odd number of digits", out),
-        Fault::NotLevel => messages::put(out, 0, b"level is not 0 or 1"),
-        Fault::NotPages => messages::put(out, 0, b"pages are not 128 or 4096"),
-        Fault::UnknownOption => messages::put(out, 0, b"unknown option"),
-        Fault::TooManyWords => messages::put(out, 0, b"too many words"),
-        Fault::Twice => messages::put(out, 0, b"option given twice"),
-        Fault::Over(k) => messages::over(k, out),
+    if s.given { s.value } else { default }
+}
+
+fn lent_by(s: Setting) -> Lent
+    ensures { λ r. ⌜ r ≡ lentOf s ⌝ }
+{
+    if s.given {
+        Lent::Given(s.value)
+    } else {
+        Lent::Needed
+    }
+}
+
+fn order_of(c: Command, t: Taken, s: Settings) -> Order
+    ensures { λ r. ⌜ r ≡ orderOf c t s ⌝ }
+{
+    let bytes = t.bytes;
+    let script = s.script;
+    let limit = s.limit;
+    let seed = s.seed;
+    let junk = s.junk;
+    let log = s.log;
+    let buffer = s.buffer;
+    let reply = s.reply;
+    Order {
+        command: c,
+        number: t.number,
+        place: t.place,
+        bytes: bytes,
+        limit: value_or(limit, 1),
+        script: script,
+        seed: value_or(seed, 0) % 256,
+        junk: lent_by(junk),
+        log: lent_by(log),
+        buffer: lent_by(buffer),
+        reply: lent_by(reply),
     }
 }

@@ -57,7 +57,7 @@ pub fn cut_in(g: Geometry, c: Chip, array: &mut [u8], junk: &[u8]) -> Outcome
     let o = r.operation;
     spoil_array(g, array, junk, o);
     let n = spoil_buffers(g, c, junk);
-    let after = control::lose(g, r, junk);
+    let after = register_ends::lose(g, r, junk);
     Outcome {
         answer: Answer::Done,
         chip: state::with_registers(n, after),

@@ -1,2 +1,2 @@
-pub mod Bytes
-pub mod Pages
+pub mod Parts
+mod Ends

@@ -1,4 +1,4 @@
-// The tests of a call before any frame: 3 to 7, and raw's 2, in 01's order. Done where none is met.
+// The tests of a call before any frame: 3 to 7, and raw's 2, in the order of their numbers. Done where none is met.
 // Internal to this repository: a caller here meets each `requires`; no entry point is in this crate.
 ghost use mathlib.Core.Path.{_≡_};
 ghost use mathlib.Core.Bool.{_||_};
@@ -31,7 +31,7 @@ fn largest(script: &[u8]) -> u8
     most
 }
 
-// 7: a byte over 2, or a cut with junk of another length.
+// 7: a byte that is none of 0, 1 and 2; or a cut, and junk of a wrong length.
 fn bad_script(g: Geometry, array: usize, script: &[u8], junk: usize) -> bool
     requires { ⌜ Sized g array ⌝ }
     ensures { λ r. ⌜ r ≡ badScript g array (now (script .entry)) junk ⌝ }
@@ -84,7 +84,7 @@ pub fn call_refusal(
     requires { ⌜ (Sized g array) × (partOf array ≡ Part.Known g) ⌝ }
     ensures { λ r. ⌜ r ≡ callRefusal g array (asking kind slot limit) (isOver kind g place n || isShort kind g lent) log (now (script .entry)) junk ⌝ }
 {
-    let a = driver::refusal(array, kind, slot, limit, place, n, lent);
+    let a = starts::refusal(array, kind, slot, limit, place, n, lent);
     if state::number(a) != 0 {
         return a;
     }

@@ -8,7 +8,7 @@ use Rattle.slices.specs.Words.{wordAt, wordBytes}
 use Rattle.registers.specs.declared.Data16.{Data16}
 use Rattle.registers.specs.declared.Data64.{Data64}
 
--- "FC and 9B data wrap at 16 and 64, bytes not sent count as FFh": n bytes
+-- (6.9) the n bytes of data that a frame's bytes make: they wrap at n, the later byte for a place stays, and a place that got none has FFh
 unfoldable pub padded : ℕ → List ℕ → List ℕ
 padded n bytes = ringWrite n 0 bytes (replicate n 255)
 

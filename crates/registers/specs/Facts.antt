@@ -15,32 +15,37 @@ use Rattle.registers.specs.declared.Usage.the-variants.{Free, Uses, NoBu
 use Rattle.registers.specs.declared.Work.{Work}
 use Rattle.registers.specs.declared.Work.the-variants.{Rest, Program, ProgramOver, Transfer, Compare, Erase}
 
+-- Aid: a row of the table
 pub record Entry : Type 0 where
   pub facts : Facts
   pub update : Update
 
 -- ---- the kinds of operation
 
+-- (7.3) no operation: a busy end does nothing
 abbrev pub idling : Facts
 idling = record { names = Nothing; writes = false; usage = Free; work = Rest }
 
--- with a buffer and a page: whether the page is programmed, and what is done
+-- Aid: with a buffer and a page: whether the page is programmed, and what is done
 abbrev pub paging : Buffer → ℕ → Bool → Work → Facts
 paging b page writes work = record { names = Page page; writes = writes; usage = Uses b; work = work }
 
--- an array erase uses no buffer
+-- (5.4) an erase takes up no buffer
 abbrev pub erasing : Named → Facts
 erasing n = record { names = n; writes = true; usage = NoBuffer; work = Erase }
 
--- CF, FC, 30 and 9B: only D7 is obeyed, and the memory stays
+-- (5.5) CF, FC, 30 and 9B let D7 through and no other frame; the memory stays
 abbrev pub updating : Named → Facts
 updating n = record { names = n; writes = false; usage = Exclusive; work = Rest }
 
+-- Aid: an operation that changes no register
 abbrev pub keeping : Facts → Entry
 keeping f = record { facts = f; update = Keep }
 
--- ---- the table. 58/59 are as 53/55, and the page counts as programmed
+-- ---- the table
 
+-- (2.4) the operations: what each names, whether it writes that, what it uses and what it does
+-- (7.7) 58/59 do what 53/55 do, and count as programming the page
 abbrev pub entryOf : Operation → Entry
 entryOf O.Idle = keeping idling
 entryOf (O.Program b page) = keeping (paging b page true Program)
@@ -57,8 +62,10 @@ entryOf (O.ProgramProtection d) = record { facts = updating Nothing; update = Ma
 entryOf (O.LockSector s) = record { facts = updating (Sector s); update = Lock s }
 entryOf (O.ProgramSecurity d) = record { facts = updating Nothing; update = WriteUser d }
 
+-- Aid: an operation's facts
 abbrev pub factsOf : Operation → Facts
 factsOf o = entryOf o .facts
 
+-- Aid: what it does to a register
 abbrev pub updateOf : Operation → Update
 updateOf o = entryOf o .update

@@ -35,7 +35,7 @@ withLockdown r bytes =
       operation = r .operation;
     }
 
--- the user bytes written: the used mark is set with them
+-- (7.14) the user bytes written: the used mark is set with them
 abbrev pub withUser : Registers → List ℕ → Registers
 withUser r bytes =
     record {
@@ -106,7 +106,7 @@ withOperation r o =
       operation = o;
     }
 
--- what a cut does to every chip: "Marks for protect and deep .. go to 0, the chip is idle"
+-- (8.10) what a cut does to the registers of every chip: protect and deep mark cleared, nothing under way
 abbrev pub restarted : Registers → Registers
 restarted r =
     record {

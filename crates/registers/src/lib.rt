@@ -33,7 +33,7 @@ pub struct Data64 {
     pub h: u64,
 }
 
-// The operation under way, with the page, block, sector or register that it names, and its data.
+// The operation under way, with what it names and its data.
 pub enum Operation {
     Idle,
     // 83/86, 82/85.
@@ -108,15 +108,15 @@ pub struct Facts {
 pub struct Registers {
     pub protection: [u8; 16],
     pub lockdown: [u8; 16],
-    // Security: user bytes, factory bytes, and 01's used mark.
+    // Security: user bytes, factory bytes, and the used mark.
     pub user: [u8; 64],
     pub factory: [u8; 64],
     pub used: bool,
-    // 01's software-protect mark.
+    // The protect mark.
     pub protect: bool,
     // WP level: high.
     pub wp: bool,
-    // 01's deep mark: deep power-down.
+    // The deep mark: deep power-down.
     pub deep: bool,
     pub operation: Operation,
 }
@@ -300,7 +300,7 @@ fn has_bits(bytes: [u8; 16], sector: usize) -> bool
     bits(bytes, sector) != 0
 }
 
-// The software-protect mark is set, or WP is low.
+// Guarded: by the protect mark, or by WP at its low level.
 pub fn is_guarded(s: Seals) -> bool
     ensures { λ b. ⌜ WithSeals s (λ r. b ≡ guarded r) ⌝ }
 {
@@ -310,7 +310,7 @@ pub fn is_guarded(s: Seals) -> bool
     !s.wp
 }
 
-// 01's sealed.
+// Sealed: locked, or listed and guarded.
 pub fn is_sealed(s: Seals, sector: usize) -> bool
     requires { ⌜ sector < 17 ⌝ }
     ensures { λ b. ⌜ WithSeals s (λ r. b ≡ sealed r sector) ⌝ }

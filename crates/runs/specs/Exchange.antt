@@ -1,4 +1,4 @@
--- One frame on a chip whose part is known, with its script byte: what the code leaves is what the run's definitions say.
+-- Aid: one frame on a chip whose part is known, with its script byte: what the code leaves is what the run's definitions say.
 -- Assumes nothing.
 use Prim.Native.Nat.{ℕ}
 use mathlib.Core.Path.{_≡_}

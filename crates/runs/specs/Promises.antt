@@ -16,12 +16,13 @@ use Rattle.slots.specs.Lists.{Op, outOf, nextOf, isRefusal, logOf}
 use Rattle.blocks.specs.Promises.{heldIn}
 use Rattle.runs.specs.declared.Done.{Done}
 
--- the block at exit: under 1 to 7 it stays, byte for byte; else it holds the new chip
+-- (13.9) the block at exit: under 1 to 7 it stays, byte for byte; else it holds the new chip
 unfoldable pub keptIn : List ℕ → Answer → Chip → List ℕ
 keptIn block a c = cond (isRefusal a) block (encodeChip c)
 
--- a call whose outcome is o and whose state after it is t, on the block `held`: it hands back r, and leaves the block `kept`, the array ys, the log l,
--- which was l₀, and what was lent for output as b. The block reads back as the chip that is left
+-- (11.6) the log l, which was l₀, begins with the lines
+-- (13.9) a call whose outcome is o and whose state after it is t, on the block `held`: it hands back r, and leaves the block `kept`, the array ys, the
+-- log, and what was lent for output as b. The block reads back as the chip that is left
 pub record Leaves (o : Out) (t : State) (held l₀ : List ℕ) (r : Done) (kept ys l b : List ℕ) : Type 0 where
   pub answer : r .answer ≡ o .answer
   pub block : kept ≡ keptIn held (o .answer) (chipIn t)
@@ -33,14 +34,17 @@ pub record Leaves (o : Out) (t : State) (held l₀ : List ℕ) (r : Done) (kept 
   pub lent : b ≡ o .lent
   pub holds : heldIn kept ys ≡ t
 
+-- (13.9) of a call or raw
 abbrev pub Promise : Op → (held xs : List ℕ) → Done → (kept ys l b : List ℕ) → Type 0
 Promise o held xs r kept ys l b = Leaves (outOf o (heldIn held xs)) (nextOf o (heldIn held xs)) held (logOf o) r kept ys l b
 
 -- ---- the same for a caller of the C interface, who is told the answer's number, and frames, polls and n as three counts
 
+-- (13.11) frames, polls and n
 abbrev pub countsOf : Done → List ℕ
 countsOf d = d .frames ∷ d .polls ∷ d .count ∷ []
 
+-- (13.11) the answer's number, and the counts; all else as above
 pub record Called (o : Op) (held xs : List ℕ) (r : ℕ) (kept ys l told b : List ℕ) : Type 0 where
   pub answer : r ≡ numberOf (outOf o (heldIn held xs) .answer)
   pub block : kept ≡ keptIn held (outOf o (heldIn held xs) .answer) (chipIn (nextOf o (heldIn held xs)))

@@ -1,5 +1,5 @@
--- A call under way as the code holds it, and what its parts promise: each turn of the loop is one step of the run that defines the call, and the loop
--- is the whole run. The state is the one that block and array hold.
+-- Aid: a call under way as the code holds it, and what its parts promise: each turn of the loop is one step of the run that defines the call, and the
+-- loop is the whole run. The state is the one that block and array hold.
 -- Assumes nothing.
 use Prim.Native.Nat.{ℕ, _+_, _*_, _/_, _≤_, _<_}
 use mathlib.Core.Path.{_≡_}

@@ -31,7 +31,7 @@ fn heed(b: u8, d: Driver, e: Driver) -> Driver
     if b == 2 {
         let c = d.course;
         let mut h = e;
-        h.course = steps::end_with(c, Answer::Cut);
+        h.course = courses::end_with(c, Answer::Cut);
         return h;
     }
     e
@@ -91,7 +91,7 @@ fn is_going(s: Session) -> bool
     let d = s.driver;
     let c = d.course;
     let stage = c.stage;
-    !steps::has_ended(stage)
+    !courses::has_ended(stage)
 }
 
 // The call loop, one for every call.

@@ -1,7 +1,7 @@
 // The C interface: a chip held in a record block of 765 bytes, its array lent by the caller; the calls of the slot driver on it; and
 // the driver by itself, its state held in a block of 48 bytes.
 // include/slipknoll.h documents it.
-// Each function on a chip returns the answer's number of document 01's table; no function has a `requires`.
+// Each function on a chip returns the answer's number (docs/SPECIFICATION.md, 12); no function has a `requires`.
 ghost use mathlib.Core.Path.{_≡_};
 ghost use mathlib.Core.List.{[]};
 ghost use Prim.Native.Nat.{_≤_};
@@ -153,7 +153,7 @@ pub extern "C" fn slipknoll_raw(
 ) -> u8
     ensures { λ r. ⌜ Called (Op.raw (now (frame .entry)) (now (script .entry)) (now (junk .entry)) (now (log .entry)) (now (reply .entry))) (now (block .entry)) (now (array .entry)) r (now (block .exit)) (now (array .exit)) (now (log .exit)) (now (counts .exit)) (now (reply .exit)) ⌝ }
 {
-    let d = calls::raw(block, array, frame, reply, script, junk, log);
+    let d = raws::raw(block, array, frame, reply, script, junk, log);
     calls::tell(counts, d)
 }
 
@@ -170,8 +170,8 @@ pub extern "C" fn slipknoll_driver_start_put(
 )
     ensures { λ _. ⌜ now (state .exit) ≡ encodeDriver (startDriver array (asking Kind.Put slot limit) 0 (length (now (recipe .entry))) 0) ⌝ }
 {
-    let d = driver::start_put(array, slot, limit, recipe);
-    driver_blocks::encode(state, d);
+    let d = openings::start_put(array, slot, limit, recipe);
+    driver_storing::encode(state, d);
 }
 
 // A patch of bytes at a place of the recipe.
@@ -186,8 +186,8 @@ pub extern "C" fn slipknoll_driver_start_patch(
 )
     ensures { λ _. ⌜ now (state .exit) ≡ encodeDriver (startDriver array (asking Kind.Patch slot limit) place (length (now (bytes .entry))) 0) ⌝ }
 {
-    let d = driver::start_patch(array, slot, limit, place, bytes);
-    driver_blocks::encode(state, d);
+    let d = openings::start_patch(array, slot, limit, place, bytes);
+    driver_storing::encode(state, d);
 }
 
 // A get into a buffer of `buffer` bytes.
@@ -201,8 +201,8 @@ pub extern "C" fn slipknoll_driver_start_get(
 )
     ensures { λ _. ⌜ now (state .exit) ≡ encodeDriver (startDriver array (asking Kind.Get slot limit) 0 0 buffer) ⌝ }
 {
-    let d = driver::start_get(array, slot, limit, buffer);
-    driver_blocks::encode(state, d);
+    let d = openings::start_get(array, slot, limit, buffer);
+    driver_storing::encode(state, d);
 }
 
 // A wipe of a slot.
@@ -215,8 +215,8 @@ pub extern "C" fn slipknoll_driver_start_wipe(
 )
     ensures { λ _. ⌜ now (state .exit) ≡ encodeDriver (startDriver array (asking Kind.Wipe slot limit) 0 0 0) ⌝ }
 {
-    let d = driver::start_wipe(array, slot, limit);
-    driver_blocks::encode(state, d);
+    let d = openings::start_wipe(array, slot, limit);
+    driver_storing::encode(state, d);
 }
 
 // The frame to send, at the beginning of the lent buffer, which keeps its other bytes; its length is the result, 0 at the end. `payload`
@@ -249,7 +249,7 @@ pub extern "C" fn slipknoll_driver_next(
     let d = driver_blocks::decode(state);
     let n = driver::next_frame(d, payload, reply, staged, frame);
     let e = n.driver;
-    driver_blocks::encode(state, e);
+    driver_storing::encode(state, e);
     n.length
 }
 
@@ -259,8 +259,8 @@ pub extern "C" fn slipknoll_driver_answer(state: &[u8; 48]) -> u8
     ensures { λ r. ⌜ r ≡ toldNumber (toldIn (decodeDriver (now (state .entry)))) ⌝ }
 {
     let d = driver_blocks::decode(state);
-    let t = driver::answer(d);
-    driver_blocks::told_number(t)
+    let t = results::answer(d);
+    driver_storing::told_number(t)
 }
 
 // Of a get that has ended with 0 the recipe's length, else 0; the recipe stands in `staged` behind the first three bytes.
@@ -269,5 +269,5 @@ pub extern "C" fn slipknoll_driver_count(state: &[u8; 48], staged: &[u8; 2112]) 
     ensures { λ r. ⌜ (r ≡ countIn (decodeDriver (now (state .entry))) (now (staged .entry))) × (r ≤ 2109) ⌝ }
 {
     let d = driver_blocks::decode(state);
-    driver::count(d, staged)
+    results::count(d, staged)
 }

@@ -1,4 +1,4 @@
--- The bounds that 01 states, and how many frames and polls a plan is with one poll a wait: folds over the plan, computed.
+-- The bounds in numbers, and how many frames and polls a plan is with one poll a wait: folds over the plan, computed.
 -- Assumes nothing.
 use Prim.Native.Nat.{ℕ, zero, suc, _+_, _*_, _<_, _≤_}
 use native.Mathlib.Omega.{arith}

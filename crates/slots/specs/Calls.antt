@@ -1,6 +1,5 @@
--- The calls run on the chip, one frame after another. A script has a byte for each frame, which acts after it: 0 ends the busy period, 1 does
--- nothing, 2 cuts the supply and ends the call with 11 before anything of the reply is looked at; past its end it counts as 0.
--- A run's state has a half that the wire may show (`Open`) and one that it may not (`Closed`).
+-- The calls run on the chip, one frame after another, each with its script byte. A run's state has a half that the wire may show (`Open`) and one that it
+-- may not (`Closed`).
 -- Assumes nothing.
 use Prim.Native.Nat.{ℕ, zero, suc, _+_, _/_, _%_}
 use mathlib.Core.Bool.{Bool, false, cond}
@@ -31,7 +30,7 @@ use Rattle.slots.specs.Records.{slotSize, headSize, lengthIn}
 use Rattle.slots.specs.Driver.{Heard, Holding, frameOf, heard, ended, after, takenBy, stepOf, isEnded, toldBy}
 use Rattle.slots.specs.Refusals.{callRefusal, rawRefusal}
 
--- what a call leaves: its answer, the log lines that it wrote, frames and polls, of a get n, and the lent get buffer or reply
+-- (11.7) what a call hands back: its answer, the log lines that it wrote, frames and polls, of a get n, and the lent get buffer or reply
 pub record Out : Type 0 where
   pub answer : Answer
   pub lines : List ℕ
@@ -40,32 +39,35 @@ pub record Out : Type 0 where
   pub count : ℕ
   pub lent : List ℕ
 
--- refused: nothing is sent, nothing changes
+-- (12.2) no frame, no line, all counts 0, what was lent as it was
 abbrev pub refused : Answer → List ℕ → Out
 refused a lent = record { answer = a; lines = []; frames = 0; polls = 0; count = 0; lent = lent }
 
--- a frame's six bytes in the log: its length in two, high byte first, and its first four, FFh where it is shorter
+-- (11.5) a frame's six bytes in the log: its length, high byte first, and its first four bytes, FFh for those that it has not
 unfoldable pub outline : List ℕ → List ℕ
 outline f = length f / 256 ∷ length f % 256 ∷ getD f 0 255 ∷ getD f 1 255 ∷ getD f 2 255 ∷ getD f 3 255 ∷ []
 
--- the script's byte for frame i
+-- (11.2) the script's byte for frame i, 0 where there is none
 abbrev pub scripted : List ℕ → ℕ → ℕ
 scripted script i = getD script i 0
 
 -- ---- one frame, with its script byte; a cut is left to the call's end
 
+-- (11.3) the registers after a frame's script byte: 0 is a busy end
 unfoldable pub registersAfter : ℕ → Registers → Registers
 registersAfter b r = cond (eqb b 0) (completed r) r
 
+-- (11.3) the memory
 unfoldable pub memoryAfter : Geometry → ℕ → Registers → Memory → Memory
 memoryAfter g b r m = cond (eqb b 0) (completedMemory g (r .operation) m) m
 
+-- (11.3) both
 unfoldable pub stateAfter : Geometry → ℕ → State → State
 stateAfter g b s = record { registers = registersAfter b (s .registers); memory = memoryAfter g b (s .registers) (s .memory) }
 
 -- ---- put, patch, get, wipe
 
--- what is asked, as far as the wire may depend on it: the call, slot, B, script, the lengths of log and J, whether 5 is met
+-- Aid: what is asked, as far as the wire may depend on it: the call, slot, B, script, the lengths of log and J, whether 5 is met
 pub record Request : Type 0 where
   pub asked : Asked
   pub script : List ℕ
@@ -73,13 +75,14 @@ pub record Request : Type 0 where
   pub junk : ℕ
   pub oversize : Bool
 
--- and the rest: recipe or patch, J, and what the lent get buffer held
+-- Aid: and the rest: recipe or patch, J, and what the lent get buffer held
 pub record Secret : Type 0 where
   pub payload : List ℕ
   pub place : ℕ
   pub junk : List ℕ
   pub lent : List ℕ
 
+-- Aid: what the wire may show of a run
 pub record Open : Type 0 where
   pub registers : Registers
   pub course : Course
@@ -88,27 +91,30 @@ pub record Open : Type 0 where
   pub polls : ℕ
   pub cut : Bool
 
+-- Aid: and what it may not
 pub record Closed : Type 0 where
   pub memory : Memory
   pub holding : Holding
 
--- the frame that is sent
+-- Aid: the frame that is sent
 abbrev pub sends : Geometry → Request → Open → Closed → List ℕ
 sends g v p q = frameOf g (v .asked .kind) (q .holding) (stepOf g (v .asked) (p .course))
 
--- the registers that the frame leaves, before its script byte
+-- Aid: the registers that the frame leaves, before its script byte
 abbrev pub leaves : Geometry → Request → Open → Closed → Registers
 leaves g v p q = control g (p .registers) (sends g v p q) .registers
 
--- its reply
+-- Aid: its reply
 abbrev pub replies : Geometry → Request → Open → Closed → List ℕ
 replies g v p q = replyOf g (p .registers) (q .memory) (sends g v p q)
 
--- what is heard of it
+-- Aid: what is heard of it
 abbrev pub hears : Geometry → Request → Open → Closed → Heard
 hears g v p q = heard (stepOf g (v .asked) (p .course)) (sectorFor (v .asked)) (replies g v p q)
 
--- the open half after a frame: from the open half, the frame's outline, the registers after it and what was heard
+-- (11.1) the open half after a frame: from the open half, the frame's outline, the registers after it and what was heard
+-- (11.4) a cut ends the call with 11, whatever was heard
+-- (11.7) each frame counts, and is a poll if its step is a wait
 unfoldable pub openAfter : Geometry → Request → Open → List ℕ → Registers → Heard → Open
 openAfter g v p line r o =
     record {
@@ -120,7 +126,7 @@ openAfter g v p line r o =
       cut = eqb (scripted (v .script) (p .frames)) 2;
     }
 
--- the closed half after a frame
+-- (11.1) the closed half after a frame
 unfoldable pub closedAfter : Geometry → Request → Open → Closed → Registers → Memory → List ℕ → Closed
 closedAfter g v p q r m reply =
     record {
@@ -128,61 +134,68 @@ closedAfter g v p q r m reply =
       holding = takenBy (stepOf g (v .asked) (p .course)) g (v .asked .kind) (q .holding) reply;
     }
 
--- one frame sent, its script byte acted on, its reply looked at; after the end nothing
+-- (11.1) one frame sent, its script byte acted on, its reply looked at; after the end nothing
 unfoldable pub stepOpen : Geometry → Request → Open → Closed → Open
 stepOpen g v p q =
     cond (isEnded (p .course .stage)) p
     (openAfter g v p (outline (sends g v p q)) (leaves g v p q) (hears g v p q))
 
+-- (11.1) the same of the closed half
 unfoldable pub stepClosed : Geometry → Request → Open → Closed → Closed
 stepClosed g v p q =
     cond (isEnded (p .course .stage)) q
     (closedAfter g v p q (leaves g v p q) (sentMemory g (p .registers) (sends g v p q) (q .memory)) (replies g v p q))
 
+-- (11.11) n frames, or as many as there are
 unfoldable pub run : ℕ → Geometry → Request → Open → Closed → Open × Closed
 run zero g v p q = (p, q)
 run (suc n) g v p q = run n g v (stepOpen g v p q) (stepClosed g v p q)
 
--- where a call starts: its first wait, or already ended if it is refused
+-- (11.10) where a call starts: its first wait, or already ended if it is refused
 unfoldable pub firstCourse : Answer → ℕ → Course
 firstCourse refusal limit =
     record { place = 0; left = limit; stage = cond (eqb (numberOf refusal) 0) Going (Ended refusal); listed = false; guarded = false }
 
+-- Aid: the refusal of what is asked; Done where there is none
 abbrev pub refusalOf : Geometry → ℕ → Request → Answer
 refusalOf g array v =
     callRefusal g array (v .asked) (v .oversize) (v .log) (v .script) (v .junk)
 
+-- (11.10) nothing is sent yet
 unfoldable pub startOpen : Geometry → ℕ → Request → Registers → Open
 startOpen g array v r =
     record { registers = r; course = firstCourse (refusalOf g array v) (v .asked .limit); lines = []; frames = 0; polls = 0; cut = false }
 
--- nothing is read yet
+-- (11.10) nothing is read yet
 unfoldable pub startClosed : Geometry → Secret → Memory → Closed
 startClosed g x m =
     record { memory = m; holding = record { payload = x .payload; place = x .place; staged = replicate (slotSize g) 0; verdict = Good } }
 
--- the run up to its end or its cut
+-- (11.11) the run up to its end or its cut
 unfoldable pub ran : Geometry → Request → Secret → State → Open × Closed
 ran g v x s =
     run (bound g (v .asked)) g v (startOpen g (length (s .memory .array)) v (s .registers)) (startClosed g x (s .memory))
 
+-- Aid: the chip as the run leaves it
 abbrev pub reached : Open × Closed → State
 reached z = record { registers = z .0 .registers; memory = z .1 .memory }
 
--- n: of a get with answer 0 the recipe's length, else 0
+-- (11.8) n: a get's, by the bytes that it read
 unfoldable pub countBy : Kind → List ℕ → ℕ
 countBy Put staged = 0
 countBy Patch staged = 0
 countBy Get staged = lengthIn staged
 countBy Wipe staged = 0
 
+-- (11.8) with the answer 0 alone
 unfoldable pub countOf : Kind → Answer → List ℕ → ℕ
 countOf k a staged = cond (eqb (numberOf a) 0) (countBy k staged) 0
 
--- the lent get buffer begins with the first n bytes behind the record's head
+-- (11.9) the get buffer with the first n bytes behind the record's head, all else as it was
 abbrev pub delivered : ℕ → List ℕ → List ℕ → List ℕ
 delivered n staged buffer = over (take n (drop headSize staged)) buffer
 
+-- (11.9) what a run hands back: the get buffer by its answer
 unfoldable pub outFrom : Request → Secret → Open × Closed → Answer → Out
 outFrom v x z a =
     record {
@@ -194,23 +207,27 @@ outFrom v x z a =
       lent = delivered (countOf (v .asked .kind) a (z .1 .holding .staged)) (z .1 .holding .staged) (x .lent);
     }
 
--- a call's answer. A run always comes to an end, so that the first row is never met (`call-ends`)
+-- Aid: a call's answer. A run always comes to an end, so that the first row is never met (`call-ends`)
 unfoldable pub answerIn : Told → Answer
 answerIn Running = Answers.Busy
 answerIn (Answered a) = a
 
+-- (11.11) the answer of a run
 abbrev pub answerAt : Open × Closed → Answer
 answerAt z = answerIn (toldBy (z .0 .course .stage) (z .1 .holding .verdict))
 
+-- (11.11) what a call hands back
 unfoldable pub callOut : Geometry → Request → Secret → State → Out
 callOut g v x s = outFrom v x (ran g v x s) (answerAt (ran g v x s))
 
+-- (11.4) a cut is the call's last act
+-- (12.16) what was done before stays
 unfoldable pub callNext : Geometry → Request → Secret → State → State
 callNext g v x s = cond (ran g v x s .0 .cut) (cutState g (x .junk) (reached (ran g v x s))) (reached (ran g v x s))
 
 -- ---- raw
 
--- one frame of the caller's, its reply in the lent buffer; no wait
+-- (11.13) one frame of the caller's, its reply in the lent buffer
 unfoldable pub rawSent : Geometry → List ℕ → List ℕ → State → Out
 rawSent g script f s =
     record {
@@ -222,11 +239,13 @@ rawSent g script f s =
       lent = replyOf g (s .registers) (s .memory) f;
     }
 
+-- (11.12) what raw hands back, refused or not
 unfoldable pub rawOut : Geometry → List ℕ → List ℕ → ℕ → ℕ → List ℕ → State → Out
 rawOut g f script log junk reply s =
     cond (eqb (numberOf (rawRefusal g (length (s .memory .array)) f (length reply) log script junk)) 0) (rawSent g script f s)
     (refused (rawRefusal g (length (s .memory .array)) f (length reply) log script junk) reply)
 
+-- (11.12) and what it leaves
 unfoldable pub rawNext : Geometry → List ℕ → List ℕ → ℕ → List ℕ → ℕ → State → State
 rawNext g f script log junk reply s =
     cond (eqb (numberOf (rawRefusal g (length (s .memory .array)) f reply log script (length junk))) 0)

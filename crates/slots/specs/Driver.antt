@@ -1,5 +1,5 @@
--- The slot driver: it is given the last reply and yields the next frame or the end. Its control state (`Course`) is a place in the call's plan and
--- goes by `Heard` alone; its data (`Holding`) take the whole reply and reach a frame only as the data of an 84.
+-- The slot driver: a reply goes in, the next frame or the end comes out. Its control state (`Course`) is a place in the call's plan and goes by `Heard`
+-- alone; its data (`Holding`) take the whole reply and reach a frame only as the data of an 84.
 -- Assumes nothing.
 use Prim.Native.Nat.{ℕ, suc, _+_, _-_, _*_, _/_, _%_}
 use mathlib.Core.Bool.{Bool, true, false, cond, not, _&&_, _||_}
@@ -28,7 +28,7 @@ use Rattle.slots.specs.declared.Verdict.the-variants.{Good, Blank, Beyon
 use Rattle.slots.specs.Records.{image, changed, getVerdict, patchVerdict}
 use Rattle.slots.specs.Plans.{Asked, planOf, stepAt, isEnd}
 
--- the data: the recipe or the patch's bytes, the patch's place, the slot's bytes read so far, and the verdict on them
+-- Aid: the data: the recipe or the patch's bytes, the patch's place, the slot's bytes read so far, and the verdict on them
 pub record Holding : Type 0 where
   pub payload : List ℕ
   pub place : ℕ
@@ -37,7 +37,7 @@ pub record Holding : Type 0 where
 
 -- ---- frames
 
--- all of a frame but its data: opcode, address bytes, length, and whether data follow the first four bytes
+-- (10.7) all of a frame but its data: opcode, address bytes, length, and whether data follow the first four bytes
 pub record Shape : Type 0 where
   pub opcode : ℕ
   pub high : ℕ
@@ -46,16 +46,17 @@ pub record Shape : Type 0 where
   pub length : ℕ
   pub loads : Bool
 
--- opcode, the address n in three bytes, first byte highest; the frame's length, and whether it carries data
+-- (10.8) with the address n in three bytes, the most significant first
 abbrev pub addressed : ℕ → ℕ → ℕ → Bool → Shape
 addressed opcode n length loads =
     record { opcode = opcode; high = n / 65536 % 256; middle = n / 256 % 256; low = n % 256; length = length; loads = loads }
 
+-- (10.7) the opcode of a command that names a page
 unfoldable pub opcodeOf : Command → ℕ
 opcodeOf Program = 0x83
 opcodeOf Erase = 0x50
 
--- a step's frame but for its data: a page is named by its number times the address field
+-- (10.7) a step's frame but for its data
 unfoldable pub shapeOf : Geometry → Step → Shape
 shapeOf g Wait = addressed 0xD7 0 2 false
 shapeOf g Protection = addressed 0x32 0 20 false
@@ -65,19 +66,19 @@ shapeOf g (Load p) = addressed 0x84 0 (4 + g .size) true
 shapeOf g (Send c p) = addressed (opcodeOf c) (g .field * p) 4 false
 shapeOf g End = addressed 0 0 0 false
 
--- byte i of a frame: opcode, address, then the data or 00
+-- (10.9) byte i of a frame: opcode, address, then the data or 00
 unfoldable pub frameByte : Shape → (ℕ → ℕ) → ℕ → ℕ
 frameByte s bytes i =
     cond (eqb i 0) (s .opcode) (cond (eqb i 1) (s .high) (cond (eqb i 2) (s .middle) (cond (eqb i 3) (s .low) (cond (s .loads) (bytes (i - 4)) 0))))
 
--- byte i of the slot as the call stores it: a put the recipe's record, a patch what it read with its bytes in their place
+-- (10.10) byte i of the slot as the call is to leave it: a put the recipe's record, a patch what it read with its bytes in their place
 unfoldable pub storedBy : Kind → Holding → ℕ → ℕ
 storedBy Put h i = image (h .payload) i
 storedBy Patch h i = changed (h .verdict) (h .place) (h .payload) (getD (h .staged) i 0) i
 storedBy Get h i = 0
 storedBy Wipe h i = 0
 
--- the data of an 84: page p is page p mod 8 of its slot
+-- (10.10) the data of an 84: page p is page p mod 8 of its slot
 unfoldable pub loaded : Geometry → Kind → Holding → Step → ℕ → ℕ
 loaded g k h Wait i = 0
 loaded g k h Protection i = 0
@@ -87,31 +88,33 @@ loaded g k h (Load p) i = storedBy k h (g .size * (p % 8) + i)
 loaded g k h (Send c p) i = 0
 loaded g k h End i = 0
 
--- a step's frame
+-- (10.9) a step's frame
 abbrev pub frameOf : Geometry → Kind → Holding → Step → List ℕ
 frameOf g k h x = tabulate (shapeOf g x .length) (frameByte (shapeOf g x) (loaded g k h x))
 
--- ---- what is heard of a reply; a byte that is not there counts as FFh
+-- ---- what is heard of a reply
 
--- all that control goes by: of a status, whether bits 5-2 are 1001, bit 7, bit 1; of a register, whether the sector's bits are not all 0
+-- (10.12) all that control goes by: of a status, whether bits 5-2 are 1001, bit 7, bit 1; of a register, whether a bit of the sector is 1
 pub record Heard : Type 0 where
   pub density : Bool
   pub ready : Bool
   pub guarded : Bool
   pub held : Bool
 
--- of a status
+-- (10.12) of a status
 abbrev pub statusHeard : ℕ → Heard
 statusHeard x = record { density = eqb (x / 4 % 16) 9; ready = eqb (x / 128 % 2) 1; guarded = eqb (x / 2 % 2) 1; held = false }
 
--- of a register, or of nothing
+-- (10.12) of a register, or of nothing
 abbrev pub registerHeard : Bool → Heard
 registerHeard b = record { density = true; ready = true; guarded = false; held = b }
 
--- a register's sixteen bytes in a reply to 32 or 35
+-- (10.11) what is missing of them counts as FFh
+-- (10.13) a register's sixteen bytes in a reply to 32 or 35
 unfoldable pub registerIn : List ℕ → List ℕ
 registerIn reply = tabulate 16 (λ j. getD reply (4 + j) 255)
 
+-- (10.11) what is heard of the reply to a step: a status that is missing counts as FFh
 unfoldable pub heard : Step → ℕ → List ℕ → Heard
 heard Wait sector reply = statusHeard (getD reply 1 255)
 heard Protection sector reply = registerHeard (hasBits (registerIn reply) sector)
@@ -123,25 +126,32 @@ heard End sector reply = registerHeard false
 
 -- ---- control
 
+-- (12.16) the call ends here
 abbrev pub ended : Answer → Course → Course
 ended n c = record { place = c .place; left = c .left; stage = Ended n; listed = c .listed; guarded = c .guarded }
 
--- on to the next step, with all B polls; the plan's end is the call's
+-- (10.15) the next step has all B polls
+-- (10.18) the plan's end is the call's
 abbrev pub moved : Step → ℕ → Course → Course
 moved next limit c =
     record { place = suc (c .place); left = limit; stage = cond (isEnd next) (Ended Answers.Done) Going; listed = c .listed; guarded = c .guarded }
 
+-- (10.16) whether the sector is listed, by the reply to 32
 abbrev pub noted : Bool → Course → Course
 noted b c = record { place = c .place; left = c .left; stage = c .stage; listed = b; guarded = c .guarded }
 
+-- (10.16) bit 1 of the status that ends a wait
 abbrev pub marking : Bool → Course → Course
 marking b c = record { place = c .place; left = c .left; stage = c .stage; listed = c .listed; guarded = b }
 
+-- (10.15) one poll less is left
 abbrev pub fewer : Course → Course
 fewer c = record { place = c .place; left = c .left - 1; stage = c .stage; listed = c .listed; guarded = c .guarded }
 
--- a poll of a wait: 8, looked at before ready; ready; 9 at the last of the B polls; or once more. 32 notes, 35 tests: 10 where the sector is
--- sealed by both replies and the last status. All else goes on
+-- (10.14) a poll: 8, looked at before ready
+-- (10.15) a busy chip: 9 at the last of the B polls, else once more
+-- (10.16) 32 notes, 35 tests: 10 where the sector is sealed by both replies and the status before them
+-- (10.17) all else goes on
 unfoldable pub courseBy : Step → Step → ℕ → Course → Heard → Course
 courseBy Wait next limit c o =
     cond (not (o .density)) (ended Answers.Device c)
@@ -153,24 +163,25 @@ courseBy (Load p) next limit c o = moved next limit c
 courseBy (Send x p) next limit c o = moved next limit c
 courseBy End next limit c o = c
 
--- the step at a course's place
+-- Aid: the step at a course's place
 abbrev pub stepOf : Geometry → Asked → Course → Step
 stepOf g a c = stepAt (planOf g a) (c .place)
 
--- the control state after a reply
+-- (10.18) the control state after a reply
 abbrev pub after : Geometry → Asked → Course → Heard → Course
 after g a c o = courseBy (stepOf g a c) (stepAt (planOf g a) (suc (c .place))) (a .limit) c o
 
 -- ---- data
 
--- the verdict on a slot's first page
+-- (10.20) the verdict on a slot's first page
 unfoldable pub judged : Geometry → Kind → Holding → List ℕ → Verdict
 judged g Put h bytes = Good
 judged g Patch h bytes = patchVerdict g (h .place + length (h .payload)) bytes
 judged g Get h bytes = getVerdict g bytes
 judged g Wipe h bytes = Good
 
--- the data after page p's bytes: they go to their place among the slot's, and the slot's first page is judged
+-- (10.19) page p's bytes go to their place among the slot's
+-- (10.20) the slot's first page is judged
 unfoldable pub readIn : Geometry → Kind → ℕ → Holding → List ℕ → Holding
 readIn g k p h bytes =
     record {
@@ -180,7 +191,8 @@ readIn g k p h bytes =
       verdict = cond (eqb (p % 8) 0) (judged g k h bytes) (h .verdict);
     }
 
--- the data after a step's reply: those of a page read follow its eight bytes of lead
+-- (10.11) what is missing of a page counts as FFh
+-- (10.19) the data after a step's reply: those of a page read follow its eight bytes of lead
 unfoldable pub takenBy : Step → Geometry → Kind → Holding → List ℕ → Holding
 takenBy Wait g k h reply = h
 takenBy Protection g k h reply = h
@@ -192,20 +204,22 @@ takenBy End g k h reply = h
 
 -- ---- the end
 
+-- Aid: it is at its end
 unfoldable pub isEnded : Stage → Bool
 isEnded Going = false
 isEnded (Ended n) = true
 
+-- (10.21) the answer of a verdict
 unfoldable pub verdictAnswer : Verdict → Answer
 verdictAnswer Good = Answers.Done
 verdictAnswer Blank = Answers.Blank
 verdictAnswer Beyond = Answers.End
 
--- the answer 0 is weighed by the verdict, any other stands
+-- (10.21) the answer 0 is weighed by the verdict, any other stands
 unfoldable pub weighed : Answer → Verdict → Answer
 weighed n v = cond (eqb (numberOf n) 0) (verdictAnswer v) n
 
--- what a driver tells: one that has not ended has no answer
+-- (10.22) what a driver tells: one that has not ended has no answer
 unfoldable pub toldBy : Stage → Verdict → Told
 toldBy Going v = Running
 toldBy (Ended n) v = Answered (weighed n v)

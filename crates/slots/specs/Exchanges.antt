@@ -24,13 +24,13 @@ use Rattle.slots.specs.Driver.{Holding, frameOf, registerIn, takenBy, is
 use Rattle.state.specs.Memory.{State}
 use Rattle.slots.specs.Calls.{Out, Request, Secret, Open, Closed, scripted, sends, replies, outline, stepOpen, stepClosed, startOpen, startClosed}
 
--- a frame, its reply, and the script byte that acts after it
+-- (14.11) a frame, its reply, and the script byte that acts after it
 pub record Exchange : Type 0 where
   pub frame : List ℕ
   pub reply : List ℕ
   pub byte : ℕ
 
--- those of the next n steps of a run: none once it has ended
+-- Aid: those of the next n steps of a run: none once it has ended
 unfoldable pub exchangesOf : ℕ → Geometry → Request → Open → Closed → List Exchange
 exchangesOf zero g v p q = []
 exchangesOf (suc n) g v p q =
@@ -38,17 +38,17 @@ exchangesOf (suc n) g v p q =
     (record { frame = sends g v p q; reply = replies g v p q; byte = scripted (v .script) (p .frames) }
     ∷ exchangesOf n g v (stepOpen g v p q) (stepClosed g v p q))
 
--- all of a call
+-- (14.11) all of a call
 unfoldable pub exchanges : Geometry → Request → Secret → State → List Exchange
 exchanges g v x s =
     exchangesOf (bound g (v .asked)) g v (startOpen g (length (s .memory .array)) v (s .registers)) (startClosed g x (s .memory))
 
--- their lines in the log
+-- Aid: their lines in the log
 unfoldable pub outlines : List Exchange → List ℕ
 outlines [] = []
 outlines (e ∷ es) = outline (e .frame) ++ outlines es
 
--- ---- a wait
+-- ---- Aid: a wait
 
 abbrev pub statusFrame : List ℕ
 statusFrame = 0xD7 ∷ 0x00 ∷ []
@@ -82,8 +82,8 @@ pub data Turn : Type 0 where
   goes : (e : Exchange) → Turn
   stops : (a : Answer) → Turn
 
--- the polls of a wait that has so many left: until ready; 8 at the first status whose bits 5-2 are not 1001, whether or not it tells ready; 9 after the
--- last of them, none ready; 11 at a cut
+-- (14.11) the polls of a wait that has so many left: until ready; 8 at the first status whose bits 5-2 are not 1001, whether or not it tells ready; 9
+-- after the last of them, none ready; 11 at a cut
 pub data Polls : ℕ → List Exchange → Turn → Type 0 where
   lost : {b : ℕ} {e : Exchange} → e .frame ≡ statusFrame → e .byte ≡ 2 → Polls b (e ∷ []) (stops Answers.Cut)
   foreign : {b : ℕ} {e : Exchange} → Polled e → (Ours (statusIn e) → ⊥) → Polls b (e ∷ []) (stops Answers.Device)
@@ -91,7 +91,7 @@ pub data Polls : ℕ → List Exchange → Turn → Type 0 where
   busy : {b : ℕ} {e : Exchange} → FoundBusy e → b ≤ 1 → Polls b (e ∷ []) (stops Answers.Busy)
   again : {b : ℕ} {e : Exchange} {es : List Exchange} {t : Turn} → FoundBusy e → 1 < b → Polls (b - 1) es t → Polls b (e ∷ es) t
 
--- ---- a plan
+-- ---- Aid: a plan
 
 -- a call's end: at the plan's end with these data, or where it was stopped
 pub data Result : Type 0 where
@@ -122,7 +122,7 @@ module _ (g : Geometry) (a : Asked) where
   abbrev pub heldIn : Exchange → Bool
   heldIn e = hasBits (registerIn (e .reply)) (sectorFor a)
 
-  -- the exchanges follow the steps in order: polls left for a wait at their head; whether the sector is listed, bit 1 of the last status; the
+  -- (14.11) the exchanges follow the steps in order: polls left for a wait at their head; whether the sector is listed, bit 1 of the last status; the
   -- data; the exchanges, how many of them are polls, and the end
   pub data Follows : ℕ → List Step → Bool → Bool → Holding → List Exchange → ℕ → Result → Type 0 where
     done : {b : ℕ} {l d : Bool} {h : Holding} → Follows b [] l d h [] 0 (finished h)
@@ -143,12 +143,12 @@ module _ (g : Geometry) (a : Asked) where
 
 -- ---- where a call stops
 
--- an exchange that stops no call: it is not cut, and a poll's bits 5-2 are 1001
+-- (14.12) an exchange that stops no call: it is not cut, and a poll's bits 5-2 are 1001
 abbrev pub Calm : Exchange → Type 0
 Calm e = (e .byte ≡ 2 → ⊥) × (e .frame ≡ statusFrame → Ours (statusIn e))
 
--- the last exchange of a call says why it comes to this end: 11 at a cut; 8 at a poll whose bits 5-2 are not 1001; 9 at a poll that finds the chip busy; 10
--- and the plan's end at none of these
+-- (14.12) the last exchange of a call says why it comes to this end: 11 at a cut; 8 at a poll whose bits 5-2 are not 1001; 9 at a poll that finds the chip
+-- busy; 10 and the plan's end at none of these
 pub data Why : Exchange → Result → Type 0 where
   at-cut : {e : Exchange} → e .byte ≡ 2 → Why e (stopped Answers.Cut)
   at-foreign : {e : Exchange} → Polled e → (Ours (statusIn e) → ⊥) → Why e (stopped Answers.Device)
@@ -156,13 +156,13 @@ pub data Why : Exchange → Result → Type 0 where
   at-seal : {e : Exchange} → Calm e → (e .frame ≡ statusFrame → ⊥) → Why e (stopped Answers.Sealed)
   at-end : {e : Exchange} {h : Holding} → Calm e → (e .frame ≡ statusFrame → IsReady (statusIn e)) → Why e (finished h)
 
--- and none before it stops the call
+-- (14.12) and none before it stops the call
 abbrev pub StopsAt : List Exchange → Result → Type 0
 StopsAt [] t = ⊥
 StopsAt (e ∷ []) t = Why e t
 StopsAt (e ∷ (f ∷ es)) t = Calm e × StopsAt (f ∷ es) t
 
--- a call's frames, polls, log and answer, as its plan has them
+-- (14.11) a call's frames, polls, log and answer, as its plan has them
 pub record AsPlanned (g : Geometry) (v : Request) (h : Holding) (es : List Exchange) (o : Out) : Type 0 where
   pub result : Result
   pub follows : Follows g (v .asked) (v .asked .limit) (planOf g (v .asked)) false false h es (o .polls) result
@@ -170,8 +170,9 @@ pub record AsPlanned (g : Geometry) (v : Request) (h : Holding) (es : List Excha
   pub lines : o .lines ≡ outlines es
   pub answer : o .answer ≡ answerFor result
 
--- ---- 12 and 13: what the first page of a slot tells a patch that ends at `end`, or a get, of which nothing is asked beyond the record (end 0)
+-- ---- 12 and 13
 
+-- (14.13) what the first page of a slot tells a patch that ends at `end`, or a get, of which nothing is asked beyond the record (end 0)
 pub data Judges (g : Geometry) (bytes : List ℕ) (end : ℕ) : Verdict → Type 0 where
   no-record : ((getD bytes 0 0 ≡ 1 → ⊥) ⊎ (8 * g .size < 3 + (getD bytes 1 0 * 256 + getD bytes 2 0))) → Judges g bytes end Blank
   too-far : getD bytes 0 0 ≡ 1 → 3 + (getD bytes 1 0 * 256 + getD bytes 2 0) ≤ 8 * g .size → getD bytes 1 0 * 256 + getD bytes 2 0 < end → Judges g bytes end Beyond
@@ -179,20 +180,20 @@ pub data Judges (g : Geometry) (bytes : List ℕ) (end : ℕ) : Verdict → Type
 
 -- ---- a call that nothing disturbs
 
--- the exchanges are the steps' one by one: each wait one D7
+-- (14.15) the exchanges are the steps' one by one: each wait one D7
 abbrev pub OneByOne : Geometry → Kind → Holding → List Step → List Exchange → Holding → Type 0
 OneByOne g k h [] [] h' = h ≡ h'
 OneByOne g k h [] (e ∷ es) h' = ⊥
 OneByOne g k h (x ∷ xs) [] h' = ⊥
 OneByOne g k h (x ∷ xs) (e ∷ es) h' = (e .frame ≡ frameOf g k h x) × OneByOne g k (takenBy x g k h (e .reply)) xs es h'
 
--- an idle, awake chip, its registers of their lengths, and the slot's sector not sealed where the call asks
+-- (14.14) an idle, awake chip, its registers of their lengths, and the slot's sector not sealed where the call asks
 pub record Undisturbed (a : Asked) (r : Registers) : Type 0 where
   pub ready : Ready r
   pub lengths : Lengths r
   pub unsealed : isAsking (a .kind) ≡ true → sealed r (sectorFor a) ≡ false
 
--- frames, polls, log and answer of such a call; the data after its last step in `left`
+-- (14.15) frames, polls, log and answer of such a call; the data after its last step in `left`
 pub record AsListed (g : Geometry) (a : Asked) (h : Holding) (es : List Exchange) (o : Out) : Type 0 where
   pub left : Holding
   pub sent : OneByOne g (a .kind) h (planOf g a) es left

@@ -18,25 +18,25 @@ use Rattle.slots.specs.Driver.{verdictAnswer}
 use Rattle.slots.specs.Calls.{Out}
 use Rattle.slots.specs.Quiet.{pageIn}
 
--- byte i of a slot in the array
+-- (14.16) byte i of a slot in the array
 abbrev pub slotByte : Geometry → ℕ → List ℕ → ℕ → ℕ
 slotByte g slot xs i = getD xs (pageStart g (8 * slot) + i) 0
 
--- what the call takes the slot for, whose bytes are `old`
+-- (14.16) what the call takes the slot for, whose bytes are `old`
 unfoldable pub verdictFor : Geometry → Kind → ℕ → List ℕ → (ℕ → ℕ) → Verdict
 verdictFor g Put place payload old = Good
 verdictFor g Patch place payload old = patchVerdict g (place + length payload) (pageIn g old 0)
 verdictFor g Get place payload old = getVerdict g (pageIn g old 0)
 verdictFor g Wipe place payload old = Good
 
--- byte i of the slot afterwards: the recipe's record; the bytes with the patch in its place, as they were under 12 or 13; as they were; FFh
+-- (14.16) byte i of the slot afterwards: the recipe's record; the bytes with the patch in its place, as they were under 12 or 13; as they were; FFh
 unfoldable pub leftIn : Geometry → Kind → ℕ → List ℕ → (ℕ → ℕ) → ℕ → ℕ
 leftIn g Put place payload old i = image payload i
 leftIn g Patch place payload old i = changed (verdictFor g Patch place payload old) place payload (old i) i
 leftIn g Get place payload old i = old i
 leftIn g Wipe place payload old i = 255
 
--- 0, 12 or 13 by the slot's first page; the slot's bytes so, every other byte of the array as it was; the registers as they were
+-- (14.16) 0, 12 or 13 by the slot's first page; the slot's bytes so, every other byte of the array as it was; the registers as they were
 pub record Leaves (g : Geometry) (a : Asked) (place : ℕ) (payload : List ℕ) (s : State) (o : Out) (t : State) : Type 0 where
   pub answer : o .answer ≡ verdictAnswer (verdictFor g (a .kind) place payload (slotByte g (a .slot) (s .memory .array)))
   pub array : t .memory .array

@@ -1,4 +1,4 @@
--- Lists of calls and events, each on the chip and array as the one before left them.
+-- Calls and events, and lists of them: each is done on what the one before it left.
 -- Assumes nothing.
 use Prim.Native.Nat.{ℕ}
 use mathlib.Core.Path.{_≡_}
@@ -20,7 +20,7 @@ use Rattle.state.specs.Memory.{State}
 use Rattle.state.specs.Outcomes.{Left, partIn, sendOutcome, endOutcome, pinOutcome, cutOutcome}
 use Rattle.slots.specs.Calls.{Out, Request, Secret, refused, callOut, callNext, rawOut, rawNext}
 
--- a call or an event, with all that it is given. Of a call by a plan: `place` is a patch's, `payload` the recipe or the patch, `lent` the get
+-- (11.14) a call or an event, with all that it is given. Of a call by a plan: `place` is a patch's, `payload` the recipe or the patch, `lent` the get
 -- buffer; what does not concern the call is not looked at
 pub data Op : Type 0 where
   call : (asked : Asked) (place : ℕ) (script payload junk log lent : List ℕ) → Op
@@ -30,24 +30,29 @@ pub data Op : Type 0 where
   busyEnd : Op
   cut : (junk : List ℕ) → Op
 
--- the calls by their names
+-- ---- the calls by their names
 
+-- Aid: what is asked
 abbrev pub asking : Kind → ℕ → ℕ → Asked
 asking k slot limit = record { kind = k; slot = slot; limit = limit }
 
+-- (11.14) put
 abbrev pub put : (slot limit : ℕ) (script recipe junk log : List ℕ) → Op
 put slot limit script recipe junk log = call (asking Put slot limit) 0 script recipe junk log []
 
+-- (11.14) patch
 abbrev pub patch : (slot limit place : ℕ) (script bytes junk log : List ℕ) → Op
 patch slot limit place script bytes junk log = call (asking Patch slot limit) place script bytes junk log []
 
+-- (11.14) get
 abbrev pub get : (slot limit : ℕ) (script junk log buffer : List ℕ) → Op
 get slot limit script junk log buffer = call (asking Get slot limit) 0 script [] junk log buffer
 
+-- (11.14) wipe
 abbrev pub wipe : (slot limit : ℕ) (script junk log : List ℕ) → Op
 wipe slot limit script junk log = call (asking Wipe slot limit) 0 script [] junk log []
 
--- ---- what each is asked on a known part
+-- ---- Aid: what each is asked on a known part
 
 abbrev pub request : Asked → List ℕ → ℕ → ℕ → Bool → Request
 request a script log junk oversize = record { asked = a; script = script; log = log; junk = junk; oversize = oversize }
@@ -61,20 +66,22 @@ asks g a place script payload junk log lent =
 
 -- ---- outcomes
 
--- an event's outcome, or that of a frame sent straight: its answer, and of a frame the reply
+-- (11.15) an event's outcome, or that of a frame sent straight: its answer, and of a frame the reply
 abbrev pub met : Left → Out
 met o = refused (o .answer) (o .reply)
 
--- a call by a plan, and raw: 1 on an unknown part
+-- (12.10) a call by a plan: 1 on an array of no part
 unfoldable pub callBy : Part → Asked → ℕ → (script payload junk log lent : List ℕ) → State → Out
 callBy (Known g) a place script payload junk log lent s =
     callOut g (asks g a place script payload junk log lent) (secret payload place junk lent) s
 callBy Unknown a place script payload junk log lent s = refused Answers.Part lent
 
+-- (12.10) raw, likewise
 unfoldable pub rawBy : Part → (frame script junk log reply : List ℕ) → State → Out
 rawBy (Known g) frame script junk log reply s = rawOut g frame script (length log) (length junk) reply s
 rawBy Unknown frame script junk log reply s = refused Answers.Part reply
 
+-- (11.16) what a call or an event answers and hands back
 unfoldable pub outOf : Op → State → Out
 outOf (call a place script payload junk log lent) s = callBy (partIn s) a place script payload junk log lent s
 outOf (raw frame script junk log reply) s = rawBy (partIn s) frame script junk log reply s
@@ -85,15 +92,18 @@ outOf (cut junk) s = met (cutOutcome junk s)
 
 -- ---- states
 
+-- (12.10) the state after a call by a plan
 unfoldable pub calledBy : Part → Asked → ℕ → (script payload junk log lent : List ℕ) → State → State
 calledBy (Known g) a place script payload junk log lent s =
     callNext g (asks g a place script payload junk log lent) (secret payload place junk lent) s
 calledBy Unknown a place script payload junk log lent s = s
 
+-- (12.10) after raw
 unfoldable pub rawLeft : Part → (frame script junk log reply : List ℕ) → State → State
 rawLeft (Known g) frame script junk log reply s = rawNext g frame script (length log) junk (length reply) s
 rawLeft Unknown frame script junk log reply s = s
 
+-- (11.16) the state after a call or an event
 unfoldable pub nextOf : Op → State → State
 nextOf (call a place script payload junk log lent) s = calledBy (partIn s) a place script payload junk log lent s
 nextOf (raw frame script junk log reply) s = rawLeft (partIn s) frame script junk log reply s
@@ -104,17 +114,19 @@ nextOf (cut junk) s = cutOutcome junk s .state
 
 -- ---- lists
 
+-- (11.17) the outcomes of a list
 unfoldable pub runList : List Op → State → List Out
 runList [] s = []
 runList (o ∷ os) s = outOf o s ∷ runList os (nextOf o s)
 
--- the state that a list leaves
+-- (11.17) the state that a list leaves
 unfoldable pub leftBy : List Op → State → State
 leftBy [] s = s
 leftBy (o ∷ os) s = leftBy os (nextOf o s)
 
--- ---- how many frames each may send: events, and a frame sent straight, are no calls, and their frames are not counted
+-- ---- how many frames each may send
 
+-- (14.3) the bound of each: events, and a frame sent straight, are no calls, and their frames are not counted
 unfoldable pub boundOf : Op → ℕ
 boundOf (call a place script payload junk log lent) = stated (a .kind) (a .limit)
 boundOf (raw frame script junk log reply) = 1
@@ -125,11 +137,11 @@ boundOf (cut junk) = 0
 
 -- ---- refusals
 
--- one of 1 to 7
+-- (14.2) one of 1 to 7
 abbrev pub isRefusal : Answer → Bool
 isRefusal a = leb 1 (numberOf a) && leb (numberOf a) 7
 
--- what was lent for output
+-- (14.2) what was lent for output
 unfoldable pub lentTo : Op → List ℕ
 lentTo (call a place script payload junk log lent) = lent
 lentTo (raw frame script junk log reply) = reply
@@ -138,7 +150,7 @@ lentTo (pin high) = []
 lentTo busyEnd = []
 lentTo (cut junk) = []
 
--- the log that it was lent
+-- Aid: the log that it was lent
 unfoldable pub logOf : Op → List ℕ
 logOf (call a place script payload junk log lent) = log
 logOf (raw frame script junk log reply) = log
@@ -147,7 +159,7 @@ logOf (pin high) = []
 logOf busyEnd = []
 logOf (cut junk) = []
 
--- an outcome and the state after it, as a refusal leaves them: no frame, no poll, no log line, n 0, what was lent and the state as before
+-- (14.2) an outcome and the state after it, as a refusal leaves them: no frame, no poll, no log line, n 0, what was lent and the state as before
 pub record Untouched (lent : List ℕ) (s : State) (o : Out) (t : State) : Type 0 where
   pub out : o ≡ refused (o .answer) lent
   pub next : t ≡ s

@@ -31,26 +31,27 @@ use Rattle.slots.specs.Refusals.{rawRefusal}
 use Rattle.slots.specs.Calls.{Out, Request, Secret, Open, Closed, sends, stepOpen, stepClosed, startOpen, startClosed}
 use Rattle.slots.specs.Lists.{Op, call, raw, straight, pin, busyEnd, cut, asks, secret, nextOf}
 
--- the operation programs and erases none of the pages
+-- (14.5) the operation writes none of the pages
 abbrev pub Spares : Geometry → ℕ → ℕ → Operation → Type 0
 Spares g first end o = (p : ℕ) → first ≤ p → p < end → writes g o p ≡ false
 
--- the part has the pages, page p holds b p, and what is under way writes none of them
+-- (14.5) the part has the pages, page p holds b p, and what is under way writes none of them
 pub record Kept (g : Geometry) (first end : ℕ) (b : ℕ → List ℕ) (r : Registers) (m : Memory) : Type 0 where
   pub part : placed (length (m .array)) (r .operation) ≡ Known g
   pub fits : end ≤ g .pages
   pub spares : Spares g first end (r .operation)
   pub bytes : (p : ℕ) → first ≤ p → p < end → pageOf g p (m .array) ≡ b p
 
--- page p where the bytes of its slot are b's: page p is page p mod 8 of the slot
+-- (14.5) page p where the bytes of its slot are b's: page p is page p mod 8 of the slot
 abbrev pub pageIn : Geometry → (ℕ → ℕ) → ℕ → List ℕ
 pageIn g b p = tabulate (g .size) (λ i. b (g .size * (p % 8) + i))
 
--- the slot's bytes are b's
+-- (14.5) the slot's bytes are b's
 abbrev pub KeptSlot : Geometry → ℕ → (ℕ → ℕ) → State → Type 0
 KeptSlot g slot b s = Kept g (8 * slot) (8 * slot + 8) (pageIn g b) (s .registers) (s .memory)
 
--- the slot holds a recipe
+-- (14.5) the slot holds a recipe
+-- (14.9) as it must for a patch
 pub record Holds (slot : ℕ) (recipe : List ℕ) (s : State) : Type 0 where
   pub geometry : Geometry
   pub limit : length recipe ≤ limitOf geometry
@@ -58,22 +59,23 @@ pub record Holds (slot : ℕ) (recipe : List ℕ) (s : State) : Type 0 where
 
 -- ---- what starts nothing there
 
--- the operation that a frame starts, Idle for none: what is under way after it in a chip that was idle before it
+-- (14.6) the operation that a frame starts, Idle for none: what is under way after it in a chip that was idle before it
 unfoldable pub startedBy : Geometry → Registers → List ℕ → Operation
 startedBy g r f = cond (isIdle (r .operation)) (control g r f .registers .operation) Idle
 
--- the next n frames of a call start nothing in the pages
+-- (14.6) the next n frames of a call start nothing in the pages
 abbrev pub QuietFrames : ℕ → ℕ → ℕ → Geometry → Request → Open → Closed → Type 0
 QuietFrames first end zero g v p q = Unit {0}
 QuietFrames first end (suc n) g v p q =
     (isEnded (p .course .stage) ≡ false → Spares g first end (startedBy g (p .registers) (sends g v p q)))
     × QuietFrames first end n g v (stepOpen g v p q) (stepClosed g v p q)
 
+-- (14.6) all frames of a call
 abbrev pub QuietCall : ℕ → ℕ → Geometry → Request → Secret → State → Type 0
 QuietCall first end g v x s =
     QuietFrames first end (bound g (v .asked)) g v (startOpen g (length (s .memory .array)) v (s .registers)) (startClosed g x (s .memory))
 
--- no obeyed frame of this call, if it is not refused, starts an operation that programs or erases in the pages; an event sends none
+-- (14.6) no obeyed frame of this call, if it is not refused, starts an operation that writes one of the pages; an event sends none
 abbrev pub QuietBy : ℕ → ℕ → Part → Op → State → Type 0
 QuietBy first end (Known g) (call a place script payload junk log lent) s =
     QuietCall first end g (asks g a place script payload junk log lent) (secret payload place junk lent) s
@@ -86,18 +88,18 @@ QuietBy first end (Known g) busyEnd s = Unit {0}
 QuietBy first end (Known g) (cut junk) s = Unit {0}
 QuietBy first end Unknown o s = Unit {0}
 
--- nor does any of a list
+-- (14.6) nor does any of a list
 abbrev pub Quiet : ℕ → ℕ → List Op → State → Type 0
 Quiet first end [] s = Unit {0}
 Quiet first end (o ∷ os) s = QuietBy first end (partIn s) o s × Quiet first end os (nextOf o s)
 
--- in a slot
+-- (14.6) in a slot
 abbrev pub QuietIn : ℕ → List Op → State → Type 0
 QuietIn slot os s = Quiet (8 * slot) (8 * slot + 8) os s
 
 -- ---- what a get returns
 
--- the get is refused (1 to 9) or cut (11)
+-- (14.7) the get is refused (1 to 9) or cut (11)
 pub data Refuses : Answer → Type 0 where
   part : Refuses Answers.Part
   frame : Refuses Answers.Frame
@@ -110,6 +112,7 @@ pub data Refuses : Answer → Type 0 where
   busy : Refuses Answers.Busy
   lost : Refuses Answers.Cut
 
--- or it answers 0 with exactly the recipe
+-- (14.7) or it answers 0 with exactly the recipe
+-- (14.8) which is what demand 2 says of every later get
 abbrev pub Returns : List ℕ → Out → Type 0
 Returns recipe o = Refuses (o .answer) ⊎ ((o .answer ≡ Answers.Done) × (o .count ≡ length recipe) × (take (o .count) (o .lent) ≡ recipe))

@@ -1,5 +1,4 @@
--- A slot and the record in it (01, "The slot driver"): "Slot s .. is block s. Its 2,112 bytes: version 1, length n in two bytes
--- big-endian, n recipe bytes (n at most 2,109), zeros."
+-- A slot and the record in it.
 -- Assumes nothing.
 use Prim.Native.Nat.{ℕ, _+_, _-_, _*_, _/_, _%_}
 use mathlib.Core.Bool.{Bool, cond, _&&_}
@@ -10,46 +9,46 @@ use Rattle.geometry.specs.declared.Geometry.{Geometry}
 use Rattle.slots.specs.declared.Verdict.{Verdict}
 use Rattle.slots.specs.declared.Verdict.the-variants.{Good, Blank, Beyond}
 
--- a slot's bytes: 2,112
+-- (9.1) a slot's bytes: 2,112
 unfoldable pub slotSize : Geometry → ℕ
 slotSize g = 8 * g .size
 
--- the bytes before the recipe: version and length
+-- (9.2) the bytes before the recipe: version and length
 abbrev pub headSize : ℕ
 headSize = 3
 
--- the longest recipe: 2,109
+-- (9.3) the longest recipe: 2,109
 unfoldable pub limitOf : Geometry → ℕ
 limitOf g = slotSize g - headSize
 
--- the length n that a slot's first bytes tell
+-- (9.5) the length n that a slot's first bytes tell
 unfoldable pub lengthIn : List ℕ → ℕ
 lengthIn bytes = getD bytes 1 0 * 256 + getD bytes 2 0
 
--- not 12: "version not 1, or length over 2,109"
+-- (9.6) they begin a record: version 1, and a length that fits the slot
 unfoldable pub isRecord : Geometry → List ℕ → Bool
 isRecord g bytes = eqb (getD bytes 0 0) 1 && leb (lengthIn bytes) (limitOf g)
 
--- byte i of the slot in which a recipe is stored; past the recipe's end zeros
+-- (9.4) byte i of the slot in which a recipe is stored; past the recipe's end zeros
 unfoldable pub image : List ℕ → ℕ → ℕ
 image recipe i =
     cond (eqb i 0) 1 (cond (eqb i 1) (length recipe / 256 % 256) (cond (eqb i 2) (length recipe % 256) (getD recipe (i - headSize) 0)))
 
--- byte i of a slot that held `old` there, patched: "A patch puts bytes at a place counted from the recipe's first; its length stays"
+-- (9.7) byte i of a slot that held `old` there, with a patch's bytes at its place in the recipe
 unfoldable pub patched : ℕ → List ℕ → ℕ → ℕ → ℕ
 patched place bytes old i =
     cond (leb (headSize + place) i && ltb i (headSize + place + length bytes)) (getD bytes (i - (headSize + place)) 0) old
 
--- the same by the verdict on page 0: "84 with the page as changed"; "Under 12 or 13 .. pages unchanged"
+-- (9.8) the same by the verdict on the slot's first page: under 12 or 13 as it was
 unfoldable pub changed : Verdict → ℕ → List ℕ → ℕ → ℕ → ℕ
 changed Good place bytes old i = patched place bytes old i
 changed Blank place bytes old i = old
 changed Beyond place bytes old i = old
 
--- what a slot's first bytes tell a get
+-- (9.9) what a slot's first bytes tell a get
 unfoldable pub getVerdict : Geometry → List ℕ → Verdict
 getVerdict g bytes = cond (isRecord g bytes) Good Blank
 
--- and a patch that ends at `end`: 12, then 13 ("patch end beyond the stored length"), "tested in this order"
+-- (9.10) and a patch that ends at `end`: 12, then 13
 unfoldable pub patchVerdict : Geometry → ℕ → List ℕ → Verdict
 patchVerdict g end bytes = cond (isRecord g bytes) (cond (leb end (lengthIn bytes)) Good Beyond) Blank

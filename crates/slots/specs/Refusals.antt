@@ -1,4 +1,4 @@
--- Refusals 2 to 7 of the calls, in this order before any frame, where they concern the call; 1 is the part. Done where none applies.
+-- Refusals 2 to 7 of the calls; 1 is the part. Done where none applies.
 -- Assumes nothing.
 use Prim.Native.Nat.{ℕ, _+_, _*_, _/_}
 use mathlib.Core.Bool.{Bool, false, cond, not, _&&_, _||_}
@@ -15,54 +15,56 @@ use Rattle.slots.specs.declared.Kind.the-variants.{Put, Patch, Get, Wipe
 use Rattle.slots.specs.Records.{limitOf}
 use Rattle.slots.specs.Plans.{Asked, bound}
 
--- 5 by what is to be stored: a recipe over the limit, or a patch that ends beyond it; its place, and how many bytes
+-- (12.5) 5 by what is to be stored: its place, and how many bytes
 unfoldable pub isOver : Kind → Geometry → ℕ → ℕ → Bool
 isOver Put g place n = ltb (limitOf g) n
 isOver Patch g place n = ltb (limitOf g) (place + n)
 isOver Get g place n = false
 isOver Wipe g place n = false
 
--- 5 by what is lent: a get buffer under the limit
+-- (12.6) 5 by the get buffer that is lent
 unfoldable pub isShort : Kind → Geometry → ℕ → Bool
 isShort Put g lent = false
 isShort Patch g lent = false
 isShort Get g lent = ltb lent (limitOf g)
 isShort Wipe g lent = false
 
--- a script byte over 2
+-- (12.8) a script byte over 2
 unfoldable pub hasOverTwo : List ℕ → Bool
 hasOverTwo [] = false
 hasOverTwo (x ∷ xs) = ltb 2 x || hasOverTwo xs
 
--- a cut in the script, reached or not
+-- (12.8) a cut in the script, reached or not
 unfoldable pub hasCut : List ℕ → Bool
 hasCut [] = false
 hasCut (x ∷ xs) = eqb x 2 || hasCut xs
 
--- 7: a byte over 2; or a cut, and junk that has not the two buffers' bytes and the array's
+-- (12.8) 7: the one, or the other with junk of a wrong length
 unfoldable pub badScript : Geometry → ℕ → List ℕ → ℕ → Bool
 badScript g array script junk = hasOverTwo script || (hasCut script && not (cutFits g array junk))
 
--- 6, of a log that needs `least` bytes, then 7; the lengths of array, log and junk
+-- (12.7) 6, of a log that needs `least` bytes, then 7; the lengths of array, log and junk
 unfoldable pub lateRefusal : Geometry → ℕ → ℕ → ℕ → List ℕ → ℕ → Answer
 lateRefusal g array log least script junk = cond (ltb log least) Answers.Log (cond (badScript g array script junk) Answers.Script Answers.Done)
 
--- 3, 4 and 5: what is asked, and whether 5 is met
+-- (12.4) 3, 4, and then 5 if it is met
 unfoldable pub earlyRefusal : Geometry → Asked → Bool → Answer
 earlyRefusal g a oversize =
     cond (leb (g .pages / 8) (a .slot)) Answers.Slot
     (cond (not (leb 1 (a .limit) && leb (a .limit) 1000)) Answers.Limit
     (cond oversize Answers.Size Answers.Done))
 
--- the first that applies
+-- (12.2) the first that applies
 unfoldable pub orElse : Answer → Answer → Answer
 orElse a b = cond (eqb (numberOf a) 0) b a
 
--- put, patch, get and wipe: what is asked, whether 5 is met, the script, and the lengths of array, log and junk
+-- (12.2) put, patch, get and wipe: what is asked, whether 5 is met, the script, and the lengths of array, log and junk
+-- (12.7) the log has room for the bound
 unfoldable pub callRefusal : Geometry → ℕ → Asked → Bool → ℕ → List ℕ → ℕ → Answer
 callRefusal g array a oversize log script junk = orElse (earlyRefusal g a oversize) (lateRefusal g array log (6 * bound g a) script junk)
 
--- raw: the frame, the script, and the lengths of array, reply, log and junk
+-- (12.7) the log of a raw has room for one frame
+-- (12.9) raw: the frame, the script, and the lengths of array, reply, log and junk
 unfoldable pub rawRefusal : Geometry → ℕ → List ℕ → ℕ → ℕ → List ℕ → ℕ → Answer
 rawRefusal g array frame reply log script junk =
     cond (framed (length frame) reply) (lateRefusal g array log 6 script junk) Answers.Frame

@@ -76,7 +76,7 @@ module _ (g : Geometry) (r : Registers) (f : List ℕ) (m : Memory) where
       changed-second (bufferWritten (control g r f .action)) (written g (control g r f .action) (drop (control g r f .lead) f)) (m .buffer1) (m .buffer2)
       (written-length g (control g r f .action) (drop (control g r f .lead) f))
 
-  -- "Reply length equals frame length"
+  -- a reply is as long as its frame
   pub reply-length : length (replyOf g r m f) ≡ length f
   unfolding replyOf
   reply-length = length-replied (length f) (control g r f .lead) (dataOf g r m (control g r f .action))

@@ -136,7 +136,7 @@ module _ (g : Geometry) (r : Registers) (m : Memory) where
       (started-silent (pageAt g (addressAt (0x50 ∷ a ∷ b ∷ c ∷ t) 1)) (EraseBlock (pageAt g (addressAt (0x50 ∷ a ∷ b ∷ c ∷ t) 1) / 8)))
 
 -- ---- a busy end
--- "a busy end while idle changes nothing"
+-- in an idle chip a busy end keeps the memory
 pub idle-memory : (g : Geometry) (o : Operation) (m : Memory) → o ≡ Idle → completedMemory g o m ≡ m
 unfolding completedMemory
 idle-memory g o m e = λ i. completedMemory g (e i) m

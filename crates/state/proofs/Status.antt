@@ -36,7 +36,7 @@ status-density false true false = refl
 status-density false false true = refl
 status-density false false false = refl
 
--- bit 1: mark set or WP low
+-- bit 1: guarded
 pub status-protect : (ready compare protect : Bool) → statusOf ready compare protect / 2 % 2 ≡ cond protect 1 0
 unfolding statusOf
 status-protect true true true = refl

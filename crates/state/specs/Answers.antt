@@ -1,9 +1,11 @@
--- The numbers of the answers (01, "Answers by number"); 0 is success.
+-- The numbers of the answers.
 -- Assumes nothing.
 use Prim.Native.Nat.{ℕ}
 use Rattle.state.specs.declared.Answer.{Answer}
 use Rattle.state.specs.declared.Answer.the-variants.{Done, Part, Frame, Slot, Limit, Size, Log, Script, Device, Busy, Sealed, Cut, Blank, End}
 
+-- (12.1) each answer's number
+-- (14.1) there is no other answer
 unfoldable pub numberOf : Answer → ℕ
 numberOf Done = 0
 numberOf Part = 1

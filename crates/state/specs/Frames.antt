@@ -22,25 +22,30 @@ use Rattle.control.specs.Control.{control}
 use Rattle.memory.specs.Replies.{replied, noData, onceData, ringData}
 use Rattle.state.specs.Memory.{Memory, bufferIn, putBuffer}
 
--- no operation is under way
+-- Aid: no operation is under way
 abbrev pub isFree : Usage → Bool
 isFree Free = true
 isFree (Uses b) = false
 isFree NoBuffer = false
 isFree Exclusive = false
 
+-- (2.6) the chip is idle
 unfoldable pub isIdle : Operation → Bool
 isIdle o = isFree (factsOf o .usage)
 
--- "Status: bit 7 ready, bit 6 compare, bits 5-2 = 1001, bit 1 = mark set or WP low, bit 0 = 0."
+-- (3.21) the status: bit 7 idle, bit 6 compare bit, bits 5-2 at 1001, bit 1 guarded, bit 0 clear
 unfoldable pub statusOf : Bool → Bool → Bool → ℕ
 statusOf ready compare protect = cond ready 0x80 0 + cond compare 0x40 0 + 0x24 + cond protect 0x02 0
 
--- 9F: "1F 25 00 00"
+-- (3.22) the bytes that 9F reads
 abbrev pub identity : List ℕ
 identity = 0x1F ∷ 0x25 ∷ 0x00 ∷ 0x00 ∷ []
 
--- byte i of the data that a frame reads; FFh where it reads none
+-- (3.16) byte i of the data that a frame reads: of a page
+-- (3.17) of the array
+-- (3.18) of a buffer
+-- (3.19) of protection, lockdown, security
+-- (3.20) the status each time
 unfoldable pub dataOf : Geometry → Registers → Memory → Action → ℕ → ℕ
 dataOf g r m Silent = noData
 dataOf g r m (ReadPage page start) = ringData (g .size) start (pageOf g page (m .array))
@@ -55,11 +60,11 @@ dataOf g r m ReadSecurity = onceData (r .user ++ r .factory)
 dataOf g r m ReadStatus = λ i. statusOf (isIdle (r .operation)) (m .compare) (guarded r)
 dataOf g r m ReadId = onceData identity
 
--- the reply to a frame: "Reply length equals frame length"
+-- (3.12) the reply to a frame, from registers and memory as they were before it
 unfoldable pub replyOf : Geometry → Registers → Memory → List ℕ → List ℕ
 replyOf g r m f = replied (length f) (control g r f .lead) (dataOf g r m (control g r f .action))
 
--- the buffer that an action writes; One where it writes none
+-- (6.11) the buffer that an action writes; One where it writes none
 unfoldable pub bufferWritten : Action → Buffer
 bufferWritten Silent = One
 bufferWritten (ReadPage page start) = One
@@ -74,8 +79,8 @@ bufferWritten ReadSecurity = One
 bufferWritten ReadStatus = One
 bufferWritten ReadId = One
 
--- what an action makes of that buffer. 84/87: "write buffer 1/2 from byte, wrapping"; FC, 9B: "at the start the 16 or 64 bytes
--- also overwrite the beginning of buffer 1"
+-- (6.2) a buffer written with a frame's data, in a ring
+-- (6.10) buffer 1 with the data of an FC or 9B over its first bytes
 unfoldable pub written : Geometry → Action → List ℕ → List ℕ → List ℕ
 written g Silent bytes buffer = buffer
 written g (ReadPage page start) bytes buffer = buffer
@@ -90,9 +95,10 @@ written g ReadSecurity bytes buffer = buffer
 written g ReadStatus bytes buffer = buffer
 written g ReadId bytes buffer = buffer
 
+-- (6.11) that buffer written, all else as it was
 unfoldable pub acted : Geometry → Action → List ℕ → Memory → Memory
 acted g a bytes m = putBuffer (bufferWritten a) (written g a bytes (bufferIn (bufferWritten a) m)) m
 
--- the memory after a frame
+-- (6.11) the memory after a frame
 unfoldable pub sentMemory : Geometry → Registers → List ℕ → Memory → Memory
 sentMemory g r f m = acted g (control g r f .action) (drop (control g r f .lead) f) m

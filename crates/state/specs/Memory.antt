@@ -8,21 +8,23 @@ use Rattle.commands.specs.declared.Buffer.the-variants.{One, Two}
 use Rattle.registers.specs.declared.Registers.{Registers}
 use Rattle.state.specs.declared.Chip.{Chip}
 
--- the bytes of a buffer
+-- (2.2) the bytes of a buffer
 abbrev pub bufferSize : ℕ
 bufferSize = 264
 
+-- (2.1) what is no register
 pub record Memory : Type 0 where
   pub array : List ℕ
   pub buffer1 : List ℕ
   pub buffer2 : List ℕ
   pub compare : Bool
 
+-- (2.1) the two halves
 pub record State : Type 0 where
   pub registers : Registers
   pub memory : Memory
 
--- ---- a chip record and its array, taken apart and put together
+-- ---- Aid: a chip record and its array, taken apart and put together
 
 abbrev pub memoryOf : Chip → List ℕ → Memory
 memoryOf c xs = record { array = xs; buffer1 = c .buffer1; buffer2 = c .buffer2; compare = c .compare }
@@ -40,7 +42,7 @@ chipIn s = chipOf (s .registers) (s .memory)
 abbrev pub withRegisters : Chip → Registers → Chip
 withRegisters c r = record { registers = r; buffer1 = c .buffer1; buffer2 = c .buffer2; compare = c .compare }
 
--- ---- the memory with one of its parts changed
+-- ---- Aid: the memory with one of its parts changed
 
 abbrev pub withArray : Memory → List ℕ → Memory
 withArray m xs = record { array = xs; buffer1 = m .buffer1; buffer2 = m .buffer2; compare = m .compare }

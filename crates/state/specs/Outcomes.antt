@@ -25,28 +25,30 @@ use Rattle.state.specs.Frames.{replyOf, sentMemory}
 use Rattle.state.specs.Completion.{completedMemory}
 use Rattle.state.specs.PowerLoss.{lostMemory}
 
--- what an entry point answers and leaves: the reply is [] where none is lent
+-- Aid: what an entry point answers and leaves: the reply is [] where none is lent
 pub record Left : Type 0 where
   pub answer : Answer
   pub state : State
   pub reply : List ℕ
 
+-- Aid: the same, put together
 abbrev pub left : Answer → State → List ℕ → Left
 left a s reply = record { answer = a; state = s; reply = reply }
 
--- a function of crate chip that returns r, and at whose exit array and reply are xs and ys, leaves o
+-- Aid: a function of crate chip that returns r, and at whose exit array and reply are xs and ys, leaves o
 pub record Leaves (o : Left) (r : Outcome) (xs ys : List ℕ) : Type 0 where
   pub answer : r .answer ≡ o .answer
   pub chip : r .chip ≡ chipIn (o .state)
   pub array : xs ≡ o .state .memory .array
   pub reply : ys ≡ o .reply
 
--- the part, by the array's length and the operation under way; Unknown is answer 1
+-- (12.3) the part, by the array's length and the operation under way; Unknown is answer 1
 abbrev pub partIn : State → Part
 partIn s = placed (length (s .memory .array)) (s .registers .operation)
 
--- ---- fresh: "array and user bytes FFh, other bytes 0 (factory bytes given), marks off, WP high, idle"
+-- ---- fresh
 
+-- (2.13) the registers of a fresh chip
 unfoldable pub freshRegisters : List ℕ → Registers
 freshRegisters factory =
     record {
@@ -61,6 +63,7 @@ freshRegisters factory =
       operation = Idle;
     }
 
+-- (2.14) its buffers and its compare bit
 unfoldable pub freshState : List ℕ → List ℕ → State
 freshState factory xs =
     record {
@@ -68,22 +71,27 @@ freshState factory xs =
       memory = record { array = xs; buffer1 = replicate bufferSize 0; buffer2 = replicate bufferSize 0; compare = false };
     }
 
+-- (2.14) its array, FFh throughout
+-- (12.15) answer 1 for an array of no part
 unfoldable pub freshBy : Part → List ℕ → List ℕ → Left
 freshBy Unknown factory xs = left Answers.Part (freshState factory xs) []
 freshBy (Known g) factory xs = left Answers.Done (freshState factory (replicate (length xs) 255)) []
 
+-- (12.15) the part looked up, by the array's length alone
 unfoldable pub freshOutcome : List ℕ → List ℕ → Left
 freshOutcome factory xs = freshBy (partOf (length xs)) factory xs
 
--- ---- a frame sent straight: it "can meet 1 and 2 only"
+-- ---- a frame sent straight
 
--- answer 2: "length of a raw frame, or of one sent straight, outside 1 to 1,100, or reply length unequal"
+-- (3.1) a frame of n bytes and a reply of m are accepted; else answer 2
 unfoldable pub framed : ℕ → ℕ → Bool
 framed n m = leb 1 n && (leb n 1100 && eqb n m)
 
+-- Aid: registers and memory after a frame
 unfoldable pub sentState : Geometry → List ℕ → State → State
 sentState g f s = record { registers = control g (s .registers) f .registers; memory = sentMemory g (s .registers) f (s .memory) }
 
+-- (12.11) answer 1, answer 2, or the frame's reply
 unfoldable pub sentBy : Part → State → List ℕ → List ℕ → Left
 sentBy Unknown s f reply = left Answers.Part s reply
 sentBy (Known g) s f reply =
@@ -91,32 +99,38 @@ sentBy (Known g) s f reply =
     (left Answers.Done (sentState g f s) (replyOf g (s .registers) (s .memory) f))
     (left Answers.Frame s reply)
 
--- the frame, and the lent reply
+-- (12.11) the part looked up; the frame, and the lent reply
 unfoldable pub sendOutcome : State → List ℕ → List ℕ → Left
 sendOutcome s f reply = sentBy (partIn s) s f reply
 
--- ---- a busy end: it can meet 1; "a busy end while idle changes nothing"
+-- ---- a busy end
 
+-- (7.1) registers and memory after a busy end
 unfoldable pub endedState : Geometry → State → State
 endedState g s = record { registers = completed (s .registers); memory = completedMemory g (s .registers .operation) (s .memory) }
 
+-- (12.12) answer 1, or the busy end
 unfoldable pub endedBy : Part → State → Left
 endedBy Unknown s = left Answers.Part s []
 endedBy (Known g) s = left Answers.Done (endedState g s) []
 
+-- (12.12) the part looked up, busy or idle
 unfoldable pub endOutcome : State → Left
 endOutcome s = endedBy (partIn s) s
 
--- ---- a pin move: it meets none
+-- ---- a pin move
 
+-- (8.1) the level of WP, and nothing else
 unfoldable pub pinnedState : Bool → State → State
 pinnedState high s = record { registers = withWp (s .registers) high; memory = s .memory }
 
+-- (12.13) answer 0
 unfoldable pub pinOutcome : Bool → State → Left
 pinOutcome high s = left Answers.Done (pinnedState high s) []
 
--- ---- a cut: it can meet 1 and 7, "a cut with J of another length": "junk J of 528 + 264P bytes"
+-- ---- a cut
 
+-- (8.3) registers and memory after a cut, by the operation under way
 unfoldable pub cutState : Geometry → List ℕ → State → State
 cutState g junk s =
     record {
@@ -124,14 +138,16 @@ cutState g junk s =
       memory = lostMemory g (s .registers .operation) junk (s .memory);
     }
 
--- the lengths of array and junk
+-- (8.2) the lengths of array and junk go together; else answer 7
 unfoldable pub cutFits : Geometry → ℕ → ℕ → Bool
 cutFits g array junk = eqb junk (2 * g .size + array)
 
+-- (12.14) answer 1, answer 7, or the cut
 unfoldable pub cutBy : Part → List ℕ → State → Left
 cutBy Unknown junk s = left Answers.Part s []
 cutBy (Known g) junk s =
     cond (cutFits g (length (s .memory .array)) (length junk)) (left Answers.Done (cutState g junk s) []) (left Answers.Script s [])
 
+-- (12.14) the part looked up
 unfoldable pub cutOutcome : List ℕ → State → Left
 cutOutcome junk s = cutBy (partIn s) junk s

@@ -9,11 +9,12 @@ use Rattle.memory.specs.Pages.{junked, junkBuffer}
 use Rattle.state.specs.Memory.{Memory}
 use Rattle.state.specs.Completion.{inTarget}
 
--- "Array bytes that the operation under way would erase or program become J at 528 plus their array address"
+-- (8.5) the array after a cut: what the operation writes is junk, all else as it was
 unfoldable pub arrayLost : Geometry → Operation → List ℕ → List ℕ → List ℕ
 arrayLost g o junk xs = inTarget (junked g junk) g o xs
 
--- "Buffers become J's first 264 bytes and the next 264. .. the compare bit go[es] to 0"
+-- (8.4) the buffers are junk, idle or not
+-- (8.10) the compare bit is cleared
 unfoldable pub lostMemory : Geometry → Operation → List ℕ → Memory → Memory
 lostMemory g o junk m =
     record {

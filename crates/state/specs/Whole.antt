@@ -6,6 +6,7 @@ use Rattle.control.specs.Starts.{Lengths}
 use Rattle.state.specs.declared.Chip.{Chip}
 use Rattle.state.specs.Memory.{bufferSize}
 
+-- (14.8) the lengths that a chip's registers and buffers have
 pub record Whole (c : Chip) : Type 0 where
   pub registers : Lengths (c .registers)
   pub buffer1 : length (c .buffer1) ≡ bufferSize

@@ -1,5 +1,5 @@
 // The chip record, its answers, and the definitions that the entry points' promises cite.
-// Internal to this repository; the entry points are in crate chip.
+// Open to others are the types and the entry point `number`; the rest is internal to this repository. The chip's entry points are in crate chip.
 ghost use mathlib.Core.Path.{_≡_};
 ghost use mathlib.Core.List.{[], _++_};
 ghost use Prim.Native.Nat.{_≤_};
@@ -9,7 +9,7 @@ ghost use Rattle.state.specs.Memory.{chipOf, withRegisters};
 use commands::Buffer;
 use registers::Registers;
 
-// The answers of the table in 01, by its words; Done is 0. Device is 01's "chip".
+// The answers, by the words of their table (docs/SPECIFICATION.md, 12); Done is 0, and Device is the word chip.
 pub enum Answer {
     Done,
     Part,

@@ -2,5 +2,4 @@ pub mod Lists
 pub mod Decimal
 pub mod Hexadecimal
 pub mod Words
-pub mod Checksum
-pub mod Lines
+pub mod Classes

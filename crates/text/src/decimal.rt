@@ -1,8 +1,9 @@
 // Decimal numbers.
 ghost use mathlib.Core.Path.{_≡_};
 ghost use Prim.Native.Nat.{_-_, _<_};
-ghost use Rattle.text.specs.Lists.{every};
 ghost use Rattle.text.specs.Decimal.{isDigit, numberOf, valueFrom, belowLimit};
+use crate::scans::Class;
+use crate::scans::all;
 use crate::values::Number;
 
 // The number that a word of decimal digits says: NotNumber for an empty word or one with another byte, TooLarge from 2^64 on.
@@ -12,27 +13,13 @@ pub fn number(word: &[u8]) -> Number
     if word.len() == 0 {
         return Number::NotNumber;
     }
-    if all_digits(word) {
+    if all(Class::Digit, word) {
         return value(word);
     }
     Number::NotNumber
 }
 
-fn all_digits(word: &[u8]) -> bool
-    ensures { λ r. ⌜ r ≡ every isDigit (now (word .entry)) ⌝ }
-{
-    let mut i = 0;
-    while i < word.len() {
-        if is_digit(word[i]) {
-            i += 1;
-        } else {
-            return false;
-        }
-    }
-    true
-}
-
-fn is_digit(b: u8) -> bool
+pub fn is_digit(b: u8) -> bool
     ensures { λ r. ⌜ r ≡ isDigit b ⌝ }
 {
     if b < 48 {

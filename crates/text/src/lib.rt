@@ -1,22 +1,16 @@
-// Words of a line, decimal numbers, hexadecimal digits, CRC-32 over slices of bytes, and the printed text of a frame. Every function
-// named here takes any input.
-pub use checksum::CRC_START;
-pub use checksum::crc;
-pub use checksum::crc_end;
+// Words of a line, decimal numbers, and the worth of hexadecimal digits. Every function named here takes any input.
 pub use decimal::number;
-pub use hexadecimal::digit;
-pub use hexadecimal::hex;
-pub use hexadecimal::unhex;
-pub use lines::frame_line;
+pub use nibbles::nibble;
+pub use scans::Class;
+pub use scans::all;
+pub use spans::is_same;
+pub use spans::skip_blanks;
+pub use spans::word_end;
 pub use values::Hex;
 pub use values::Number;
-pub use words::is_same;
-pub use words::skip_blanks;
-pub use words::word_end;
 
-mod checksum;
 mod decimal;
-mod hexadecimal;
-mod lines;
+mod nibbles;
+mod scans;
+mod spans;
 mod values;
-mod words;

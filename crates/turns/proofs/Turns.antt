@@ -8,8 +8,6 @@ use mathlib.Core.List.{List, [], _∷_}
 use types.Run.{OneOf, miss}
 use denote.Enum.Declared.{tagOf}
 use Rattle.geometry.specs.declared.Geometry.{Geometry}
-use Rattle.geometry.specs.declared.Part.the-variants.{Known}
-use Rattle.geometry.specs.Parts.{partOf}
 use Rattle.geometry.specs.Sectors.{sectorOf}
 use Rattle.geometry.proofs.Pages.{sized}
 use Rattle.slots.specs.declared.Driver.{Driver}
@@ -21,10 +19,8 @@ use Rattle.slots.specs.Plans.{isWait}
 use Rattle.slots.specs.Driver.{Holding, takenBy}
 use Rattle.slots.proofs.Counts.{place-few}
 use Rattle.records.specs.Held.{Pages}
+use Rattle.records.proofs.Parts.{part-pages}
 use Rattle.worlds.specs.Turns.{Sound}
-
-pub part-pages : (n : ℕ) (g : Geometry) → partOf n ≡ Known g → Pages g
-part-pages n g p = let z = sized n g p in record { some = z .some; most = z .most }
 
 module _ {g : Geometry} {d : Driver} (s : Sound g d) where
   pub sound-pages : Pages g

@@ -84,7 +84,7 @@ fn write_load(
     let v = d.verdict;
     let e = 4 + g.size;
     put_address(0x84, 0, frame);
-    records::load_page(g, k, v, d.place, page, payload, staged, &mut frame[4..e]);
+    page_data::load_page(g, k, v, d.place, page, payload, staged, &mut frame[4..e]);
     e
 }
 
@@ -143,7 +143,7 @@ fn take_data(
     let k = d.kind;
     let v = d.verdict;
     if let Step::Read { page: p } = x {
-        return records::read_page(g, k, v, d.place, p, payload, reply, staged);
+        return page_data::read_page(g, k, v, d.place, p, payload, reply, staged);
     }
     v
 }
@@ -164,7 +164,7 @@ pub fn take_step(
     let c = d.course;
     let sector = geometry::sector_of(8 * d.slot);
     let last = steps::is_last(k, c.place);
-    let course = steps::take_course(c, x, last, d.limit, sector, reply);
+    let course = courses::take_course(c, x, last, d.limit, sector, reply);
     let verdict = take_data(g, d, x, payload, reply, staged);
     Driver {
         array: d.array,

@@ -1,4 +1,4 @@
--- `wipe 2` on a fresh short part with B 1, as 01's program `outline` shows it, driven by replies alone: each frame, and the end.
+-- `wipe 2` on a fresh short part with B 1, as the program `outline` shows it, driven by replies alone: each frame, and the end.
 -- Assumes nothing.
 use Prim.Native.Nat.{ℕ}
 use mathlib.Core.Path.{_≡_, refl}

@@ -1,5 +1,6 @@
 pub mod Talks
 pub mod Sane
+pub mod Going
 pub mod Chains
 pub mod Shapes
 pub mod Own

@@ -16,7 +16,7 @@ use Rattle.slots.specs.Alike.{Soft}
 use Rattle.worlds.specs.Turns.{askedOf, stepIn}
 use Rattle.worlds.specs.Step.{stageIn, frameIn, pollIn, tookIn, stagedIn, toldIn}
 
--- the driver, the bytes read so far, the outlines of the frames that it gave, how many frames and how many polls
+-- (14.25) the driver, the bytes read so far, the outlines of the frames that it gave, how many frames and how many polls
 pub record Chain : Type 0 where
   pub driver : Driver
   pub staged : List ℕ
@@ -24,10 +24,11 @@ pub record Chain : Type 0 where
   pub frames : ℕ
   pub polls : ℕ
 
+-- Aid: nothing is sent yet
 abbrev pub begun : Driver → List ℕ → Chain
 begun d staged = record { driver = d; staged = staged; lines = []; frames = 0; polls = 0 }
 
--- its frame sent, and reply number `frames` taken in; after the end nothing
+-- (14.25) its frame sent, and reply number `frames` taken in; after the end nothing
 unfoldable pub linked : List ℕ → (ℕ → List ℕ) → Chain → Chain
 linked payload replies z =
     cond (isEnded (stageIn (z .driver))) z
@@ -39,24 +40,26 @@ linked payload replies z =
       polls = z .polls + cond (pollIn (z .driver)) 1 0;
     })
 
+-- (14.25) n of them
+-- (14.27) it has ended after as many as the bound
 unfoldable pub chain : ℕ → List ℕ → (ℕ → List ℕ) → Chain → Chain
 chain zero payload replies z = z
 chain (suc n) payload replies z = chain n payload replies (linked payload replies z)
 
 -- ---- two chains
 
--- what is heard of a reply to the driver's frame
+-- Aid: what is heard of a reply to the driver's frame
 abbrev pub heardIn : Geometry → Driver → List ℕ → Heard
 heardIn g d reply = heard (stepIn g d) (sectorFor (askedOf d)) reply
 
--- the replies of two worlds agree in what is heard of each of the next n frames; frame by frame, as the first world has them
+-- (14.26) the replies of two worlds agree in what is heard of each of the next n frames; frame by frame, as the first world has them
 abbrev pub AgreeIn : ℕ → Geometry → List ℕ → (replies others : ℕ → List ℕ) → Chain → Type 0
 AgreeIn zero g payload replies others z = Unit {0}
 AgreeIn (suc n) g payload replies others z =
     (isEnded (stageIn (z .driver)) ≡ false → heardIn g (z .driver) (replies (z .frames)) ≡ heardIn g (z .driver) (others (z .frames)))
     × AgreeIn n g payload replies others (linked payload replies z)
 
--- what is the same of both: the frames' outlines, their number, the polls, whether it has ended, and what the driver tells (0, 12 and 13 as one)
+-- (14.26) what is the same of both: the frames' outlines, their number, the polls, whether it has ended, and what the driver tells (0, 12 and 13 as one)
 pub record SameChain (y z : Chain) : Type 0 where
   pub lines : y .lines ≡ z .lines
   pub frames : y .frames ≡ z .frames

@@ -1,4 +1,4 @@
--- How a call starts: refusals 1, 3, 4 and 5, in this order before any frame; 6 and 7 concern the log and the script, which the driver has none of.
+-- How a call starts: with the refusals 1, 3, 4 and 5. 6 and 7 concern the log and the script, which the driver has none of.
 -- Assumes nothing.
 use Prim.Native.Nat.{ℕ}
 use mathlib.Core.Bool.{_||_}
@@ -13,12 +13,12 @@ use Rattle.slots.specs.Plans.{Asked}
 use Rattle.slots.specs.Refusals.{isOver, isShort, earlyRefusal}
 use Rattle.slots.specs.Calls.{firstCourse}
 
--- what is asked, a patch's place, and the lengths of recipe or patch and of the get buffer; Done where none applies
+-- (10.23) what is asked, a patch's place, and the lengths of recipe or patch and of the get buffer; Done where none applies
 unfoldable pub startRefusal : Part → Asked → (place payload lent : ℕ) → Answer
 startRefusal (Known g) a place payload lent = earlyRefusal g a (isOver (a .kind) g place payload || isShort (a .kind) g lent)
 startRefusal Unknown a place payload lent = Answers.Part
 
--- the first state, for a chip whose array has `array` bytes. A refused call has already ended
+-- (10.23) the first state, for a chip whose array has `array` bytes. A refused call has already ended
 unfoldable pub startDriver : ℕ → Asked → (place payload lent : ℕ) → Driver
 startDriver array a place payload lent =
     record {

@@ -15,7 +15,7 @@ use Rattle.slots.specs.Refusals.{earlyRefusal}
 use Rattle.slots.specs.Calls.{outline, firstCourse}
 use Rattle.slots.specs.Alike.{Soft}
 
--- a driver and what it has sent so far: control state, data, the frames' outlines, how many frames and polls
+-- (14.25) a driver and what it has sent so far: control state, data, the frames' outlines, how many frames and polls
 pub record Talk : Type 0 where
   pub course : Course
   pub holding : Holding
@@ -23,15 +23,15 @@ pub record Talk : Type 0 where
   pub frames : ℕ
   pub polls : ℕ
 
--- where a call starts: 3, 4 and 5 are the driver's own; a refused call has already ended
+-- (14.25) where a call starts: 3, 4 and 5 are the driver's own; a refused call has already ended
 unfoldable pub opened : Geometry → Asked → Bool → Holding → Talk
 opened g a oversize h = record { course = firstCourse (earlyRefusal g a oversize) (a .limit); holding = h; lines = []; frames = 0; polls = 0 }
 
--- what is heard of the next reply
+-- Aid: what is heard of the next reply
 abbrev pub hearing : Geometry → Asked → (ℕ → List ℕ) → Talk → Heard
 hearing g a replies t = heard (stepOf g a (t .course)) (sectorFor a) (replies (t .frames))
 
--- one frame and its reply; after the end nothing
+-- (14.25) one frame and its reply; after the end nothing
 unfoldable pub talked : Geometry → Asked → (ℕ → List ℕ) → Talk → Talk
 talked g a replies t =
     cond (isEnded (t .course .stage)) t
@@ -43,18 +43,19 @@ talked g a replies t =
       polls = t .polls + cond (isWait (stepOf g a (t .course))) 1 0;
     })
 
--- n of them
+-- (14.25) n of them
+-- (14.27) it has ended after as many as the bound
 unfoldable pub talk : ℕ → Geometry → Asked → (ℕ → List ℕ) → Talk → Talk
 talk zero g a replies t = t
 talk (suc n) g a replies t = talk n g a replies (talked g a replies t)
 
--- the replies of two worlds agree in what is heard of each of the next n frames; frame by frame, as the first world has them
+-- (14.26) the replies of two worlds agree in what is heard of each of the next n frames; frame by frame, as the first world has them
 abbrev pub HeardAlike : ℕ → Geometry → Asked → (replies others : ℕ → List ℕ) → Talk → Type 0
 HeardAlike zero g a replies others t = Unit {0}
 HeardAlike (suc n) g a replies others t =
     (isEnded (t .course .stage) ≡ false → hearing g a replies t ≡ hearing g a others t) × HeardAlike n g a replies others (talked g a replies t)
 
--- what is the same in both: the frames' outlines, their number, the polls, and what the driver tells (0, 12 and 13 as one)
+-- (14.26) what is the same in both: the frames' outlines, their number, the polls, and what the driver tells (0, 12 and 13 as one)
 pub record SameTalk (t u : Talk) : Type 0 where
   pub lines : t .lines ≡ u .lines
   pub frames : t .frames ≡ u .frames

@@ -1,4 +1,4 @@
--- The driver's state as the definitions of crate slots have it, and one reply taken in.
+-- Aid: the driver's state as the definitions of crate slots have it, and one reply taken in.
 -- Assumes nothing.
 use Prim.Native.Nat.{ℕ, _/_, _<_}
 use mathlib.Core.Path.{_≡_}

@@ -48,7 +48,7 @@ impl Device for Model {
 /// The proved library. It works where the record lies, between its guards.
 pub struct Library;
 
-/// 01's number for a result.
+/// The number of the answer that a result stands for.
 fn number<T>(result: Result<T, Error>) -> u8 {
     result.err().map_or(0, Error::number)
 }

@@ -1,5 +1,5 @@
-//! The slot driver alone, step by step: it is given the last reply and yields
-//! the next frame or the end. Replies come from a chip or from nowhere.
+//! The slot driver alone, step by step: a reply in, a frame out, until the end.
+//! Replies come from a chip or from nowhere.
 
 use at45db081d_model::calls::Call;
 use at45db081d_model::driver::Link;
@@ -45,9 +45,12 @@ struct Replay<'a> {
 
 impl Link for Replay<'_> {
     fn send(&mut self, frame: &[u8], reply: &mut [u8]) -> Result<(), u8> {
-        let Some(heard) = self.replies.next() else {
-            self.waiting = frame.to_vec();
-            return Err(NO_REPLY);
+        let heard = match self.replies.next() {
+            Some(heard) => heard,
+            None => {
+                self.waiting = frame.to_vec();
+                return Err(NO_REPLY);
+            }
         };
         // A reply byte that is not there counts as FFh.
         for (i, byte) in reply.iter_mut().enumerate() {
@@ -83,8 +86,9 @@ impl ModelDriver {
 
 /// What of 1 to 7 a driver can meet without chip, log and script.
 fn refusal(array_len: usize, request: &Request) -> Option<u8> {
-    let Some(part) = Part::from_array_len(array_len) else {
-        return Some(answer::PART);
+    let part = match Part::from_array_len(array_len) {
+        Some(part) => part,
+        None => return Some(answer::PART),
     };
     let call = request.with_lent(&mut []);
     let (slot, poll_limit) = call.target().expect("a call with a slot");

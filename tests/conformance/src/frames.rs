@@ -1,5 +1,5 @@
-//! Frames: the rows of the command table, typed from document 01 once more,
-//! and openings that it does not list.
+//! Frames: the rows of the command table (4.2, 4.3), typed once more, and
+//! openings that it does not list.
 
 use crate::rng::Rng;
 
@@ -57,7 +57,7 @@ pub const ROWS: [Row; 38] = [
 ];
 
 /// Openings that the table does not list: near misses, legacy opcodes of the
-/// data sheet and bytes of no meaning.
+/// real part, and bytes of no meaning.
 pub const UNLISTED: [Row; 18] = [
     row(&[0x9B, 0x00, 0x00, 0x01], 4),
     row(&[0x9B, 0x00, 0x01, 0x00], 4),

@@ -151,8 +151,9 @@ impl<'a> Pair<'a> {
             _ => return,
         };
         let operation = Chip::from_record(before).operation;
-        let Some(part) = Part::from_array_len(len).filter(|&part| operation.fits(part)) else {
-            return;
+        let part = match Part::from_array_len(len).filter(|&part| operation.fits(part)) {
+            Some(part) => part,
+            None => return,
         };
         self.note_operation(&operation, part);
         if let Step::Call(call) = step {
@@ -206,20 +207,22 @@ impl<'a> Pair<'a> {
     }
 
     fn count_row(&mut self, step: &Step, answer: u8, before: &Record) {
-        let Step::Send {
-            array_len, frame, ..
-        } = step
-        else {
-            return;
+        let (array_len, frame) = match step {
+            Step::Send {
+                array_len, frame, ..
+            } => (array_len, frame),
+            _ => return,
         };
-        let (Some(row), Some(operation)) = (row_of(frame), operation_of(before)) else {
-            return;
+        let (row, operation) = match (row_of(frame), operation_of(before)) {
+            (Some(row), Some(operation)) => (row, operation),
+            _ => return,
         };
-        let Some(part) = Part::from_array_len(*array_len).filter(|_| answer == 0) else {
-            return;
+        let part = match Part::from_array_len(*array_len).filter(|_| answer == 0) {
+            Some(part) => part,
+            None => return,
         };
         let chip = Chip::from_record(before);
-        let obeys = decode(frame).is_some_and(|request| chip.obeys(part, &request));
+        let obeys = decode(frame).map_or(false, |request| chip.obeys(part, &request));
         // By value, since an ignored frame may also tidy the block up.
         let changed = Chip::from_record(self.subject.record()) != chip;
         let reply = &self.subject.reply[inside(frame.len())];
@@ -269,7 +272,7 @@ impl<'a> Pair<'a> {
     }
 
     fn compare_arrays_now_and_then(&self) -> Result<(), Mismatch> {
-        if self.part == Part::SHORT || self.calls.is_multiple_of(WHOLE_EVERY) {
+        if self.part == Part::SHORT || self.calls % WHOLE_EVERY == 0 {
             return self.compare_arrays();
         }
         Ok(())

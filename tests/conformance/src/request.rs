@@ -106,10 +106,8 @@ impl Request {
         }
     }
 
-    /// The shortest log that is long enough, for a poll limit of at most 1,000.
-    ///
-    /// 01: "Frames are at most 9B + 18 (put), 9B + 26 (patch), B + 8 (get),
-    /// 2B + 3 (wipe), 1 (raw)."
+    /// The shortest log that is long enough, for a poll limit of at most 1,000:
+    /// a line for each frame that the call can send (10.29, 12.7).
     pub fn log_len(&self) -> usize {
         let limit = |poll_limit: usize| poll_limit.min(1000);
         let frames = match *self {
@@ -231,12 +229,19 @@ impl fmt::Display for CallStep {
 
 /// A script with equal bytes gathered: `0x3 1x2 2`.
 pub fn runs(script: &[u8]) -> String {
-    let runs: Vec<String> = script
-        .chunk_by(|a, b| a == b)
-        .map(|run| match run.len() {
-            1 => run[0].to_string(),
-            len => format!("{}x{len}", run[0]),
+    let mut runs: Vec<(u8, usize)> = Vec::new();
+    for &byte in script {
+        match runs.last_mut() {
+            Some((last, len)) if *last == byte => *len += 1,
+            _ => runs.push((byte, 1)),
+        }
+    }
+    let words: Vec<String> = runs
+        .iter()
+        .map(|(byte, len)| match len {
+            1 => byte.to_string(),
+            _ => format!("{byte}x{len}"),
         })
         .collect();
-    format!("[{}]", runs.join(" "))
+    format!("[{}]", words.join(" "))
 }

@@ -17,8 +17,8 @@ use conformance::scenarios::CALLS;
 use conformance::step::CHIP_FUNCTIONS;
 use conformance::{run_cases, Cases, Coverage, Device, Library};
 
-/// Calls that are compared at least.
-const LEAST: u64 = 100_000;
+/// Calls of each kind that are compared at least: 95 in 100 of those that are.
+const LEAST: [u64; KINDS.len()] = [59_000, 71_000, 100_000, 54_000, 60_000];
 
 /// Says something even when the test passes.
 fn say(line: &str) {
@@ -58,7 +58,9 @@ fn library_and_model_make_the_same_calls() {
     say(&format!(
         "library and model: {total} calls compared ({each}) in {seconds:.1} s"
     ));
-    assert!(total >= LEAST, "only {total} calls were compared");
+    for (kind, least) in LEAST.iter().enumerate() {
+        assert!(calls[kind] >= *least, "{}: {}", KINDS[kind], calls[kind]);
+    }
     for (kind, expected) in ANSWERS.iter().enumerate() {
         let met = reached.answers_of(CHIP_FUNCTIONS + kind);
         assert_eq!(met, *expected, "answers of {}", KINDS[kind]);

@@ -31,7 +31,7 @@ fn drivers_yield_the_same_frames() {
     say(&format!(
         "driver of the library: {CASES} cases, {frames} frames compared in {seconds:.1} s"
     ));
-    assert!(frames >= 5 * CASES);
+    assert!(frames >= 168_000);
 }
 
 /// The opcodes of a call's frames, by the byte of a state that names the call.
@@ -115,7 +115,7 @@ fn any_state_gives_frames_of_its_call_and_ends() {
     say(&format!(
         "any state: {going} of 60000 gave a frame, the longest {longest}"
     ));
-    assert!(going > 8_000 && longest > 35);
+    assert!(going >= 8_300 && longest >= 41);
 }
 
 /// A flipped bit of the byte that names the call makes no call another.

@@ -7,6 +7,8 @@
 //! SLIPKNOLL_SEED=random_runs:short:1234 cargo test -p conformance --test library
 //! ```
 
+use std::io::Write;
+
 use at45db081d_model::record::tag;
 use at45db081d_model::Part;
 use conformance::frames::ROWS;
@@ -14,15 +16,20 @@ use conformance::records::OPERATIONS;
 use conformance::runner::runs_one_case;
 use conformance::{run_cases, scenarios, Cases, Coverage, Library, Scenario};
 
-/// The steps that each test compares at least, over a million together.
+/// The steps that each test compares at least: 95 in 100 of those that it does.
 mod least {
-    pub const ROWS: u64 = 500_000;
-    pub const SEALS: u64 = 400_000;
-    pub const ADDRESSES: u64 = 100_000;
-    pub const BUSY_ENDS: u64 = 150_000;
-    pub const CALLER_RECORDS: u64 = 30_000;
-    pub const REFUSALS: u64 = 100_000;
-    pub const RANDOM_RUNS: u64 = 700_000;
+    pub const ROWS: u64 = 606_000;
+    pub const SEALS: u64 = 468_000;
+    pub const ADDRESSES: u64 = 161_000;
+    pub const BUSY_ENDS: u64 = 155_000;
+    pub const CALLER_RECORDS: u64 = 77_000;
+    pub const REFUSALS: u64 = 142_000;
+    pub const RANDOM_RUNS: u64 = 754_000;
+}
+
+/// Says something even when the test passes.
+fn say(line: &str) {
+    writeln!(std::io::stdout(), "{line}").expect("standard output");
 }
 
 /// Runs the cases against the library; on each part what they reached is
@@ -42,13 +49,14 @@ fn compare<const N: usize>(
     if runs_one_case() {
         return None;
     }
+    say(&format!("{}: {calls} steps compared", scenario.name));
     assert!(calls >= least, "only {calls} steps were compared");
     Some(coverage)
 }
 
 /// Which rows are obeyed under an operation, if nothing else stands against
-/// them: "while busy, all but D7, 9F and reads and writes of a buffer the
-/// operation doesn't use. During CF, FC, 30 and 9B only D7 is obeyed."
+/// them: the status always (5.5); the identity, and what reads or writes a free
+/// buffer (5.6), unless the operation is on a register (5.3).
 fn may_be_obeyed(opening: &[u8], (tag, buffer): (u8, u8)) -> bool {
     match opening {
         _ if tag == tag::IDLE => true,
@@ -68,8 +76,9 @@ fn every_row_under_every_operation() {
         Cases::all(&scenario, Part::SHORT),
         Cases::share(&scenario, Part::FULL, 10),
     ];
-    let Some(reached) = compare(scenario, cases, least::ROWS) else {
-        return;
+    let reached = match compare(scenario, cases, least::ROWS) {
+        Some(reached) => reached,
+        None => return,
     };
     for (i, row) in ROWS.iter().enumerate() {
         for (j, &operation) in OPERATIONS.iter().enumerate() {
@@ -125,8 +134,9 @@ fn every_tag_of_a_callers_record() {
         Cases::all(&scenario, Part::SHORT),
         Cases::all(&scenario, Part::FULL),
     ];
-    let Some(reached) = compare(scenario, cases, least::CALLER_RECORDS) else {
-        return;
+    let reached = match compare(scenario, cases, least::CALLER_RECORDS) {
+        Some(reached) => reached,
+        None => return,
     };
     for reached in reached {
         let answers = [0, 1, 2, 3, 4].map(|call| reached.answers_of(call));
@@ -144,8 +154,9 @@ fn every_length_refused() {
         Cases::all(&scenario, Part::SHORT),
         Cases::share(&scenario, Part::FULL, 10),
     ];
-    let Some(reached) = compare(scenario, cases, least::REFUSALS) else {
-        return;
+    let reached = match compare(scenario, cases, least::REFUSALS) {
+        Some(reached) => reached,
+        None => return,
     };
     for reached in reached {
         let answers = [0, 1, 2, 4].map(|call| reached.answers_of(call));
@@ -163,8 +174,9 @@ fn random_runs() {
         Cases::all(&scenario, Part::SHORT),
         Cases::all(&scenario, Part::FULL),
     ];
-    let Some(reached) = compare(scenario, cases, least::RANDOM_RUNS) else {
-        return;
+    let reached = match compare(scenario, cases, least::RANDOM_RUNS) {
+        Some(reached) => reached,
+        None => return,
     };
     for reached in reached {
         let answers = [0, 1, 2, 3, 4].map(|call| reached.answers_of(call));

@@ -19,7 +19,7 @@ const READY: u8 = 0x80;
 pub enum Refusal {
     /// The bridge keeps this opcode from the chip.
     Withheld,
-    /// The chip's answer by 01.
+    /// The chip's answer.
     Answer(Error),
 }
 
@@ -106,7 +106,7 @@ impl<'a> Bridge<'a> {
     /// Sends bytes and then as many 00 as are to be read, in one frame, and
     /// hands back what was read.
     pub fn transact(&mut self, sent: &[u8], read_len: usize) -> Result<Vec<u8>, Refusal> {
-        if sent.first().is_some_and(|it| self.withheld.contains(it)) {
+        if sent.first().map_or(false, |it| self.withheld.contains(it)) {
             return Err(Refusal::Withheld);
         }
         let mut frame = sent.to_vec();

@@ -55,8 +55,9 @@ pub fn run(bridge: &mut Bridge, directory: &Path, arguments: &[&OsStr]) -> Resul
 fn serve_run(bridge: &mut Bridge, output: &Path, arguments: &[&OsStr]) -> io::Result<ExitStatus> {
     let listener = TcpListener::bind("127.0.0.1:0")?;
     let mut flashrom = start(listener.local_addr()?.port(), output, arguments)?;
-    let Some(mut stream) = accept(&listener, &mut flashrom)? else {
-        return flashrom.0.wait();
+    let mut stream = match accept(&listener, &mut flashrom)? {
+        Some(stream) => stream,
+        None => return flashrom.0.wait(),
     };
     stream.set_nodelay(true)?;
     stream.set_read_timeout(Some(PATIENCE))?;
@@ -80,7 +81,7 @@ fn start(port: u16, output: &Path, arguments: &[&OsStr]) -> io::Result<Running> 
         .stdout(output)
         .spawn()
         .map_err(|error| match error.kind() {
-            io::ErrorKind::NotFound => io::Error::other("it is not installed; scripts/setup does"),
+            io::ErrorKind::NotFound => failure("it is not installed; scripts/setup does"),
             _ => error,
         })?;
     Ok(Running(child))
@@ -104,7 +105,12 @@ fn accept(listener: &TcpListener, flashrom: &mut Running) -> io::Result<Option<T
         }
         sleep(MOMENT);
     }
-    Err(io::Error::other("it does not connect"))
+    Err(failure("it does not connect"))
+}
+
+/// Why flashrom does not do its part.
+fn failure(why: &str) -> io::Error {
+    io::Error::new(io::ErrorKind::Other, why)
 }
 
 /// Waits until flashrom, which has closed its connection, ends.
@@ -116,7 +122,7 @@ fn wait(flashrom: &mut Running) -> io::Result<ExitStatus> {
         }
         sleep(MOMENT);
     }
-    Err(io::Error::other("it does not end"))
+    Err(failure("it does not end"))
 }
 
 fn read_text(path: &Path) -> io::Result<String> {

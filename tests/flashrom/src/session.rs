@@ -157,7 +157,7 @@ impl<'b, 'a> Session<'b, 'a> {
         let run = self.flashrom(&["-r".as_ref(), path.as_ref()])?;
         compare("flashrom's copy", &take_file(&path)?, image)?;
         compare("the array", self.bridge.array(), image)?;
-        let reads = ARRAY_LEN.div_ceil(self.bridge.data_max) as u64;
+        let reads = image.chunks(self.bridge.data_max).count() as u64;
         counts(&run, &[(0x03, reads)])?;
         match run.traffic.longest {
             FRAME_MAX => Ok(()),

@@ -1,5 +1,5 @@
-//! Recipes in slots, by 01: slot s is block s; "version 1, length n in two
-//! bytes big-endian, n recipe bytes (n at most 2,109), zeros".
+//! Recipes in slots, as 9.1 and 9.4 of `docs/SPECIFICATION.md` place them: slot
+//! s is block s, with a head, the recipe, and zeros to the end.
 
 use crate::device::PAGE_LEN;
 
@@ -22,7 +22,7 @@ pub fn stored(recipe: &[u8]) -> [u8; SLOT_LEN] {
 mod tests {
     use super::*;
 
-    /// The lines of 01's bench table.
+    /// The records of `crates/bench/specs/Table.antt`.
     #[test]
     fn stored_as_in_the_bench_table() {
         let two = stored(&[0x41, 0x42]);

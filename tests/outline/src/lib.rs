@@ -10,6 +10,8 @@
 //! - [`stored`]: inputs that are stored, with what must be printed on them
 //! - [`met`]: which messages and answers an output has
 //! - [`difference`]: the first place where an output is not the reference's
+//! - [`trial`]: a program run with its input and output as a test has them
+//! - [`system`]: pipes and signals
 
 pub mod crc;
 pub mod difference;
@@ -20,6 +22,8 @@ pub mod pairs;
 pub mod rules;
 pub mod session;
 pub mod stored;
+pub mod system;
+pub mod trial;
 
 pub use difference::{difference, Difference};
 pub use rules::{Rules, RULES};

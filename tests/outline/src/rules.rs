@@ -53,7 +53,7 @@ pub const RULES: Rules = Rules {
 /// last LF is no line.
 pub fn lines(input: &[u8]) -> Vec<&[u8]> {
     let mut lines: Vec<&[u8]> = input.split(|&byte| byte == b'\n').collect();
-    if lines.last().is_some_and(|rest| rest.is_empty()) {
+    if lines.last().map_or(false, |rest| rest.is_empty()) {
         lines.pop();
     }
     lines

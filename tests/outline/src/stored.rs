@@ -24,7 +24,7 @@ pub const RUN: Stored = stored(
     "crates/outline/stdout",
 );
 
-/// Document 01's example.
+/// The example of README: a slot is wiped.
 pub const WIPE: Stored = stored("wipe 2", "tests/outline/wipe.in", "tests/outline/wipe.out");
 
 /// The two examples of `make run`, whose outlines are one.

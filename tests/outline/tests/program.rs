@@ -1,26 +1,14 @@
 //! The proved program against the reference, byte for byte.
-//!
-//! `rt check outline` builds it; `OUTLINE_PROGRAM` names another to be tried.
 
 use std::io::Write;
-use std::path::{Path, PathBuf};
+use std::path::Path;
 use std::process::{Child, Command, Output, Stdio};
-use std::{env, fs, io, thread};
+use std::{fs, io, thread};
 
 use outline_tests::inputs::{input, INPUTS};
-use outline_tests::stored::{in_repository, ALL};
+use outline_tests::stored::ALL;
+use outline_tests::trial::program;
 use outline_tests::{difference, pairs};
-
-fn program() -> PathBuf {
-    let named = env::var_os("OUTLINE_PROGRAM").map(PathBuf::from);
-    let program = named.unwrap_or(in_repository("target/bin/outline"));
-    assert!(
-        program.is_file(),
-        "{} is not there: `rt check outline` proves and builds it",
-        program.display()
-    );
-    program
-}
 
 /// What the program prints on an input, which it is given piece by piece.
 fn printed(input: &[u8]) -> Vec<u8> {
@@ -83,6 +71,6 @@ fn long_inputs() {
 #[test]
 fn outlines_are_alike() {
     let shown = pairs::check(printed).unwrap_or_else(|unlike| panic!("{unlike}"));
-    assert!(shown.lines >= 20_000);
-    assert!(shown.unlike_answers >= 50);
+    assert!(shown.lines >= 50_600);
+    assert!(shown.unlike_answers >= 72);
 }

@@ -14,7 +14,7 @@ fn reference_prints_what_is_stored() {
     }
 }
 
-/// Document 01's six lines.
+/// Line by line: a wait, both registers, the erase, a wait, the totals.
 #[test]
 fn wipe_2() {
     let lines = "\

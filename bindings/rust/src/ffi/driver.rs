@@ -1,5 +1,5 @@
-//! The slot driver alone: it is given the last reply and yields the next frame
-//! or the end.
+//! The slot driver alone: it takes in a reply and hands out the frame that
+//! follows, or none at the end.
 
 use crate::{DRIVER_FRAME_LEN, SLOT_LEN};
 

@@ -5,9 +5,6 @@ use borrow.Author.Needs.{needs}
 use Rattle.blocks.proofs.buffered.Statement.{statement}
 use Rattle.blocks.proofs.buffered.Tie as tie
 
-beyond-requires : tie.Need-beyond-requires
-beyond-requires c κs = search needs
-
 returns : tie.Need-returns
 unfolding bufferedOf
 returns c = rw (c .match .keys1)
@@ -36,4 +33,4 @@ returns-6 c = simp
 
 pub buffered-spec : {M : Type 1} → statement M
 buffered-spec =
-    tie.close (tie.spec beyond-requires returns returns-2 returns-3 returns-4 returns-5 returns-6)
+    tie.close (tie.spec (λ c κs. search needs) returns returns-2 returns-3 returns-4 returns-5 returns-6)

@@ -6,21 +6,6 @@ use borrow.Author.Needs.{needs}
 use Rattle.blocks.proofs.decode.Statement.{statement}
 use Rattle.blocks.proofs.decode.Tie as tie
 
-decode-registers-requires : tie.Need-decode-registers-requires
-decode-registers-requires c κs = search needs
-
-part264-requires : tie.Need-part264-requires
-part264-requires c κs = search needs
-
-part264-requires-2 : tie.Need-part264-requires-2
-part264-requires-2 c κs = search needs
-
-shared-slice-read-is-set : tie.Need-shared-slice-read-is-set
-shared-slice-read-is-set c = search needs
-
-is-set-requires : tie.Need-is-set-requires
-is-set-requires c κs = search needs
-
 returns : tie.Need-returns
 unfolding decodeChip
 returns c =
@@ -39,9 +24,9 @@ pub decode-spec : {M : Type 1} → statement M
 decode-spec =
     tie.close
     (tie.spec
-    decode-registers-requires
-    part264-requires
-    part264-requires-2
-    shared-slice-read-is-set
-    is-set-requires
+    (λ c κs. search needs)
+    (λ c κs. search needs)
+    (λ c κs. search needs)
+    (λ c. search needs)
+    (λ c κs. search needs)
     returns)

@@ -4,45 +4,6 @@ use borrow.Author.Needs.{needs}
 use Rattle.blocks.proofs.decode_registers.Statement.{statement}
 use Rattle.blocks.proofs.decode_registers.Tie as tie
 
-part16-requires : tie.Need-part16-requires
-part16-requires c κs = search needs
-
-part16-requires-2 : tie.Need-part16-requires-2
-part16-requires-2 c κs = search needs
-
-part64-requires : tie.Need-part64-requires
-part64-requires c κs = search needs
-
-part64-requires-2 : tie.Need-part64-requires-2
-part64-requires-2 c κs = search needs
-
-shared-slice-read-is-set : tie.Need-shared-slice-read-is-set
-shared-slice-read-is-set c = search needs
-
-is-set-requires : tie.Need-is-set-requires
-is-set-requires c κs = search needs
-
-shared-slice-read-is-set-2 : tie.Need-shared-slice-read-is-set-2
-shared-slice-read-is-set-2 c = search needs
-
-is-set-requires-2 : tie.Need-is-set-requires-2
-is-set-requires-2 c κs = search needs
-
-shared-slice-read-is-set-3 : tie.Need-shared-slice-read-is-set-3
-shared-slice-read-is-set-3 c = search needs
-
-is-set-requires-3 : tie.Need-is-set-requires-3
-is-set-requires-3 c κs = search needs
-
-shared-slice-read-is-set-4 : tie.Need-shared-slice-read-is-set-4
-shared-slice-read-is-set-4 c = search needs
-
-is-set-requires-4 : tie.Need-is-set-requires-4
-is-set-requires-4 c κs = search needs
-
-operation-requires : tie.Need-operation-requires
-operation-requires c κs = search needs
-
 returns : tie.Need-returns
 unfolding decodeRegisters
 returns c = λ i.
@@ -62,17 +23,17 @@ pub decode-registers-spec : {M : Type 1} → statement M
 decode-registers-spec =
     tie.close
     (tie.spec
-    part16-requires
-    part16-requires-2
-    part64-requires
-    part64-requires-2
-    shared-slice-read-is-set
-    is-set-requires
-    shared-slice-read-is-set-2
-    is-set-requires-2
-    shared-slice-read-is-set-3
-    is-set-requires-3
-    shared-slice-read-is-set-4
-    is-set-requires-4
-    operation-requires
+    (λ c κs. search needs)
+    (λ c κs. search needs)
+    (λ c κs. search needs)
+    (λ c κs. search needs)
+    (λ c. search needs)
+    (λ c κs. search needs)
+    (λ c. search needs)
+    (λ c κs. search needs)
+    (λ c. search needs)
+    (λ c κs. search needs)
+    (λ c. search needs)
+    (λ c κs. search needs)
+    (λ c κs. search needs)
     returns)

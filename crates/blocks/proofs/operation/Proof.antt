@@ -13,18 +13,9 @@ use Rattle.blocks.proofs.operation.Tie as tie
 holds : (p : tie.After-shared-slice-known) → Holds (decodeChip (p .before .args .block .now))
 holds p = holds-decode (p .before .args .block .now) (p .before .pre) (λ k _. omega (arith, p .shared-slice-known .given k))
 
-shared-slice-read-if1 : tie.Need-shared-slice-read-if1
-shared-slice-read-if1 c = search needs
-
-shared-slice-read-if2 : tie.Need-shared-slice-read-if2
-shared-slice-read-if2 c = search needs
-
 returns : tie.Need-returns
 unfolding decodeOperation operationOf plainOf
 returns c = (rw (c .before .before .if1 .taken) (rw (c .if2 .taken) refl), holds (c .before .before .before .before))
-
-operation-in-requires : tie.Need-operation-in-requires
-operation-in-requires c κs = search needs
 
 returns-2 : tie.Need-returns-2
 returns-2 c = (c .operation-in .ensures, holds (c .before .before .before))
@@ -32,4 +23,4 @@ returns-2 c = (c .operation-in .ensures, holds (c .before .before .before))
 pub operation-spec : {M : Type 1} → statement M
 operation-spec =
     tie.close
-    (tie.spec shared-slice-read-if1 shared-slice-read-if2 returns operation-in-requires returns-2)
+    (tie.spec (λ c. search needs) (λ c. search needs) returns (λ c κs. search needs) returns-2)

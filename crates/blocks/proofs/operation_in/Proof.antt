@@ -9,27 +9,6 @@ use borrow.Author.Needs.{needs}
 use Rattle.blocks.proofs.operation_in.Statement.{statement}
 use Rattle.blocks.proofs.operation_in.Tie as tie
 
-shared-slice-read-tag : tie.Need-shared-slice-read-tag
-shared-slice-read-tag c = search needs
-
-number-requires : tie.Need-number-requires
-number-requires c κs = search needs
-
-shared-slice-read-match : tie.Need-shared-slice-read-match
-shared-slice-read-match c = search needs
-
-plain-requires : tie.Need-plain-requires
-plain-requires c κs = search needs
-
-buffered-requires : tie.Need-buffered-requires
-buffered-requires c κs = search needs
-
-buffered-requires-2 : tie.Need-buffered-requires-2
-buffered-requires-2 c κs = search needs
-
-beyond-requires : tie.Need-beyond-requires
-beyond-requires c κs = search needs
-
 returns : tie.Need-returns
 unfolding decodeOperation operationOf
 returns c = let b = c .before .before .before .before .before .before .args .block .now in
@@ -53,13 +32,13 @@ pub operation-in-spec : {M : Type 1} → statement M
 operation-in-spec =
     tie.close
     (tie.spec
-    shared-slice-read-tag
-    number-requires
-    shared-slice-read-match
-    plain-requires
-    buffered-requires
-    buffered-requires-2
-    beyond-requires
+    (λ c. search needs)
+    (λ c κs. search needs)
+    (λ c. search needs)
+    (λ c κs. search needs)
+    (λ c κs. search needs)
+    (λ c κs. search needs)
+    (λ c κs. search needs)
     returns
     returns-2
     returns-3

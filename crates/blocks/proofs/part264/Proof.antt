@@ -5,24 +5,6 @@ use borrow.Author.Needs.{needs}
 use Rattle.blocks.proofs.part264.Statement.{statement}
 use Rattle.blocks.proofs.part264.Tie as tie
 
-add-e : tie.Need-add-e
-add-e c = search needs
-
-slice-aggregate-copy : tie.Need-slice-aggregate-copy
-slice-aggregate-copy c = search needs
-
-sub-copy : tie.Need-sub-copy
-sub-copy c = search needs
-
-part-copy-start : tie.Need-part-copy-start
-part-copy-start c = search needs
-
-part-copy-end : tie.Need-part-copy-end
-part-copy-end c = search needs
-
-copy-requires : tie.Need-copy-requires
-copy-requires c κs = search needs
-
 returns : tie.Need-returns
 returns c = c .before .copy .ensures ∙ run-part (c .before .before .before .before .before .args .at) 264 (c .before .before .before .before .before .args .block .now)
 
@@ -30,10 +12,10 @@ pub part264-spec : {M : Type 1} → statement M
 part264-spec =
     tie.close
     (tie.spec
-    add-e
-    slice-aggregate-copy
-    sub-copy
-    part-copy-start
-    part-copy-end
-    copy-requires
+    (λ c. search needs)
+    (λ c. search needs)
+    (λ c. search needs)
+    (λ c. search needs)
+    (λ c. search needs)
+    (λ c κs. search needs)
     returns)

@@ -7,18 +7,6 @@ use borrow.Author.Needs.{needs}
 use Rattle.blocks.proofs.plain.Statement.{statement}
 use Rattle.blocks.proofs.plain.Tie as tie
 
-sector-set-requires : tie.Need-sector-set-requires
-sector-set-requires c κs = search needs
-
-protection-operation-requires : tie.Need-protection-operation-requires
-protection-operation-requires c κs = search needs
-
-security-operation-requires : tie.Need-security-operation-requires
-security-operation-requires c κs = search needs
-
-beyond-requires : tie.Need-beyond-requires
-beyond-requires c κs = search needs
-
 returns : tie.Need-returns
 unfolding plainOf
 returns c = rw (c .match .keys1)
@@ -65,10 +53,10 @@ pub plain-spec : {M : Type 1} → statement M
 plain-spec =
     tie.close
     (tie.spec
-    sector-set-requires
-    protection-operation-requires
-    security-operation-requires
-    beyond-requires
+    (λ c κs. search needs)
+    (λ c κs. search needs)
+    (λ c κs. search needs)
+    (λ c κs. search needs)
     returns
     returns-2
     returns-3

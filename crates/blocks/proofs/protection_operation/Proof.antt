@@ -9,14 +9,8 @@ use borrow.Author.Needs.{needs}
 use Rattle.blocks.proofs.protection_operation.Statement.{statement}
 use Rattle.blocks.proofs.protection_operation.Tie as tie
 
-part16-requires : tie.Need-part16-requires
-part16-requires c κs = search needs
-
-packed16-requires : tie.Need-packed16-requires
-packed16-requires c κs = search needs
-
 returns : tie.Need-returns
 returns c = ap ProgramProtection (c .packed16 .ensures ∙ ap pack16 (c .before .before .part16 .ensures ∙ sym (take-take 16 64 (drop 172 (c .before .before .before .before .args .block .now)) (lit≤ tt))))
 
 pub protection-operation-spec : {M : Type 1} → statement M
-protection-operation-spec = tie.close (tie.spec part16-requires packed16-requires returns)
+protection-operation-spec = tie.close (tie.spec (λ c κs. search needs) (λ c κs. search needs) returns)

@@ -6,14 +6,8 @@ use borrow.Author.Needs.{needs}
 use Rattle.blocks.proofs.security_operation.Statement.{statement}
 use Rattle.blocks.proofs.security_operation.Tie as tie
 
-part64-requires : tie.Need-part64-requires
-part64-requires c κs = search needs
-
-packed64-requires : tie.Need-packed64-requires
-packed64-requires c κs = search needs
-
 returns : tie.Need-returns
 returns c = ap ProgramSecurity (c .packed64 .ensures ∙ ap pack64 (c .before .before .part64 .ensures))
 
 pub security-operation-spec : {M : Type 1} → statement M
-security-operation-spec = tie.close (tie.spec part64-requires packed64-requires returns)
+security-operation-spec = tie.close (tie.spec (λ c κs. search needs) (λ c κs. search needs) returns)

@@ -6,21 +6,6 @@ use borrow.Author.Needs.{needs}
 use Rattle.calls.proofs.put.Statement.{statement}
 use Rattle.calls.proofs.put.Tie as tie
 
-array-borrow-prefix-none : tie.Need-array-borrow-prefix-none
-array-borrow-prefix-none c = search needs
-
-slice-aggregate-call : tie.Need-slice-aggregate-call
-slice-aggregate-call c = search needs
-
-call-requires : tie.Need-call-requires
-call-requires c κs = search needs
-
-same-length : tie.Need-same-length
-same-length c = search needs
-
-same-length-2 : tie.Need-same-length-2
-same-length-2 c = search needs
-
 returns : tie.Need-returns
 returns c =
     let b = (c .before .before .before .before .before .call) .last .1 .1 .1 .1 .1 .1 .1 .0 in
@@ -31,9 +16,9 @@ pub put-spec : {M : Type 1} → statement M
 put-spec =
     tie.close
     (tie.spec
-    array-borrow-prefix-none
-    slice-aggregate-call
-    call-requires
-    same-length
-    same-length-2
+    (λ c. search needs)
+    (λ c. search needs)
+    (λ c κs. search needs)
+    (λ c. search needs)
+    (λ c. search needs)
     returns)

@@ -10,20 +10,8 @@ use Rattle.state.proofs.Accepted.{leaves-as, leaves-refused, cut-known, cut-par
 use Rattle.chip.proofs.cut.Statement.{statement}
 use Rattle.chip.proofs.cut.Tie as tie
 
-place-requires : tie.Need-place-requires
-place-requires c κs = search needs
-
-enum-known-p : tie.Need-enum-known-p
-enum-known-p c = search needs
-
 cut-in-requires : tie.Need-cut-in-requires
 cut-in-requires c κs = let e = sym (c .before .before .before .before .place .ensures) ∙ c .before .before .p .given .1 in (placed-sized _ _ _ e, (placed-known _ _ _ e) .1)
-
-enum-told : tie.Need-enum-told
-enum-told c = search needs
-
-same-length : tie.Need-same-length
-same-length c = search needs
 
 returns : tie.Need-returns
 returns c =
@@ -40,4 +28,4 @@ returns-2 c =
 pub cut-spec : {M : Type 1} → statement M
 cut-spec =
     tie.close
-    (tie.spec place-requires enum-known-p cut-in-requires enum-told same-length returns returns-2)
+    (tie.spec (λ c κs. search needs) (λ c. search needs) cut-in-requires (λ c. search needs) (λ c. search needs) returns returns-2)

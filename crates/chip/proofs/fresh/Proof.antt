@@ -7,21 +7,6 @@ use Rattle.state.proofs.Accepted.{leaves-as, fresh-done, fresh-part}
 use Rattle.chip.proofs.fresh.Statement.{statement}
 use Rattle.chip.proofs.fresh.Tie as tie
 
-part-of-requires : tie.Need-part-of-requires
-part-of-requires c κs = search needs
-
-enum-told : tie.Need-enum-told
-enum-told c = search needs
-
-fill-requires : tie.Need-fill-requires
-fill-requires c κs = search needs
-
-enum-told-2 : tie.Need-enum-told-2
-enum-told-2 c = search needs
-
-same-length : tie.Need-same-length
-same-length c = search needs
-
 returns : tie.Need-returns
 unfolding freshState freshRegisters
 returns c =
@@ -39,4 +24,4 @@ returns-2 c =
 pub fresh-spec : {M : Type 1} → statement M
 fresh-spec =
     tie.close
-    (tie.spec part-of-requires enum-told fill-requires enum-told-2 same-length returns returns-2)
+    (tie.spec (λ c κs. search needs) (λ c. search needs) (λ c κs. search needs) (λ c. search needs) (λ c. search needs) returns returns-2)

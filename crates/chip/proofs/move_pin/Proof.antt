@@ -7,12 +7,6 @@ use Rattle.state.specs.Memory.{withRegisters}
 use Rattle.chip.proofs.move_pin.Statement.{statement}
 use Rattle.chip.proofs.move_pin.Tie as tie
 
-with-wp-requires : tie.Need-with-wp-requires
-with-wp-requires c κs = search needs
-
-with-registers-requires : tie.Need-with-registers-requires
-with-registers-requires c κs = search needs
-
 returns : tie.Need-returns
 unfolding pinOutcome pinnedState
 returns c = λ xs.
@@ -24,4 +18,4 @@ returns c = λ xs.
     }
 
 pub move-pin-spec : {M : Type 1} → statement M
-move-pin-spec = tie.close (tie.spec with-wp-requires with-registers-requires returns)
+move-pin-spec = tie.close (tie.spec (λ c κs. search needs) (λ c κs. search needs) returns)

@@ -9,20 +9,8 @@ use Rattle.state.proofs.Accepted.{leaves-as, leaves-refused, sent-known, sent-p
 use Rattle.chip.proofs.send.Statement.{statement}
 use Rattle.chip.proofs.send.Tie as tie
 
-place-requires : tie.Need-place-requires
-place-requires c κs = search needs
-
-enum-known-p : tie.Need-enum-known-p
-enum-known-p c = search needs
-
 send-to-requires : tie.Need-send-to-requires
 send-to-requires c κs = placed-sized _ _ _ (sym (c .before .before .before .before .place .ensures) ∙ c .before .before .p .given .1)
-
-enum-told : tie.Need-enum-told
-enum-told c = search needs
-
-same-length : tie.Need-same-length
-same-length c = search needs
 
 returns : tie.Need-returns
 returns c =
@@ -39,4 +27,4 @@ returns-2 c =
 pub send-spec : {M : Type 1} → statement M
 send-spec =
     tie.close
-    (tie.spec place-requires enum-known-p send-to-requires enum-told same-length returns returns-2)
+    (tie.spec (λ c κs. search needs) (λ c. search needs) send-to-requires (λ c. search needs) (λ c. search needs) returns returns-2)

@@ -18,99 +18,6 @@ use Rattle.commands.proofs.lookup.Tie as tie
 passed : (c : Command) (f : Found) (o : ℕ) → (o ≡ c .0 → ⊥) → Missing ≡ f → Missing ≡ cond (eqb (c .0) o) (Row c) f
 passed c f o h e = e ∙ ap (λ (b : Bool). cond b (Row c) f) (sym (ne-eqb (c .0) o (λ k. h (sym k))))
 
-array-copy-out-t87 : tie.Need-array-copy-out-t87
-array-copy-out-t87 c = search needs
-
-array-copy-out-t90 : tie.Need-array-copy-out-t90
-array-copy-out-t90 c = search needs
-
-array-copy-out-t93 : tie.Need-array-copy-out-t93
-array-copy-out-t93 c = search needs
-
-array-copy-out-t96 : tie.Need-array-copy-out-t96
-array-copy-out-t96 c = search needs
-
-array-copy-out-t99 : tie.Need-array-copy-out-t99
-array-copy-out-t99 c = search needs
-
-array-copy-out-t102 : tie.Need-array-copy-out-t102
-array-copy-out-t102 c = search needs
-
-array-copy-out-t105 : tie.Need-array-copy-out-t105
-array-copy-out-t105 c = search needs
-
-array-copy-out-t108 : tie.Need-array-copy-out-t108
-array-copy-out-t108 c = search needs
-
-array-copy-out-t111 : tie.Need-array-copy-out-t111
-array-copy-out-t111 c = search needs
-
-array-copy-out-t114 : tie.Need-array-copy-out-t114
-array-copy-out-t114 c = search needs
-
-array-copy-out-t117 : tie.Need-array-copy-out-t117
-array-copy-out-t117 c = search needs
-
-array-copy-out-t120 : tie.Need-array-copy-out-t120
-array-copy-out-t120 c = search needs
-
-array-copy-out-t123 : tie.Need-array-copy-out-t123
-array-copy-out-t123 c = search needs
-
-array-copy-out-t126 : tie.Need-array-copy-out-t126
-array-copy-out-t126 c = search needs
-
-array-copy-out-t129 : tie.Need-array-copy-out-t129
-array-copy-out-t129 c = search needs
-
-array-copy-out-t132 : tie.Need-array-copy-out-t132
-array-copy-out-t132 c = search needs
-
-array-copy-out-t135 : tie.Need-array-copy-out-t135
-array-copy-out-t135 c = search needs
-
-array-copy-out-t138 : tie.Need-array-copy-out-t138
-array-copy-out-t138 c = search needs
-
-array-copy-out-t141 : tie.Need-array-copy-out-t141
-array-copy-out-t141 c = search needs
-
-array-copy-out-t144 : tie.Need-array-copy-out-t144
-array-copy-out-t144 c = search needs
-
-array-copy-out-t147 : tie.Need-array-copy-out-t147
-array-copy-out-t147 c = search needs
-
-array-copy-out-t150 : tie.Need-array-copy-out-t150
-array-copy-out-t150 c = search needs
-
-array-copy-out-t153 : tie.Need-array-copy-out-t153
-array-copy-out-t153 c = search needs
-
-array-copy-out-t156 : tie.Need-array-copy-out-t156
-array-copy-out-t156 c = search needs
-
-array-copy-out-t159 : tie.Need-array-copy-out-t159
-array-copy-out-t159 c = search needs
-
-array-copy-out-t162 : tie.Need-array-copy-out-t162
-array-copy-out-t162 c = search needs
-
-array-copy-out-t165 : tie.Need-array-copy-out-t165
-array-copy-out-t165 c = search needs
-
-array-copy-out-t168 : tie.Need-array-copy-out-t168
-array-copy-out-t168 c = search needs
-
-array-copy-out-t171 : tie.Need-array-copy-out-t171
-array-copy-out-t171 c = search needs
-
-array-copy-out-t174 : tie.Need-array-copy-out-t174
-array-copy-out-t174 c = search needs
-
-array-copy-out-t177 : tie.Need-array-copy-out-t177
-array-copy-out-t177 c = search needs
-
 returns : tie.Need-returns
 unfolding lookupOf lookupIn commands
 returns c = rw (c .before .match .keys1)
@@ -277,37 +184,37 @@ pub lookup-spec : {M : Type 1} → statement M
 lookup-spec =
     tie.close
     (tie.spec
-    array-copy-out-t87
-    array-copy-out-t90
-    array-copy-out-t93
-    array-copy-out-t96
-    array-copy-out-t99
-    array-copy-out-t102
-    array-copy-out-t105
-    array-copy-out-t108
-    array-copy-out-t111
-    array-copy-out-t114
-    array-copy-out-t117
-    array-copy-out-t120
-    array-copy-out-t123
-    array-copy-out-t126
-    array-copy-out-t129
-    array-copy-out-t132
-    array-copy-out-t135
-    array-copy-out-t138
-    array-copy-out-t141
-    array-copy-out-t144
-    array-copy-out-t147
-    array-copy-out-t150
-    array-copy-out-t153
-    array-copy-out-t156
-    array-copy-out-t159
-    array-copy-out-t162
-    array-copy-out-t165
-    array-copy-out-t168
-    array-copy-out-t171
-    array-copy-out-t174
-    array-copy-out-t177
+    (λ c. search needs)
+    (λ c. search needs)
+    (λ c. search needs)
+    (λ c. search needs)
+    (λ c. search needs)
+    (λ c. search needs)
+    (λ c. search needs)
+    (λ c. search needs)
+    (λ c. search needs)
+    (λ c. search needs)
+    (λ c. search needs)
+    (λ c. search needs)
+    (λ c. search needs)
+    (λ c. search needs)
+    (λ c. search needs)
+    (λ c. search needs)
+    (λ c. search needs)
+    (λ c. search needs)
+    (λ c. search needs)
+    (λ c. search needs)
+    (λ c. search needs)
+    (λ c. search needs)
+    (λ c. search needs)
+    (λ c. search needs)
+    (λ c. search needs)
+    (λ c. search needs)
+    (λ c. search needs)
+    (λ c. search needs)
+    (λ c. search needs)
+    (λ c. search needs)
+    (λ c. search needs)
     returns
     returns-2
     returns-3

@@ -20,25 +20,10 @@ long s = (search needs, search needs)
 both : (p : tie.After-buffers-of) → length (p .buffers-of .result) ≡ 528
 both p = search needs
 
-buffers-of-requires : tie.Need-buffers-of-requires
-buffers-of-requires c κs = search needs
-
-slice-aggregate-complete-memory : tie.Need-slice-aggregate-complete-memory
-slice-aggregate-complete-memory c = search needs
-
 complete-memory-requires : tie.Need-complete-memory-requires
 complete-memory-requires c κs =
     let s = c .before .before .before .before .before in
     (s .pre .0, s .pre .1, both (c .before .before))
-
-complete-requires : tie.Need-complete-requires
-complete-requires c κs = search needs
-
-chip-of-requires : tie.Need-chip-of-requires
-chip-of-requires c κs = search needs
-
-same-length : tie.Need-same-length
-same-length c = search needs
 
 returns : tie.Need-returns
 unfolding endedBy endedState
@@ -54,10 +39,10 @@ pub end-in-spec : {M : Type 1} → statement M
 end-in-spec =
     tie.close
     (tie.spec
-    buffers-of-requires
-    slice-aggregate-complete-memory
+    (λ c κs. search needs)
+    (λ c. search needs)
     complete-memory-requires
-    complete-requires
-    chip-of-requires
-    same-length
+    (λ c κs. search needs)
+    (λ c κs. search needs)
+    (λ c. search needs)
     returns)

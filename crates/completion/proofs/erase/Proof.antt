@@ -7,34 +7,16 @@ use Rattle.state.proofs.Arms.{target-has, target-run, target-sectors}
 use Rattle.completion.proofs.erase.Statement.{statement}
 use Rattle.completion.proofs.erase.Tie as tie
 
-target-of-requires : tie.Need-target-of-requires
-target-of-requires c κs = search needs
-
 run-named-requires : tie.Need-run-named-requires
 run-named-requires c κs =
     let s = c .before .before .before in
     (sized-own (s .args .g) _ (s .pre .0), target-has (s .args .g) (s .args .o) (c .before .target-of .ensures) (s .pre .1))
-
-erase-requires : tie.Need-erase-requires
-erase-requires c κs = search needs
-
-set-named-requires : tie.Need-set-named-requires
-set-named-requires c κs = search needs
-
-same-length : tie.Need-same-length
-same-length c = search needs
 
 returns : tie.Need-returns
 returns c =
     let a = c .before .before .before .before .before .before .before .before .before .args in
     target-run (a .g) (a .o) (c .before .before .before .before .before .before .before .target-of .ensures) (erased (a .g)) (a .array .now) _
     (c .before .before .before .before .before .run-named .ensures .0) (c .before .set-named .ensures) (c .before .before .before .before .erase .ensures) (c .if1 .taken)
-
-erase-sectors-requires : tie.Need-erase-sectors-requires
-erase-sectors-requires c κs = search needs
-
-same-length-2 : tie.Need-same-length-2
-same-length-2 c = search needs
 
 returns-2 : tie.Need-returns-2
 returns-2 c =
@@ -47,12 +29,12 @@ pub erase-spec : {M : Type 1} → statement M
 erase-spec =
     tie.close
     (tie.spec
-    target-of-requires
+    (λ c κs. search needs)
     run-named-requires
-    erase-requires
-    set-named-requires
-    same-length
+    (λ c κs. search needs)
+    (λ c κs. search needs)
+    (λ c. search needs)
     returns
-    erase-sectors-requires
-    same-length-2
+    (λ c κs. search needs)
+    (λ c. search needs)
     returns-2)

@@ -5,27 +5,6 @@ use Rattle.control.specs.Rulings.{changed}
 use Rattle.control.proofs.apply.Statement.{statement}
 use Rattle.control.proofs.apply.Tie as tie
 
-enum-told : tie.Need-enum-told
-enum-told c = search needs
-
-enum-known-c : tie.Need-enum-known-c
-enum-known-c c = search needs
-
-with-operation-requires : tie.Need-with-operation-requires
-with-operation-requires c κs = search needs
-
-enum-known-c-2 : tie.Need-enum-known-c-2
-enum-known-c-2 c = search needs
-
-with-protect-requires : tie.Need-with-protect-requires
-with-protect-requires c κs = search needs
-
-enum-known-c-3 : tie.Need-enum-known-c-3
-enum-known-c-3 c = search needs
-
-with-deep-requires : tie.Need-with-deep-requires
-with-deep-requires c κs = search needs
-
 returns : tie.Need-returns
 unfolding changed
 returns c = rw (c .enum-told .given .1)
@@ -46,13 +25,13 @@ pub apply-spec : {M : Type 1} → statement M
 apply-spec =
     tie.close
     (tie.spec
-    enum-told
-    enum-known-c
-    with-operation-requires
-    enum-known-c-2
-    with-protect-requires
-    enum-known-c-3
-    with-deep-requires
+    (λ c. search needs)
+    (λ c. search needs)
+    (λ c κs. search needs)
+    (λ c. search needs)
+    (λ c κs. search needs)
+    (λ c. search needs)
+    (λ c κs. search needs)
     returns
     returns-2
     returns-3

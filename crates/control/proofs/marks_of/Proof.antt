@@ -4,11 +4,8 @@ use borrow.Author.Needs.{needs}
 use Rattle.control.proofs.marks_of.Statement.{statement}
 use Rattle.control.proofs.marks_of.Tie as tie
 
-usage-of-requires : tie.Need-usage-of-requires
-usage-of-requires c κs = search needs
-
 returns : tie.Need-returns
 returns c = rw (c .usage-of .ensures)
 
 pub marks-of-spec : {M : Type 1} → statement M
-marks-of-spec = tie.close (tie.spec usage-of-requires returns)
+marks-of-spec = tie.close (tie.spec (λ c κs. search needs) returns)

@@ -7,17 +7,8 @@ use borrow.Author.Needs.{needs}
 use Rattle.driver.proofs.is_poll.Statement.{statement}
 use Rattle.driver.proofs.is_poll.Tie as tie
 
-part-of-requires : tie.Need-part-of-requires
-part-of-requires c κs = search needs
-
-enum-known-p : tie.Need-enum-known-p
-enum-known-p c = search needs
-
 poll-on-requires : tie.Need-poll-on-requires
 poll-on-requires c κs = sym (c .before .before .before .part-of .ensures) ∙ c .before .p .given .1
-
-enum-told : tie.Need-enum-told
-enum-told c = search needs
 
 returns : tie.Need-returns
 unfolding pollIn
@@ -29,4 +20,4 @@ returns-2 c = ap (λ (q : Part). pollBy q (c .before .before .before .args .d)) 
 
 pub is-poll-spec : {M : Type 1} → statement M
 is-poll-spec =
-    tie.close (tie.spec part-of-requires enum-known-p poll-on-requires enum-told returns returns-2)
+    tie.close (tie.spec (λ c κs. search needs) (λ c. search needs) poll-on-requires (λ c. search needs) returns returns-2)

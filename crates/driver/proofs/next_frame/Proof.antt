@@ -5,16 +5,10 @@ use borrow.Author.Needs.{needs}
 use Rattle.driver.proofs.next_frame.Statement.{statement}
 use Rattle.driver.proofs.next_frame.Tie as tie
 
-take-in-requires : tie.Need-take-in-requires
-take-in-requires c κs = search needs
-
-write-frame-requires : tie.Need-write-frame-requires
-write-frame-requires c κs = search needs
-
 returns : tie.Need-returns
 returns c =
     let a = c .before .before .before .before .before .before .before .args in
     next-framed (a .d) (a .payload .now) (a .staged .now) (a .reply .now) (a .frame .now) (c .before .before .before .take-in .ensures) (c .write-frame .ensures)
 
 pub next-frame-spec : {M : Type 1} → statement M
-next-frame-spec = tie.close (tie.spec take-in-requires write-frame-requires returns)
+next-frame-spec = tie.close (tie.spec (λ c κs. search needs) (λ c κs. search needs) returns)

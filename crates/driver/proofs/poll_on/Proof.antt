@@ -8,7 +8,7 @@ use Rattle.slots.specs.Plans.{isWait}
 use Rattle.turns.proofs.Turns.{sound-slot}
 use Rattle.worlds.specs.Step.{pollBy}
 use Rattle.worlds.specs.Turns.{stepIn}
-use Rattle.driver.proofs.States.{going-sound}
+use Rattle.worlds.proofs.Going.{going-sound}
 use borrow.Author.Needs.{needs}
 use Rattle.driver.proofs.poll_on.Statement.{statement}
 use Rattle.driver.proofs.poll_on.Tie as tie
@@ -17,18 +17,12 @@ by-count : (b : Bool) → eqb (cond b 1 0) 1 ≡ b
 by-count true = refl
 by-count false = refl
 
-is-over-on-requires : tie.Need-is-over-on-requires
-is-over-on-requires c κs = search needs
-
 returns : tie.Need-returns
 unfolding pollBy
 returns c = let a = c .before .before .args in ap (λ (b : Bool). not b && isWait (stepIn (a .g) (a .d))) (sym (c .if1 .taken) ∙ c .before .is-over-on .ensures)
 
 step-at-requires : tie.Need-step-at-requires
 step-at-requires c κs = let s = c .before .before .before in sound-slot (going-sound (s .args .g) (s .args .d) (s .pre) (sym (c .before .before .is-over-on .ensures) ∙ c .before .if1 .left))
-
-poll-count-requires : tie.Need-poll-count-requires
-poll-count-requires c κs = search needs
 
 returns-2 : tie.Need-returns-2
 unfolding pollBy
@@ -40,4 +34,4 @@ returns-2 c =
 
 pub poll-on-spec : {M : Type 1} → statement M
 poll-on-spec =
-    tie.close (tie.spec is-over-on-requires returns step-at-requires poll-count-requires returns-2)
+    tie.close (tie.spec (λ c κs. search needs) returns step-at-requires (λ c κs. search needs) returns-2)

@@ -9,23 +9,11 @@ use borrow.Author.Needs.{needs}
 use Rattle.driver.proofs.take_in.Statement.{statement}
 use Rattle.driver.proofs.take_in.Tie as tie
 
-part-of-requires : tie.Need-part-of-requires
-part-of-requires c κs = search needs
-
-enum-known-p : tie.Need-enum-known-p
-enum-known-p c = search needs
-
 take-on-requires : tie.Need-take-on-requires
 take-on-requires c κs = (sym (c .before .before .before .before .part-of .ensures) ∙ c .before .before .p .given .1, search needs)
 
-enum-told : tie.Need-enum-told
-enum-told c = search needs
-
 stage-requires : tie.Need-stage-requires
 stage-requires c κs = sym (c .enum-told .given .1) ∙ c .before .before .part-of .ensures
-
-with-stage-requires : tie.Need-with-stage-requires
-with-stage-requires c κs = search needs
 
 returns : tie.Need-returns
 returns c = let a = c .before .before .before .before .before .before .before .before .args in took-in (a .d) (sym (c .before .before .before .p .given .1) ∙ c .before .before .before .before .before .part-of .ensures) (a .payload .now) (a .staged .now) (a .reply .now) (c .take-on .ensures)
@@ -42,11 +30,11 @@ pub take-in-spec : {M : Type 1} → statement M
 take-in-spec =
     tie.close
     (tie.spec
-    part-of-requires
-    enum-known-p
+    (λ c κs. search needs)
+    (λ c. search needs)
     take-on-requires
-    enum-told
+    (λ c. search needs)
     stage-requires
-    with-stage-requires
+    (λ c κs. search needs)
     returns
     returns-2)

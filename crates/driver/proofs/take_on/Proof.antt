@@ -6,7 +6,8 @@ use Rattle.geometry.specs.declared.Part.the-variants.{Known}
 use Rattle.slots.specs.Driver.{isEnded}
 use Rattle.turns.proofs.Turns.{sound-slot}
 use Rattle.worlds.specs.Step.{stageBy}
-use Rattle.driver.proofs.States.{ended-took, going-took, going-sound}
+use Rattle.worlds.proofs.Going.{going-sound}
+use Rattle.driver.proofs.States.{ended-took, going-took}
 use borrow.Author.Needs.{needs}
 use Rattle.driver.proofs.take_on.Statement.{statement}
 use Rattle.driver.proofs.take_on.Tie as tie
@@ -17,12 +18,6 @@ going e = ap isEnded (sym (e .before .before .stage .ensures)) ∙ sym (e .befor
 
 stage-requires : tie.Need-stage-requires
 stage-requires c κs = sym (c .before .before .before .pre .0)
-
-has-ended-requires : tie.Need-has-ended-requires
-has-ended-requires c κs = search needs
-
-with-stage-requires : tie.Need-with-stage-requires
-with-stage-requires c κs = search needs
 
 returns : tie.Need-returns
 returns c =
@@ -37,9 +32,6 @@ take-step-requires c κs =
     let s = c .before .before .before .before .before .before .before .before .before in
     (going-sound (s .args .g) (s .args .d) (s .pre .0) (going (c .before .before .before)), c .before .step-at .ensures .0 (s .args .g), s .pre .1)
 
-same-length : tie.Need-same-length
-same-length c = search needs
-
 returns-2 : tie.Need-returns-2
 returns-2 c =
     let a = c .before .before .before .before .before .before .before .before .before .before .before .before .args in
@@ -50,10 +42,10 @@ take-on-spec =
     tie.close
     (tie.spec
     stage-requires
-    has-ended-requires
-    with-stage-requires
+    (λ c κs. search needs)
+    (λ c κs. search needs)
     returns
     step-at-requires
     take-step-requires
-    same-length
+    (λ c. search needs)
     returns-2)

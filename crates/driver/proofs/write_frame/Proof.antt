@@ -10,17 +10,8 @@ use borrow.Author.Needs.{needs}
 use Rattle.driver.proofs.write_frame.Statement.{statement}
 use Rattle.driver.proofs.write_frame.Tie as tie
 
-part-of-requires : tie.Need-part-of-requires
-part-of-requires c κs = search needs
-
-enum-known-p : tie.Need-enum-known-p
-enum-known-p c = search needs
-
 write-on-requires : tie.Need-write-on-requires
 write-on-requires c κs = (sym (c .before .before .before .before .before .part-of .ensures) ∙ c .before .before .before .p .given .1, search needs, search needs)
-
-enum-told : tie.Need-enum-told
-enum-told c = search needs
 
 returns : tie.Need-returns
 returns c =
@@ -38,4 +29,4 @@ returns-2 c =
 pub write-frame-spec : {M : Type 1} → statement M
 write-frame-spec =
     tie.close
-    (tie.spec part-of-requires enum-known-p write-on-requires enum-told returns returns-2)
+    (tie.spec (λ c κs. search needs) (λ c. search needs) write-on-requires (λ c. search needs) returns returns-2)

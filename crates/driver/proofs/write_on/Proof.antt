@@ -1,16 +1,14 @@
 -- `driver::write_on` meets its contract: a state that counts as ended has no frame, any other that of its step.
 -- Assumes nothing.
 use mathlib.Core.Path.{sym, _∙_}
-use Rattle.turns.proofs.Turns.{part-pages, sound-slot}
+use Rattle.records.proofs.Parts.{part-pages}
+use Rattle.turns.proofs.Turns.{sound-slot}
 use Rattle.driver.proofs.Frames.{nothing, ended-frame, written}
 use Rattle.geometry.proofs.Pages.{sized}
-use Rattle.driver.proofs.States.{going-sound}
+use Rattle.worlds.proofs.Going.{going-sound}
 use borrow.Author.Needs.{needs}
 use Rattle.driver.proofs.write_on.Statement.{statement}
 use Rattle.driver.proofs.write_on.Tie as tie
-
-is-over-on-requires : tie.Need-is-over-on-requires
-is-over-on-requires c κs = search needs
 
 returns : tie.Need-returns
 returns c =
@@ -25,9 +23,6 @@ write-step-requires c κs =
     let s = c .before .before .before .before .before .before .before .before in
     (part-pages _ _ (s .pre .0), sized _ _ (s .pre .0) .narrow, c .before .step-at .ensures .1, s .pre .1, s .pre .2)
 
-same-length : tie.Need-same-length
-same-length c = search needs
-
 returns-2 : tie.Need-returns-2
 returns-2 c =
     let a = c .before .before .before .before .before .before .before .before .before .before .before .args in
@@ -37,9 +32,9 @@ pub write-on-spec : {M : Type 1} → statement M
 write-on-spec =
     tie.close
     (tie.spec
-    is-over-on-requires
+    (λ c κs. search needs)
     returns
     step-at-requires
     write-step-requires
-    same-length
+    (λ c. search needs)
     returns-2)

@@ -7,39 +7,6 @@ use borrow.Author.Needs.{needs}
 use Rattle.driver_blocks.proofs.decode_course.Statement.{statement}
 use Rattle.driver_blocks.proofs.decode_course.Tie as tie
 
-element-copy-out-wide : tie.Need-element-copy-out-wide
-element-copy-out-wide c = search needs
-
-wide-requires : tie.Need-wide-requires
-wide-requires c κs = search needs
-
-number-at-requires : tie.Need-number-at-requires
-number-at-requires c κs = search needs
-
-is-ours-requires : tie.Need-is-ours-requires
-is-ours-requires c κs = search needs
-
-element-copy-out-stage : tie.Need-element-copy-out-stage
-element-copy-out-stage c = search needs
-
-element-copy-out-stage-2 : tie.Need-element-copy-out-stage-2
-element-copy-out-stage-2 c = search needs
-
-stage-requires : tie.Need-stage-requires
-stage-requires c κs = search needs
-
-element-copy-out-is-set : tie.Need-element-copy-out-is-set
-element-copy-out-is-set c = search needs
-
-is-set-requires : tie.Need-is-set-requires
-is-set-requires c κs = search needs
-
-element-copy-out-is-set-2 : tie.Need-element-copy-out-is-set-2
-element-copy-out-is-set-2 c = search needs
-
-is-set-requires-2 : tie.Need-is-set-requires-2
-is-set-requires-2 c κs = search needs
-
 returns : tie.Need-returns
 unfolding decodeCourse
 returns c =
@@ -57,15 +24,15 @@ pub decode-course-spec : {M : Type 1} → statement M
 decode-course-spec =
     tie.close
     (tie.spec
-    element-copy-out-wide
-    wide-requires
-    number-at-requires
-    is-ours-requires
-    element-copy-out-stage
-    element-copy-out-stage-2
-    stage-requires
-    element-copy-out-is-set
-    is-set-requires
-    element-copy-out-is-set-2
-    is-set-requires-2
+    (λ c. search needs)
+    (λ c κs. search needs)
+    (λ c κs. search needs)
+    (λ c κs. search needs)
+    (λ c. search needs)
+    (λ c. search needs)
+    (λ c κs. search needs)
+    (λ c. search needs)
+    (λ c κs. search needs)
+    (λ c. search needs)
+    (λ c κs. search needs)
     returns)

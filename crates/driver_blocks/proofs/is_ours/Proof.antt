@@ -8,21 +8,12 @@ use borrow.Author.Needs.{needs}
 use Rattle.driver_blocks.proofs.is_ours.Statement.{statement}
 use Rattle.driver_blocks.proofs.is_ours.Tie as tie
 
-element-copy-out-is-kind : tie.Need-element-copy-out-is-kind
-element-copy-out-is-kind c = search needs
-
-is-kind-requires : tie.Need-is-kind-requires
-is-kind-requires c κs = search needs
-
 returns : tie.Need-returns
 unfolding isOurs
 returns c =
     let x = c .before .before .before .args .block .now in
     let k : isKind (getD x 0 0) ≡ false = sym (c .before .is-kind .ensures) ∙ not-true (c .before .is-kind .result) (c .if1 .taken) in
     simp k
-
-element-copy-out-if2 : tie.Need-element-copy-out-if2
-element-copy-out-if2 c = search needs
 
 returns-2 : tie.Need-returns-2
 unfolding isOurs
@@ -31,18 +22,12 @@ returns-2 c =
     let k : isKind (getD x 0 0) ≡ true = sym (c .before .before .before .is-kind .ensures) ∙ not-false (c .before .before .before .is-kind .result) (c .before .before .if1 .left) in
     simp (k, lt-leb (getD x 1 0) 2 (c .if2 .taken))
 
-element-copy-out-if3 : tie.Need-element-copy-out-if3
-element-copy-out-if3 c = search needs
-
 returns-3 : tie.Need-returns-3
 unfolding isOurs
 returns-3 c =
     let x = c .before .before .before .before .before .before .before .args .block .now in
     let k : isKind (getD x 0 0) ≡ true = sym (c .before .before .before .before .before .is-kind .ensures) ∙ not-false (c .before .before .before .before .before .is-kind .result) (c .before .before .before .before .if1 .left) in
     simp (k, le-leb (getD x 1 0) 2 (c .before .before .if2 .left), lt-leb (getD x 2 0) 1 (c .if3 .taken))
-
-element-copy-out-result : tie.Need-element-copy-out-result
-element-copy-out-result c = search needs
 
 returns-4 : tie.Need-returns-4
 unfolding isOurs
@@ -55,12 +40,12 @@ pub is-ours-spec : {M : Type 1} → statement M
 is-ours-spec =
     tie.close
     (tie.spec
-    element-copy-out-is-kind
-    is-kind-requires
+    (λ c. search needs)
+    (λ c κs. search needs)
     returns
-    element-copy-out-if2
+    (λ c. search needs)
     returns-2
-    element-copy-out-if3
+    (λ c. search needs)
     returns-3
-    element-copy-out-result
+    (λ c. search needs)
     returns-4)

@@ -20,9 +20,6 @@ returns-2 c =
     let e : c .before .before .args .ours ≡ true = not-false (c .before .before .args .ours) (c .before .if1 .left) in
     simp (e, eq-eqb (c .before .before .args .n) 0 (c .if2 .taken))
 
-answer-at-requires : tie.Need-answer-at-requires
-answer-at-requires c κs = search needs
-
 returns-3 : tie.Need-returns-3
 unfolding stageOf
 returns-3 c =
@@ -30,4 +27,4 @@ returns-3 c =
     simp (e, ne-eqb (c .before .before .before .args .n) 0 (c .before .if2 .left)) (ap Ended (c .answer-at .ensures))
 
 pub stage-spec : {M : Type 1} → statement M
-stage-spec = tie.close (tie.spec returns returns-2 answer-at-requires returns-3)
+stage-spec = tie.close (tie.spec returns returns-2 (λ c κs. search needs) returns-3)

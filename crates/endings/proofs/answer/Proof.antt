@@ -5,14 +5,8 @@ use borrow.Author.Needs.{needs}
 use Rattle.endings.proofs.answer.Statement.{statement}
 use Rattle.endings.proofs.answer.Tie as tie
 
-tell-requires : tie.Need-tell-requires
-tell-requires c κs = search needs
-
-answer-in-requires : tie.Need-answer-in-requires
-answer-in-requires c κs = search needs
-
 returns : tie.Need-returns
 returns c = (c .answer-in) .ensures ∙ ap answerIn ((c .before .tell) .ensures)
 
 pub answer-spec : {M : Type 1} → statement M
-answer-spec = tie.close (tie.spec tell-requires answer-in-requires returns)
+answer-spec = tie.close (tie.spec (λ c κs. search needs) (λ c κs. search needs) returns)

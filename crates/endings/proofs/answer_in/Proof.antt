@@ -5,12 +5,6 @@ use borrow.Author.Needs.{needs}
 use Rattle.endings.proofs.answer_in.Statement.{statement}
 use Rattle.endings.proofs.answer_in.Tie as tie
 
-enum-told : tie.Need-enum-told
-enum-told c = search needs
-
-enum-known-t : tie.Need-enum-known-t
-enum-known-t c = search needs
-
 returns : tie.Need-returns
 unfolding answerIn
 returns c = ap answerIn (sym ((c .enum-told) .given .1))
@@ -20,4 +14,4 @@ unfolding answerIn
 returns-2 c = ap answerIn (sym ((c .before .t) .given .1))
 
 pub answer-in-spec : {M : Type 1} → statement M
-answer-in-spec = tie.close (tie.spec enum-told enum-known-t returns returns-2)
+answer-in-spec = tie.close (tie.spec (λ c. search needs) (λ c. search needs) returns returns-2)

@@ -8,15 +8,6 @@ use borrow.Author.Needs.{needs}
 use Rattle.endings.proofs.lay_over.Statement.{statement}
 use Rattle.endings.proofs.lay_over.Tie as tie
 
-lesser-requires : tie.Need-lesser-requires
-lesser-requires c κs = search needs
-
-lesser-requires-2 : tie.Need-lesser-requires-2
-lesser-requires-2 c κs = search needs
-
-slice-relend-prefix-copy : tie.Need-slice-relend-prefix-copy
-slice-relend-prefix-copy c = search needs
-
 slice-aggregate-copy : tie.Need-slice-aggregate-copy
 slice-aggregate-copy c = simp length-take (omega arith)
 
@@ -25,9 +16,6 @@ slice-aggregate-copy-2 c = simp length-take (omega arith)
 
 copy-requires : tie.Need-copy-requires
 copy-requires c κs = simp length-take (omega arith)
-
-same-length : tie.Need-same-length
-same-length c = search needs
 
 returns : tie.Need-returns
 returns c =
@@ -39,11 +27,11 @@ pub lay-over-spec : {M : Type 1} → statement M
 lay-over-spec =
     tie.close
     (tie.spec
-    lesser-requires
-    lesser-requires-2
-    slice-relend-prefix-copy
+    (λ c κs. search needs)
+    (λ c κs. search needs)
+    (λ c. search needs)
     slice-aggregate-copy
     slice-aggregate-copy-2
     copy-requires
-    same-length
+    (λ c. search needs)
     returns)

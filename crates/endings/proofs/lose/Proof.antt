@@ -23,9 +23,6 @@ returns c =
 cut-requires : tie.Need-cut-requires
 cut-requires c κs = ((c .before .before .before .before .before .before .pre) .0, (c .before .before .before .before .before .before .pre) .2 (not-false ((c .before .before .before .before .before .before .args) .s .cut) ((c .before .before .if1) .left)))
 
-same-length : tie.Need-same-length
-same-length c = search needs
-
 returns-2 : tie.Need-returns-2
 unfolding lastOf
 returns-2 c =
@@ -35,4 +32,4 @@ returns-2 c =
     ((c .before .before .cut) .ensures .0 ∙ ap (λ (b : Bool). cond b (cutState (a .g) (a .junk .now) s) s) (sym e), (c .before .before .cut) .ensures .1)
 
 pub lose-spec : {M : Type 1} → statement M
-lose-spec = tie.close (tie.spec returns cut-requires same-length returns-2)
+lose-spec = tie.close (tie.spec returns cut-requires (λ c. search needs) returns-2)

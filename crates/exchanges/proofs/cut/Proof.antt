@@ -6,12 +6,6 @@ use borrow.Author.Needs.{needs}
 use Rattle.exchanges.proofs.cut.Statement.{statement}
 use Rattle.exchanges.proofs.cut.Tie as tie
 
-cut-requires : tie.Need-cut-requires
-cut-requires c κs = search needs
-
-same-length : tie.Need-same-length
-same-length c = search needs
-
 returns : tie.Need-returns
 returns c =
     let s = c .before .before .before .before .before .before .before in
@@ -19,4 +13,4 @@ returns c =
     cut-left (a .g) (heldIn (a .block .now) (a .array .now)) (a .junk .now) (s .pre .0) (s .pre .1) (c .before .before .cut .ensures)
 
 pub cut-spec : {M : Type 1} → statement M
-cut-spec = tie.close (tie.spec cut-requires same-length returns)
+cut-spec = tie.close (tie.spec (λ c κs. search needs) (λ c. search needs) returns)

@@ -11,9 +11,6 @@ use borrow.Author.Needs.{needs}
 use Rattle.exchanges.proofs.exchange.Statement.{statement}
 use Rattle.exchanges.proofs.exchange.Tie as tie
 
-send-requires : tie.Need-send-requires
-send-requires c κs = search needs
-
 put-outline-requires : tie.Need-put-outline-requires
 put-outline-requires c κs = let s = c .before .before .before .before .before .before .before .before .before .before .before in (s .pre .2, framed-in _ _ (s .pre .1) .1)
 
@@ -26,15 +23,6 @@ settle-requires c κs =
       ap partIn (sent-state (a .g) t (a .frame .now) (a .reply .now) (s .pre .0) (s .pre .1) send) ∙ sent-placed (a .g) (a .frame .now) t (s .pre .0),
       sent-form (a .g) t (a .frame .now) (a .reply .now) (s .pre .0) (s .pre .1) send,
     )
-
-same-length : tie.Need-same-length
-same-length c = search needs
-
-same-length-2 : tie.Need-same-length-2
-same-length-2 c = search needs
-
-same-length-3 : tie.Need-same-length-3
-same-length-3 c = search needs
 
 returns : tie.Need-returns
 returns c =
@@ -55,10 +43,10 @@ pub exchange-spec : {M : Type 1} → statement M
 exchange-spec =
     tie.close
     (tie.spec
-    send-requires
+    (λ c κs. search needs)
     put-outline-requires
     settle-requires
-    same-length
-    same-length-2
-    same-length-3
+    (λ c. search needs)
+    (λ c. search needs)
+    (λ c. search needs)
     returns)

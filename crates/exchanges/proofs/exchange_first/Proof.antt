@@ -16,9 +16,6 @@ slice-aggregate-exchange c =
     let s = c .before .before .before .before .before .before .before in
     sym (length-take-le (s .args .n) (s .args .frame .now) (s .pre .1))
 
-slice-relend-prefix-exchange : tie.Need-slice-relend-prefix-exchange
-slice-relend-prefix-exchange c = search needs
-
 slice-aggregate-exchange-2 : tie.Need-slice-aggregate-exchange-2
 slice-aggregate-exchange-2 c =
     let s = c .before .before .before .before .before .before .before .before in
@@ -32,15 +29,6 @@ exchange-requires c κs =
     let r : length (take (a .n) (a .reply .now)) ≡ a .n = length-take-le (a .n) (a .reply .now) (s .pre .2) in
     (s .pre .0, subst⁻¹ (λ (k : ℕ). framed k (length (take (a .n) (a .reply .now))) ≡ true) f (subst⁻¹ (λ (k : ℕ). framed (a .n) k ≡ true) r (s .pre .3)), s .pre .4)
 
-same-length : tie.Need-same-length
-same-length c = search needs
-
-same-length-2 : tie.Need-same-length-2
-same-length-2 c = search needs
-
-same-length-3 : tie.Need-same-length-3
-same-length-3 c = search needs
-
 returns : tie.Need-returns
 returns c =
     let s = c .before .before .before .before .before .before .before .before .before .before .before .before .before .before .before .before in
@@ -53,10 +41,10 @@ exchange-first-spec =
     tie.close
     (tie.spec
     slice-aggregate-exchange
-    slice-relend-prefix-exchange
+    (λ c. search needs)
     slice-aggregate-exchange-2
     exchange-requires
-    same-length
-    same-length-2
-    same-length-3
+    (λ c. search needs)
+    (λ c. search needs)
+    (λ c. search needs)
     returns)

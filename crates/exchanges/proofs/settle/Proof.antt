@@ -14,12 +14,6 @@ returns c =
     let a = s .args in
     (other-byte (a .g) (a .b) (heldIn (a .block .now) (a .array .now)) (c .if1 .taken), s .pre .1)
 
-operation-requires : tie.Need-operation-requires
-operation-requires c κs = search needs
-
-enum-told : tie.Need-enum-told
-enum-told c = search needs
-
 returns-2 : tie.Need-returns-2
 unfolding decodeChip decodeRegisters
 returns-2 c =
@@ -27,12 +21,6 @@ returns-2 c =
     let a = s .args in
     let e = sym (c .before .before .operation .ensures .0) ∙ c .enum-told .given .1 in
     (zero-idle (a .g) (a .b) (heldIn (a .block .now) (a .array .now)) (c .before .before .before .before .before .if1 .left) e, s .pre .1)
-
-end-busy-requires : tie.Need-end-busy-requires
-end-busy-requires c κs = search needs
-
-same-length : tie.Need-same-length
-same-length c = search needs
 
 returns-3 : tie.Need-returns-3
 returns-3 c =
@@ -45,9 +33,9 @@ settle-spec =
     tie.close
     (tie.spec
     returns
-    operation-requires
-    enum-told
+    (λ c κs. search needs)
+    (λ c. search needs)
     returns-2
-    end-busy-requires
-    same-length
+    (λ c κs. search needs)
+    (λ c. search needs)
     returns-3)

@@ -1,7 +1,7 @@
 -- `frames::act` meets its contract: each arm is a clause of `written`.
 -- Assumes nothing.
 use borrow.Author.Needs.{needs}
-use mathlib.Core.List.{List, _++_, append-assoc}
+use mathlib.Core.List.{List, [], _∷_, _++_, append-assoc}
 use mathlib.Core.Path.{_≡_, sym, ap, _∙_}
 use Prim.Native.Nat.{ℕ, _≤_}
 use native.Mathlib.Omega.{arith}
@@ -9,7 +9,13 @@ use lib.ListN.{length, take, drop, take-append-drop}
 use lib.Seq.{length-take-le, drop-append-le}
 use Rattle.slices.specs.Lists.{over, splice}
 use Rattle.slices.proofs.Laws.{over-append, length-over, splice-zero}
+use types.Run.{OneOf, miss}
+use denote.Enum.Declared.{tagOf}
+use Rattle.geometry.specs.declared.Geometry.{Geometry}
 use Rattle.commands.specs.declared.Buffer.the-variants.{One}
+use Rattle.control.specs.declared.Action.{Action}
+use Rattle.control.specs.declared.Action.the-variants.{Silent, ReadPage, ReadArray, ReadBuffer, WriteBuffer, LoadProtection, LoadSecurity, ReadProtection, ReadLockdown, ReadSecurity, ReadStatus, ReadId}
+use Rattle.control.proofs.Action.{the-type}
 use Rattle.registers.specs.Data.{bytes16, bytes64}
 use Rattle.registers.proofs.Data.{length-bytes16, length-bytes64}
 use Rattle.state.specs.Lent.{actedOn}
@@ -33,145 +39,87 @@ lent-begun d bs h long =
     ∙ (λ i. sym e i ++ drop (sym l i) bs)
     ∙ sym (over-append x bs (omega arith)) ∙ sym (splice-zero x bs)
 
-enum-told : tie.Need-enum-told
-enum-told c = search needs
+-- the tags of the actions that write no buffer
+abbrev others : List ℕ
+others = 0 ∷ 1 ∷ 2 ∷ 3 ∷ 7 ∷ 8 ∷ 9 ∷ 10 ∷ 11 ∷ []
 
-enum-told-2 : tie.Need-enum-told-2
-enum-told-2 c = search needs
-
-enum-told-3 : tie.Need-enum-told-3
-enum-told-3 c = search needs
-
-enum-told-4 : tie.Need-enum-told-4
-enum-told-4 c = search needs
-
-enum-known-a : tie.Need-enum-known-a
-enum-known-a c = search needs
+untouched : (g : Geometry) (a : Action) (bytes bs : List ℕ) → OneOf others (tagOf the-type a) → length bs ≡ 528 → bs ≡ actedOn g a bytes bs
+unfolding actedOn bufferWritten written
+untouched g Silent bytes bs h long = sym (lent-same bs long One)
+untouched g (ReadPage p s) bytes bs h long = sym (lent-same bs long One)
+untouched g (ReadArray s) bytes bs h long = sym (lent-same bs long One)
+untouched g (ReadBuffer b s) bytes bs h long = sym (lent-same bs long One)
+untouched g (WriteBuffer b s) bytes bs h long = absurd (miss others 4 tt h)
+untouched g (LoadProtection d) bytes bs h long = absurd (miss others 5 tt h)
+untouched g (LoadSecurity d) bytes bs h long = absurd (miss others 6 tt h)
+untouched g ReadProtection bytes bs h long = sym (lent-same bs long One)
+untouched g ReadLockdown bytes bs h long = sym (lent-same bs long One)
+untouched g ReadSecurity bytes bs h long = sym (lent-same bs long One)
+untouched g ReadStatus bytes bs h long = sym (lent-same bs long One)
+untouched g ReadId bytes bs h long = sym (lent-same bs long One)
 
 write-buffer-requires : tie.Need-write-buffer-requires
 write-buffer-requires c κs =
     let s = c .before .before .before .before .before .before in
     (s .pre .0, names-write (s .args .g) (s .args .a) _ _ (c .before .before .a .given .1) (s .pre .1), s .pre .2)
 
-enum-known-a-2 : tie.Need-enum-known-a-2
-enum-known-a-2 c = search needs
+lay-requires : tie.Need-lay-requires
+lay-requires c κs =
+    let s = c .before .before .before .before .before .before .before .before in
+    let k : length (c .before .before .unpacked16 .result) ≡ 16 = search needs in
+    omega (arith, s .pre .2)
 
-load-protection-requires : tie.Need-load-protection-requires
-load-protection-requires c κs = search needs
-
-enum-known-a-3 : tie.Need-enum-known-a-3
-enum-known-a-3 c = search needs
-
-load-security-requires : tie.Need-load-security-requires
-load-security-requires c κs = search needs
-
-enum-told-5 : tie.Need-enum-told-5
-enum-told-5 c = search needs
-
-enum-told-6 : tie.Need-enum-told-6
-enum-told-6 c = search needs
-
-enum-told-7 : tie.Need-enum-told-7
-enum-told-7 c = search needs
-
-enum-told-8 : tie.Need-enum-told-8
-enum-told-8 c = search needs
-
-enum-told-9 : tie.Need-enum-told-9
-enum-told-9 c = search needs
+lay-requires-2 : tie.Need-lay-requires-2
+lay-requires-2 c κs =
+    let s = c .before .before .before .before .before .before .before .before in
+    let k : length (c .before .before .unpacked64 .result) ≡ 64 = search needs in
+    omega (arith, s .pre .2)
 
 returns : tie.Need-returns
 unfolding actedOn bufferWritten written
-returns c = rw (c .enum-told .given .1) (sym (lent-same (c .before .before .before .before .args .buffers .now) (c .before .before .before .before .pre .2) One))
+returns c = rw (c .before .before .before .before .before .a .given .1) (c .before .before .write-buffer .ensures)
 
 returns-2 : tie.Need-returns-2
 unfolding actedOn bufferWritten written
-returns-2 c = rw (c .enum-told2 .given .1) (sym (lent-same (c .before .before .before .before .args .buffers .now) (c .before .before .before .before .pre .2) One))
+returns-2 c =
+    let s = c .before .before .before .before .before .before .before .before .before .before .before in
+    let d = c .before .before .before .before .before .before .before .a2 .given .0 .0 in
+    rw (c .before .before .before .before .before .before .before .a2 .given .1)
+    (c .before .before .lay .ensures ∙ ap (λ (l : List ℕ). over l (s .args .buffers .now)) (c .before .before .before .before .before .unpacked16 .ensures)
+    ∙ lent-begun (bytes16 d) (s .args .buffers .now) (omega (arith, length-bytes16 d)) (s .pre .2))
 
 returns-3 : tie.Need-returns-3
 unfolding actedOn bufferWritten written
-returns-3 c = rw (c .enum-told3 .given .1) (sym (lent-same (c .before .before .before .before .args .buffers .now) (c .before .before .before .before .pre .2) One))
+returns-3 c =
+    let s = c .before .before .before .before .before .before .before .before .before .before .before in
+    let d = c .before .before .before .before .before .before .before .a3 .given .0 .0 in
+    rw (c .before .before .before .before .before .before .before .a3 .given .1)
+    (c .before .before .lay2 .ensures ∙ ap (λ (l : List ℕ). over l (s .args .buffers .now)) (c .before .before .before .before .before .unpacked64 .ensures)
+    ∙ lent-begun (bytes64 d) (s .args .buffers .now) (omega (arith, length-bytes64 d)) (s .pre .2))
 
 returns-4 : tie.Need-returns-4
-unfolding actedOn bufferWritten written
-returns-4 c = rw (c .enum-told4 .given .1) (sym (lent-same (c .before .before .before .before .args .buffers .now) (c .before .before .before .before .pre .2) One))
-
-same-length : tie.Need-same-length
-same-length c = search needs
-
-returns-5 : tie.Need-returns-5
-unfolding actedOn bufferWritten written
-returns-5 c = rw (c .before .before .before .before .before .a .given .1) (c .before .before .write-buffer .ensures)
-
-same-length-2 : tie.Need-same-length-2
-same-length-2 c = search needs
-
-returns-6 : tie.Need-returns-6
-unfolding actedOn bufferWritten written
-returns-6 c =
-    let d = c .before .before .before .before .before .a2 .given .0 .0 in
-    rw (c .before .before .before .before .before .a2 .given .1) (c .before .before .load-protection .ensures ∙ lent-begun (bytes16 d) (c .before .before .before .before .before .before .before .before .before .args .buffers .now) (omega (arith, length-bytes16 d)) (c .before .before .before .before .before .before .before .before .before .pre .2))
-
-same-length-3 : tie.Need-same-length-3
-same-length-3 c = search needs
-
-returns-7 : tie.Need-returns-7
-unfolding actedOn bufferWritten written
-returns-7 c =
-    let d = c .before .before .before .before .before .a3 .given .0 .0 in
-    rw (c .before .before .before .before .before .a3 .given .1) (c .before .before .load-security .ensures ∙ lent-begun (bytes64 d) (c .before .before .before .before .before .before .before .before .before .args .buffers .now) (omega (arith, length-bytes64 d)) (c .before .before .before .before .before .before .before .before .before .pre .2))
-
-returns-8 : tie.Need-returns-8
-unfolding actedOn bufferWritten written
-returns-8 c = rw (c .enum-told5 .given .1) (sym (lent-same (c .before .before .before .before .args .buffers .now) (c .before .before .before .before .pre .2) One))
-
-returns-9 : tie.Need-returns-9
-unfolding actedOn bufferWritten written
-returns-9 c = rw (c .enum-told6 .given .1) (sym (lent-same (c .before .before .before .before .args .buffers .now) (c .before .before .before .before .pre .2) One))
-
-returns-10 : tie.Need-returns-10
-unfolding actedOn bufferWritten written
-returns-10 c = rw (c .enum-told7 .given .1) (sym (lent-same (c .before .before .before .before .args .buffers .now) (c .before .before .before .before .pre .2) One))
-
-returns-11 : tie.Need-returns-11
-unfolding actedOn bufferWritten written
-returns-11 c = rw (c .enum-told8 .given .1) (sym (lent-same (c .before .before .before .before .args .buffers .now) (c .before .before .before .before .pre .2) One))
-
-returns-12 : tie.Need-returns-12
-unfolding actedOn bufferWritten written
-returns-12 c = rw (c .enum-told9 .given .1) (sym (lent-same (c .before .before .before .before .args .buffers .now) (c .before .before .before .before .pre .2) One))
+returns-4 c =
+    let s = c .before .before .before in
+    untouched (s .args .g) (s .args .a) (s .args .bytes .now) (s .args .buffers .now) (c .match .keys4) (s .pre .2)
 
 pub act-spec : {M : Type 1} → statement M
 act-spec =
     tie.close
     (tie.spec
-    enum-told
-    enum-told-2
-    enum-told-3
-    enum-told-4
-    enum-known-a
+    (λ c. search needs)
     write-buffer-requires
-    enum-known-a-2
-    load-protection-requires
-    enum-known-a-3
-    load-security-requires
-    enum-told-5
-    enum-told-6
-    enum-told-7
-    enum-told-8
-    enum-told-9
+    (λ c. search needs)
+    (λ c κs. search needs)
+    (λ c. search needs)
+    lay-requires
+    (λ c. search needs)
+    (λ c κs. search needs)
+    (λ c. search needs)
+    lay-requires-2
+    (λ c. search needs)
     returns
+    (λ c. search needs)
     returns-2
+    (λ c. search needs)
     returns-3
-    returns-4
-    same-length
-    returns-5
-    same-length-2
-    returns-6
-    same-length-3
-    returns-7
-    returns-8
-    returns-9
-    returns-10
-    returns-11
-    returns-12)
+    returns-4)

@@ -11,30 +11,12 @@ use Rattle.memory.specs.Replies.{replied, ringData}
 use Rattle.frames.proofs.reply_buffer.Statement.{statement}
 use Rattle.frames.proofs.reply_buffer.Tie as tie
 
-buffer-start-requires : tie.Need-buffer-start-requires
-buffer-start-requires c κs = search needs
-
-add-e : tie.Need-add-e
-add-e c = search needs
-
-sub-reply-ring : tie.Need-sub-reply-ring
-sub-reply-ring c = search needs
-
-part-reply-ring-start : tie.Need-part-reply-ring-start
-part-reply-ring-start c = search needs
-
-part-reply-ring-end : tie.Need-part-reply-ring-end
-part-reply-ring-end c = search needs
-
 reply-ring-requires : tie.Need-reply-ring-requires
 reply-ring-requires c κs =
     let s = c .before .before .before .before .before in
     let a = c .before .before .buffer-start .result in
     let l = run-length a 264 (s .args .buffers .now) (omega arith) in
     (s .pre .2, s .pre .1, omega arith)
-
-same-length : tie.Need-same-length
-same-length c = search needs
 
 returns : tie.Need-returns
 returns c =
@@ -48,11 +30,11 @@ pub reply-buffer-spec : {M : Type 1} → statement M
 reply-buffer-spec =
     tie.close
     (tie.spec
-    buffer-start-requires
-    add-e
-    sub-reply-ring
-    part-reply-ring-start
-    part-reply-ring-end
+    (λ c κs. search needs)
+    (λ c. search needs)
+    (λ c. search needs)
+    (λ c. search needs)
+    (λ c. search needs)
     reply-ring-requires
-    same-length
+    (λ c. search needs)
     returns)

@@ -10,21 +10,6 @@ use Rattle.state.specs.Frames.{isFree, isIdle, statusOf}
 use Rattle.frames.proofs.reply_status.Statement.{statement}
 use Rattle.frames.proofs.reply_status.Tie as tie
 
-is-free-requires : tie.Need-is-free-requires
-is-free-requires c κs = search needs
-
-is-guarded-requires : tie.Need-is-guarded-requires
-is-guarded-requires c κs = search needs
-
-status-requires : tie.Need-status-requires
-status-requires c κs = search needs
-
-reply-repeated-requires : tie.Need-reply-repeated-requires
-reply-repeated-requires c κs = search needs
-
-same-length : tie.Need-same-length
-same-length c = search needs
-
 returns : tie.Need-returns
 unfolding isIdle
 returns c =
@@ -39,9 +24,9 @@ pub reply-status-spec : {M : Type 1} → statement M
 reply-status-spec =
     tie.close
     (tie.spec
-    is-free-requires
-    is-guarded-requires
-    status-requires
-    reply-repeated-requires
-    same-length
+    (λ c κs. search needs)
+    (λ c κs. search needs)
+    (λ c κs. search needs)
+    (λ c κs. search needs)
+    (λ c. search needs)
     returns)

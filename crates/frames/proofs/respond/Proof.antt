@@ -23,136 +23,49 @@ either-lent : (b : Buffer) (size start lead n : ℕ) (bs : List ℕ)
 either-lent One size start lead n bs = refl
 either-lent Two size start lead n bs = refl
 
-enum-told : tie.Need-enum-told
-enum-told c = search needs
-
-reply-nothing-requires : tie.Need-reply-nothing-requires
-reply-nothing-requires c κs = search needs
-
-enum-known-a : tie.Need-enum-known-a
-enum-known-a c = search needs
-
 reply-page-requires : tie.Need-reply-page-requires
 reply-page-requires c κs =
     let s = c .before .before .before .before .before .before .before .before .before in
     let n = names-page (s .args .g) (s .args .a) _ _ (c .before .before .a .given .1) (s .pre .1) in
     (s .pre .0, n .0, n .1, s .pre .2)
 
-enum-known-a-2 : tie.Need-enum-known-a-2
-enum-known-a-2 c = search needs
-
 reply-ring-requires : tie.Need-reply-ring-requires
 reply-ring-requires c κs =
     let s = c .before .before .before .before .before .before .before .before .before in
     (s .pre .2, omega (arith, names-array (s .args .g) (s .args .a) _ (c .before .before .a2 .given .1) (s .pre .1), s .pre .0 .whole), omega arith)
-
-enum-known-a-3 : tie.Need-enum-known-a-3
-enum-known-a-3 c = search needs
 
 reply-buffer-requires : tie.Need-reply-buffer-requires
 reply-buffer-requires c κs =
     let s = c .before .before .before .before .before .before .before .before .before in
     (s .pre .0 .most, names-read (s .args .g) (s .args .a) _ _ (c .before .before .a3 .given .1) (s .pre .1), s .pre .2, s .pre .3)
 
-enum-told-2 : tie.Need-enum-told-2
-enum-told-2 c = search needs
-
-reply-nothing-requires-2 : tie.Need-reply-nothing-requires-2
-reply-nothing-requires-2 c κs = search needs
-
-enum-told-3 : tie.Need-enum-told-3
-enum-told-3 c = search needs
-
-reply-nothing-requires-3 : tie.Need-reply-nothing-requires-3
-reply-nothing-requires-3 c κs = search needs
-
-enum-told-4 : tie.Need-enum-told-4
-enum-told-4 c = search needs
-
-reply-nothing-requires-4 : tie.Need-reply-nothing-requires-4
-reply-nothing-requires-4 c κs = search needs
-
-enum-told-5 : tie.Need-enum-told-5
-enum-told-5 c = search needs
-
-reply-register-requires : tie.Need-reply-register-requires
-reply-register-requires c κs = search needs
-
-enum-told-6 : tie.Need-enum-told-6
-enum-told-6 c = search needs
-
-reply-register-requires-2 : tie.Need-reply-register-requires-2
-reply-register-requires-2 c κs = search needs
-
-enum-told-7 : tie.Need-enum-told-7
-enum-told-7 c = search needs
-
-reply-once-requires : tie.Need-reply-once-requires
-reply-once-requires c κs = search needs
-
-enum-told-8 : tie.Need-enum-told-8
-enum-told-8 c = search needs
-
-reply-status-requires : tie.Need-reply-status-requires
-reply-status-requires c κs = search needs
-
-enum-told-9 : tie.Need-enum-told-9
-enum-told-9 c = search needs
-
-reply-identity-requires : tie.Need-reply-identity-requires
-reply-identity-requires c κs = search needs
-
-same-length : tie.Need-same-length
-same-length c = search needs
-
 returns : tie.Need-returns
 unfolding dataOf
 returns c = λ r e k. rw (c .before .before .before .before .enum-told .given .1) (c .before .before .reply-nothing .ensures)
-
-same-length-2 : tie.Need-same-length-2
-same-length-2 c = search needs
 
 returns-2 : tie.Need-returns-2
 unfolding dataOf
 returns-2 c = λ r e k. rw (c .before .before .before .before .before .a .given .1) (c .before .before .reply-page .ensures)
 
-same-length-3 : tie.Need-same-length-3
-same-length-3 c = search needs
-
 returns-3 : tie.Need-returns-3
 unfolding dataOf
 returns-3 c = λ r e k. rw (c .before .before .before .before .before .a2 .given .1) (c .before .before .reply-ring .ensures)
-
-same-length-4 : tie.Need-same-length-4
-same-length-4 c = search needs
 
 returns-4 : tie.Need-returns-4
 unfolding dataOf
 returns-4 c = λ r e k. rw (c .before .before .before .before .before .a3 .given .1) (c .before .before .reply-buffer .ensures ∙ either-lent (c .before .before .before .before .before .a3 .given .0 .0) (c .before .before .before .before .before .before .before .before .before .before .before .before .args .g .size) (c .before .before .before .before .before .a3 .given .0 .1 .0) (c .before .before .before .before .before .before .before .before .before .before .before .before .args .lead) (length (c .before .before .before .before .before .before .before .before .before .before .before .before .args .reply .now)) (c .before .before .before .before .before .before .before .before .before .before .before .before .args .buffers .now))
 
-same-length-5 : tie.Need-same-length-5
-same-length-5 c = search needs
-
 returns-5 : tie.Need-returns-5
 unfolding dataOf
 returns-5 c = λ r e k. rw (c .before .before .before .before .enum-told2 .given .1) (c .before .before .reply-nothing2 .ensures)
-
-same-length-6 : tie.Need-same-length-6
-same-length-6 c = search needs
 
 returns-6 : tie.Need-returns-6
 unfolding dataOf
 returns-6 c = λ r e k. rw (c .before .before .before .before .enum-told3 .given .1) (c .before .before .reply-nothing3 .ensures)
 
-same-length-7 : tie.Need-same-length-7
-same-length-7 c = search needs
-
 returns-7 : tie.Need-returns-7
 unfolding dataOf
 returns-7 c = λ r e k. rw (c .before .before .before .before .enum-told4 .given .1) (c .before .before .reply-nothing4 .ensures)
-
-same-length-8 : tie.Need-same-length-8
-same-length-8 c = search needs
 
 returns-8 : tie.Need-returns-8
 unfolding dataOf
@@ -162,9 +75,6 @@ returns-8 c =
     rw (c .before .before .before .before .before .enum-told5 .given .1)
     (c .before .before .reply-register .ensures ∙ ap (λ (x : Marks). replied (length (s .reply .now)) (s .lead) (onceData (x .seals .protection))) (sym e))
 
-same-length-9 : tie.Need-same-length-9
-same-length-9 c = search needs
-
 returns-9 : tie.Need-returns-9
 unfolding dataOf
 returns-9 c =
@@ -172,9 +82,6 @@ returns-9 c =
     λ r e k.
     rw (c .before .before .before .before .before .enum-told6 .given .1)
     (c .before .before .reply-register2 .ensures ∙ ap (λ (x : Marks). replied (length (s .reply .now)) (s .lead) (onceData (x .seals .lockdown))) (sym e))
-
-same-length-10 : tie.Need-same-length-10
-same-length-10 c = search needs
 
 returns-10 : tie.Need-returns-10
 unfolding dataOf
@@ -184,15 +91,9 @@ returns-10 c =
     rw (c .before .before .before .before .enum-told7 .given .1)
     (c .before .before .reply-once .ensures ∙ ap (λ (l : List ℕ). replied (length (s .reply .now)) (s .lead) (onceData l)) k)
 
-same-length-11 : tie.Need-same-length-11
-same-length-11 c = search needs
-
 returns-11 : tie.Need-returns-11
 unfolding dataOf
 returns-11 c = λ r e k. rw (c .before .before .before .before .enum-told8 .given .1) (c .before .before .reply-status .ensures r e)
-
-same-length-12 : tie.Need-same-length-12
-same-length-12 c = search needs
 
 returns-12 : tie.Need-returns-12
 unfolding dataOf
@@ -202,51 +103,51 @@ pub respond-spec : {M : Type 1} → statement M
 respond-spec =
     tie.close
     (tie.spec
-    enum-told
-    reply-nothing-requires
-    enum-known-a
+    (λ c. search needs)
+    (λ c κs. search needs)
+    (λ c. search needs)
     reply-page-requires
-    enum-known-a-2
+    (λ c. search needs)
     reply-ring-requires
-    enum-known-a-3
+    (λ c. search needs)
     reply-buffer-requires
-    enum-told-2
-    reply-nothing-requires-2
-    enum-told-3
-    reply-nothing-requires-3
-    enum-told-4
-    reply-nothing-requires-4
-    enum-told-5
-    reply-register-requires
-    enum-told-6
-    reply-register-requires-2
-    enum-told-7
-    reply-once-requires
-    enum-told-8
-    reply-status-requires
-    enum-told-9
-    reply-identity-requires
-    same-length
+    (λ c. search needs)
+    (λ c κs. search needs)
+    (λ c. search needs)
+    (λ c κs. search needs)
+    (λ c. search needs)
+    (λ c κs. search needs)
+    (λ c. search needs)
+    (λ c κs. search needs)
+    (λ c. search needs)
+    (λ c κs. search needs)
+    (λ c. search needs)
+    (λ c κs. search needs)
+    (λ c. search needs)
+    (λ c κs. search needs)
+    (λ c. search needs)
+    (λ c κs. search needs)
+    (λ c. search needs)
     returns
-    same-length-2
+    (λ c. search needs)
     returns-2
-    same-length-3
+    (λ c. search needs)
     returns-3
-    same-length-4
+    (λ c. search needs)
     returns-4
-    same-length-5
+    (λ c. search needs)
     returns-5
-    same-length-6
+    (λ c. search needs)
     returns-6
-    same-length-7
+    (λ c. search needs)
     returns-7
-    same-length-8
+    (λ c. search needs)
     returns-8
-    same-length-9
+    (λ c. search needs)
     returns-9
-    same-length-10
+    (λ c. search needs)
     returns-10
-    same-length-11
+    (λ c. search needs)
     returns-11
-    same-length-12
+    (λ c. search needs)
     returns-12)

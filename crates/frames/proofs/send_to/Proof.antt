@@ -26,32 +26,11 @@ long s = (search needs, search needs)
 both : (p : tie.After-buffers-of) → length (p .buffers-of .result) ≡ 528
 both p = search needs
 
-is-framed-requires : tie.Need-is-framed-requires
-is-framed-requires c κs = search needs
-
 returns : tie.Need-returns
 returns c =
     let a = c .before .before .before .before .before .args in
     let t = sym (c .before .is-framed .ensures) ∙ not-true _ (c .if1 .taken) in
     leaves-refused Answers.Frame (a .c) (a .array .now) (a .reply .now) (known-frame (stateOf (a .c) (a .array .now)) (a .frame .now) (a .reply .now) (a .g) t)
-
-marks-of-requires : tie.Need-marks-of-requires
-marks-of-requires c κs = search needs
-
-control-frame-requires : tie.Need-control-frame-requires
-control-frame-requires c κs = search needs
-
-security-of-requires : tie.Need-security-of-requires
-security-of-requires c κs = search needs
-
-buffers-of-requires : tie.Need-buffers-of-requires
-buffers-of-requires c κs = search needs
-
-slice-aggregate-respond : tie.Need-slice-aggregate-respond
-slice-aggregate-respond c = search needs
-
-slice-aggregate-respond-2 : tie.Need-slice-aggregate-respond-2
-slice-aggregate-respond-2 c = search needs
 
 respond-requires : tie.Need-respond-requires
 respond-requires c κs =
@@ -67,9 +46,6 @@ respond-requires c κs =
       n,
     )
 
-slice-aggregate-act : tie.Need-slice-aggregate-act
-slice-aggregate-act c = search needs
-
 sub-act : tie.Need-sub-act
 sub-act c =
     let a = c .before .before .before .before .before .before .before .before .before .before .before .before .before .before .before .before .before .args in
@@ -82,9 +58,6 @@ part-act-start c =
     let r = a .c .registers in
     decided-lead (a .g) r (a .frame .now) _ (c .before .before .before .before .before .before .before .before .before .control-frame .ensures r (sym (c .before .before .before .before .before .before .before .before .before .before .marks-of .ensures))) _ refl
 
-part-act-end : tie.Need-part-act-end
-part-act-end c = search needs
-
 act-requires : tie.Need-act-requires
 act-requires c κs =
     let s = c .before .before .before .before .before .before .before .before .before .before .before .before .before .before .before .before .before .before in
@@ -92,15 +65,6 @@ act-requires c κs =
     let r = a .c .registers in
     let n = both (c .before .before .before .before .before .before .before .before) in
     (s .pre .most, decided-names (a .g) r (a .frame .now) _ (c .before .before .before .before .before .before .before .before .before .before .control-frame .ensures r (sym (c .before .before .before .before .before .before .before .before .before .before .before .marks-of .ensures))) _ (s .pre), n)
-
-apply-requires : tie.Need-apply-requires
-apply-requires c κs = search needs
-
-chip-of-requires : tie.Need-chip-of-requires
-chip-of-requires c κs = search needs
-
-same-length : tie.Need-same-length
-same-length c = search needs
 
 returns-2 : tie.Need-returns-2
 unfolding sentState
@@ -130,21 +94,21 @@ pub send-to-spec : {M : Type 1} → statement M
 send-to-spec =
     tie.close
     (tie.spec
-    is-framed-requires
+    (λ c κs. search needs)
     returns
-    marks-of-requires
-    control-frame-requires
-    security-of-requires
-    buffers-of-requires
-    slice-aggregate-respond
-    slice-aggregate-respond-2
+    (λ c κs. search needs)
+    (λ c κs. search needs)
+    (λ c κs. search needs)
+    (λ c κs. search needs)
+    (λ c. search needs)
+    (λ c. search needs)
     respond-requires
-    slice-aggregate-act
+    (λ c. search needs)
     sub-act
     part-act-start
-    part-act-end
+    (λ c. search needs)
     act-requires
-    apply-requires
-    chip-of-requires
-    same-length
+    (λ c κs. search needs)
+    (λ c κs. search needs)
+    (λ c. search needs)
     returns-2)

@@ -11,30 +11,12 @@ use Rattle.slices.proofs.Laws.{run-part, run-length, kept-spliced}
 use Rattle.frames.proofs.write_buffer.Statement.{statement}
 use Rattle.frames.proofs.write_buffer.Tie as tie
 
-buffer-start-requires : tie.Need-buffer-start-requires
-buffer-start-requires c κs = search needs
-
-add-e : tie.Need-add-e
-add-e c = search needs
-
-sub-ring-write : tie.Need-sub-ring-write
-sub-ring-write c = search needs
-
-part-ring-write-start : tie.Need-part-ring-write-start
-part-ring-write-start c = search needs
-
-part-ring-write-end : tie.Need-part-ring-write-end
-part-ring-write-end c = search needs
-
 ring-write-requires : tie.Need-ring-write-requires
 ring-write-requires c κs =
     let s = c .before .before .before .before in
     let a = c .before .buffer-start .result in
     let l = run-length a 264 (s .args .buffers .now) (omega arith) in
     (s .pre .1, omega arith)
-
-same-length : tie.Need-same-length
-same-length c = search needs
 
 returns : tie.Need-returns
 returns c =
@@ -50,11 +32,11 @@ pub write-buffer-spec : {M : Type 1} → statement M
 write-buffer-spec =
     tie.close
     (tie.spec
-    buffer-start-requires
-    add-e
-    sub-ring-write
-    part-ring-write-start
-    part-ring-write-end
+    (λ c κs. search needs)
+    (λ c. search needs)
+    (λ c. search needs)
+    (λ c. search needs)
+    (λ c. search needs)
     ring-write-requires
-    same-length
+    (λ c. search needs)
     returns)

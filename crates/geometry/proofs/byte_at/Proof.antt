@@ -7,15 +7,9 @@ use Rattle.geometry.specs.Parts.{byteAt}
 use Rattle.geometry.proofs.byte_at.Statement.{statement}
 use Rattle.geometry.proofs.byte_at.Tie as tie
 
-remainder-requires : tie.Need-remainder-requires
-remainder-requires c κs = search needs
-
-remainder-requires-2 : tie.Need-remainder-requires-2
-remainder-requires-2 c κs = search needs
-
 returns : tie.Need-returns
 unfolding byteAt
 returns c = (c .remainder2 .ensures .0 ∙ ap (λ (n : ℕ). n % c .before .before .args .g .size) (c .before .remainder .ensures .0), c .remainder2 .ensures .1)
 
 pub byte-at-spec : {M : Type 1} → statement M
-byte-at-spec = tie.close (tie.spec remainder-requires remainder-requires-2 returns)
+byte-at-spec = tie.close (tie.spec (λ c κs. search needs) (λ c κs. search needs) returns)

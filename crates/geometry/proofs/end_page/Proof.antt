@@ -8,9 +8,6 @@ use borrow.Author.Needs.{needs}
 use Rattle.geometry.proofs.end_page.Statement.{statement}
 use Rattle.geometry.proofs.end_page.Tie as tie
 
-mul-result : tie.Need-mul-result
-mul-result c = search needs
-
 returns : tie.Need-returns
 unfolding endPage
 returns c = (rw (c .match .keys1), omega arith)
@@ -19,4 +16,4 @@ returns-2 : tie.Need-returns-2
 returns-2 c = (sym (end-high (c .before .args .sector) (omega arith)), omega arith)
 
 pub end-page-spec : {M : Type 1} → statement M
-end-page-spec = tie.close (tie.spec mul-result returns returns-2)
+end-page-spec = tie.close (tie.spec (λ c. search needs) returns returns-2)

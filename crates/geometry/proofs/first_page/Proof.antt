@@ -8,12 +8,6 @@ use borrow.Author.Needs.{needs}
 use Rattle.geometry.proofs.first_page.Statement.{statement}
 use Rattle.geometry.proofs.first_page.Tie as tie
 
-sub-result : tie.Need-sub-result
-sub-result c = search needs
-
-mul-result : tie.Need-mul-result
-mul-result c = search needs
-
 returns : tie.Need-returns
 unfolding firstPage
 returns c = (rw (c .match .keys1), omega arith)
@@ -26,4 +20,4 @@ returns-3 : tie.Need-returns-3
 returns-3 c = (sym (first-high (c .before .args .sector) (omega arith)), omega arith)
 
 pub first-page-spec : {M : Type 1} → statement M
-first-page-spec = tie.close (tie.spec sub-result mul-result returns returns-2 returns-3)
+first-page-spec = tie.close (tie.spec (λ c. search needs) (λ c. search needs) returns returns-2 returns-3)

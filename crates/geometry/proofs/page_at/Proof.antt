@@ -7,15 +7,9 @@ use Rattle.geometry.specs.Parts.{pageAt}
 use Rattle.geometry.proofs.page_at.Statement.{statement}
 use Rattle.geometry.proofs.page_at.Tie as tie
 
-quotient-requires : tie.Need-quotient-requires
-quotient-requires c κs = search needs
-
-remainder-requires : tie.Need-remainder-requires
-remainder-requires c κs = search needs
-
 returns : tie.Need-returns
 unfolding pageAt
 returns c = (c .remainder .ensures .0 ∙ ap (λ (n : ℕ). n % c .before .before .args .g .pages) (c .before .quotient .ensures), c .remainder .ensures .1)
 
 pub page-at-spec : {M : Type 1} → statement M
-page-at-spec = tie.close (tie.spec quotient-requires remainder-requires returns)
+page-at-spec = tie.close (tie.spec (λ c κs. search needs) (λ c κs. search needs) returns)

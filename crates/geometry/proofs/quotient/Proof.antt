@@ -5,9 +5,6 @@ use borrow.Author.Needs.{needs}
 use Rattle.geometry.proofs.quotient.Statement.{statement}
 use Rattle.geometry.proofs.quotient.Tie as tie
 
-div-result : tie.Need-div-result
-div-result c = search needs
-
 returns : tie.Need-returns
 returns c = rw (c .match .keys1) refl
 
@@ -15,4 +12,4 @@ returns-2 : tie.Need-returns-2
 returns-2 c = refl
 
 pub quotient-spec : {M : Type 1} → statement M
-quotient-spec = tie.close (tie.spec div-result returns returns-2)
+quotient-spec = tie.close (tie.spec (λ c. search needs) returns returns-2)

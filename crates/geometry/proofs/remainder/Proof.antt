@@ -10,9 +10,6 @@ use Rattle.geometry.proofs.remainder.Tie as tie
 below : (n d k : ℕ) → 0 < d → d ≡ k → (n % k ≡ n % d) × (n % k < d)
 below n d k z e = subst (λ (m : ℕ). (n % m ≡ n % d) × (n % m < d)) e (refl, mod-lt n z)
 
-rem-result : tie.Need-rem-result
-rem-result c = search needs
-
 returns : tie.Need-returns
 returns c = below _ _ 264 (c .before .pre) (c .match .keys1)
 
@@ -29,4 +26,4 @@ returns-5 : tie.Need-returns-5
 returns-5 c = below _ _ _ (c .before .pre) refl
 
 pub remainder-spec : {M : Type 1} → statement M
-remainder-spec = tie.close (tie.spec rem-result returns returns-2 returns-3 returns-4 returns-5)
+remainder-spec = tie.close (tie.spec (λ c. search needs) returns returns-2 returns-3 returns-4 returns-5)

@@ -7,9 +7,6 @@ use borrow.Author.Needs.{needs}
 use Rattle.geometry.proofs.sector_of.Statement.{statement}
 use Rattle.geometry.proofs.sector_of.Tie as tie
 
-add-result : tie.Need-add-result
-add-result c = search needs
-
 returns : tie.Need-returns
 unfolding sectorOf
 returns c = (rw (lt-ltb (c .before .args .page) 8 (omega arith)), omega arith)
@@ -19,4 +16,4 @@ unfolding sectorOf
 returns-2 c = (rw (le-ltb (c .before .args .page) 8 (omega arith)), omega arith)
 
 pub sector-of-spec : {M : Type 1} → statement M
-sector-of-spec = tie.close (tie.spec add-result returns returns-2)
+sector-of-spec = tie.close (tie.spec (λ c. search needs) returns returns-2)

@@ -7,18 +7,6 @@ use borrow.Author.Needs.{needs}
 use Rattle.geometry.proofs.sector_run.Statement.{statement}
 use Rattle.geometry.proofs.sector_run.Tie as tie
 
-first-page-requires : tie.Need-first-page-requires
-first-page-requires c κs = search needs
-
-lesser-requires : tie.Need-lesser-requires
-lesser-requires c κs = search needs
-
-end-page-requires : tie.Need-end-page-requires
-end-page-requires c κs = search needs
-
-lesser-requires-2 : tie.Need-lesser-requires-2
-lesser-requires-2 c κs = search needs
-
 sub-t8 : tie.Need-sub-t8
 sub-t8 c = omega (arith, first-end (c .before .before .before .before .args .sector))
 
@@ -38,9 +26,9 @@ pub sector-run-spec : {M : Type 1} → statement M
 sector-run-spec =
     tie.close
     (tie.spec
-    first-page-requires
-    lesser-requires
-    end-page-requires
-    lesser-requires-2
+    (λ c κs. search needs)
+    (λ c κs. search needs)
+    (λ c κs. search needs)
+    (λ c κs. search needs)
     sub-t8
     returns)

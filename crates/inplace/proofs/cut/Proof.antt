@@ -8,18 +8,6 @@ use Rattle.inplace.proofs.Kept.{cut-back, leaves-read, met-stored}
 use Rattle.inplace.proofs.cut.Statement.{statement}
 use Rattle.inplace.proofs.cut.Tie as tie
 
-decode-requires : tie.Need-decode-requires
-decode-requires c κs = search needs
-
-cut-requires : tie.Need-cut-requires
-cut-requires c κs = search needs
-
-store-requires : tie.Need-store-requires
-store-requires c κs = search needs
-
-same-length : tie.Need-same-length
-same-length c = search needs
-
 returns : tie.Need-returns
 returns c =
     let a = c .before .before .before .before .before .before .before .before .before .before .before .args in
@@ -28,4 +16,4 @@ returns c =
     (c .store .ensures .0) (c .store .ensures .1) (cut-back (a .block .now) (a .array .now) (d .1) (a .junk .now))
 
 pub cut-spec : {M : Type 1} → statement M
-cut-spec = tie.close (tie.spec decode-requires cut-requires store-requires same-length returns)
+cut-spec = tie.close (tie.spec (λ c κs. search needs) (λ c κs. search needs) (λ c κs. search needs) (λ c. search needs) returns)

@@ -19,24 +19,6 @@ use Rattle.inplace.proofs.Kept.{ended-holds, ended-back, met-done, met-
 use Rattle.inplace.proofs.end_busy.Statement.{statement}
 use Rattle.inplace.proofs.end_busy.Tie as tie
 
-operation-requires : tie.Need-operation-requires
-operation-requires c κs = search needs
-
-is-plain-requires : tie.Need-is-plain-requires
-is-plain-requires c κs = search needs
-
-decode-requires : tie.Need-decode-requires
-decode-requires c κs = search needs
-
-end-busy-requires : tie.Need-end-busy-requires
-end-busy-requires c κs = search needs
-
-store-requires : tie.Need-store-requires
-store-requires c κs = search needs
-
-same-length : tie.Need-same-length
-same-length c = search needs
-
 returns : tie.Need-returns
 returns c =
     let a = c .before .before .before .before .before .before .before .before .before .before .before .before .before .before .before .args in
@@ -44,23 +26,11 @@ returns c =
     met-stored (a .block .now) (leaves-read (λ (k : Chip). endOutcome (stateOf k (a .array .now))) (d .0) (c .before .before .before .before .end-busy .ensures))
     (c .store .ensures .0) (c .store .ensures .1) (ended-back (a .block .now) (a .array .now) (d .1))
 
-place-requires : tie.Need-place-requires
-place-requires c κs = search needs
-
-enum-known-p : tie.Need-enum-known-p
-enum-known-p c = search needs
-
 end-in-requires : tie.Need-end-in-requires
 end-in-requires c κs =
     let e = sym (c .before .before .before .before .before .place .ensures) ∙ c .before .before .before .p .given .1 in
     let n : length (c .before .before .before .before .before .before .before .before .before .before .before .before .args .block .now) ≡ 765 = search needs in
     (placed-sized _ _ _ e, n, c .before .before .before .before .before .before .before .before .operation .ensures .0, (placed-known _ _ _ e) .1, sym (c .before .before .before .before .before .before .before .is-plain .ensures) ∙ not-false _ (c .before .before .before .before .before .before .if1 .left))
-
-enum-told : tie.Need-enum-told
-enum-told c = search needs
-
-same-length-2 : tie.Need-same-length-2
-same-length-2 c = search needs
 
 returns-2 : tie.Need-returns-2
 unfolding decodeChip decodeRegisters
@@ -83,17 +53,17 @@ pub end-busy-spec : {M : Type 1} → statement M
 end-busy-spec =
     tie.close
     (tie.spec
-    operation-requires
-    is-plain-requires
-    decode-requires
-    end-busy-requires
-    store-requires
-    same-length
+    (λ c κs. search needs)
+    (λ c κs. search needs)
+    (λ c κs. search needs)
+    (λ c κs. search needs)
+    (λ c κs. search needs)
+    (λ c. search needs)
     returns
-    place-requires
-    enum-known-p
+    (λ c κs. search needs)
+    (λ c. search needs)
     end-in-requires
-    enum-told
-    same-length-2
+    (λ c. search needs)
+    (λ c. search needs)
     returns-2
     returns-3)

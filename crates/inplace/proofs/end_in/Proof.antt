@@ -23,21 +23,6 @@ use Rattle.inplace.proofs.Held.{plain-keeps, back-length, lent-both, ba
 use Rattle.inplace.proofs.end_in.Statement.{statement}
 use Rattle.inplace.proofs.end_in.Tie as tie
 
-slice-read-is-set : tie.Need-slice-read-is-set
-slice-read-is-set c = search needs
-
-is-set-requires : tie.Need-is-set-requires
-is-set-requires c κs = search needs
-
-rest-requires : tie.Need-rest-requires
-rest-requires c κs = search needs
-
-sub-complete-memory : tie.Need-sub-complete-memory
-sub-complete-memory c = search needs
-
-part-complete-memory-start : tie.Need-part-complete-memory-start
-part-complete-memory-start c = search needs
-
 part-complete-memory-end : tie.Need-part-complete-memory-end
 part-complete-memory-end c = omega (arith, c .before .before .rest .kept .0, c .before .before .before .before .before .before .before .before .pre .1)
 
@@ -45,12 +30,6 @@ complete-memory-requires : tie.Need-complete-memory-requires
 complete-memory-requires c κs =
     let s = c .before .before .before .before .before .before .before .before .before .before in
     (s .pre .0, s .pre .3, run-length 236 528 (c .before .before .before .before .rest .last .0) (omega (arith, c .before .before .before .before .rest .kept .0, s .pre .1)))
-
-flag-byte-requires : tie.Need-flag-byte-requires
-flag-byte-requires c κs = search needs
-
-slice-write-block : tie.Need-slice-write-block
-slice-write-block c = search needs
 
 same-length : tie.Need-same-length
 same-length c =
@@ -60,9 +39,6 @@ same-length c =
     let n = run-length 236 528 y (omega (arith, c .before .before .before .before .before .before .before .before .before .before .rest .kept .0, s .pre .1)) in
     length-set (take 236 y ++ (zs ++ drop 528 (drop 236 y))) 764 (c .flag-byte .result)
     ∙ back-length y zs (c .before .before .before .before .before .before .before .before .before .before .rest .kept .0 ∙ s .pre .1) (c .before .before .before .before .before .complete-memory .kept .1 .1 .0 ∙ n) ∙ sym (s .pre .1)
-
-same-length-2 : tie.Need-same-length-2
-same-length-2 c = search needs
 
 returns : tie.Need-returns
 unfolding endedState changed decodeRegisters decodeChip
@@ -92,15 +68,15 @@ pub end-in-spec : {M : Type 1} → statement M
 end-in-spec =
     tie.close
     (tie.spec
-    slice-read-is-set
-    is-set-requires
-    rest-requires
-    sub-complete-memory
-    part-complete-memory-start
+    (λ c. search needs)
+    (λ c κs. search needs)
+    (λ c κs. search needs)
+    (λ c. search needs)
+    (λ c. search needs)
     part-complete-memory-end
     complete-memory-requires
-    flag-byte-requires
-    slice-write-block
+    (λ c κs. search needs)
+    (λ c. search needs)
     same-length
-    same-length-2
+    (λ c. search needs)
     returns)

@@ -15,19 +15,10 @@ whole p =
       buffer2 = search needs;
     }
 
-fresh-requires : tie.Need-fresh-requires
-fresh-requires c κs = search needs
-
-store-requires : tie.Need-store-requires
-store-requires c κs = search needs
-
-same-length : tie.Need-same-length
-same-length c = search needs
-
 returns : tie.Need-returns
 returns c =
     let s = c .before .before .before .before .before .before .before .before in
     met-fresh (s .args .block .now) (s .args .factory .now) (s .args .array .now) (whole (c .before .before .before .before)) (c .before .before .before .before .fresh .ensures) (c .store .ensures .0) (c .store .ensures .1)
 
 pub fresh-spec : {M : Type 1} → statement M
-fresh-spec = tie.close (tie.spec fresh-requires store-requires same-length returns)
+fresh-spec = tie.close (tie.spec (λ c κs. search needs) (λ c κs. search needs) (λ c. search needs) returns)

@@ -7,9 +7,6 @@ use Rattle.inplace.proofs.Kept.{met-pin}
 use Rattle.inplace.proofs.move_pin.Statement.{statement}
 use Rattle.inplace.proofs.move_pin.Tie as tie
 
-move-pin-requires : tie.Need-move-pin-requires
-move-pin-requires c κs = search needs
-
 returns : tie.Need-returns
 returns c =
     let a = c .before .before .args in
@@ -17,4 +14,4 @@ returns c =
     met-pin (a .block .now) (a .high) l (c .move-pin .ensures)
 
 pub move-pin-spec : {M : Type 1} → statement M
-move-pin-spec = tie.close (tie.spec move-pin-requires returns)
+move-pin-spec = tie.close (tie.spec (λ c κs. search needs) returns)

@@ -19,18 +19,6 @@ use Rattle.inplace.proofs.Kept.{sent-holds, met-done, met-refused}
 use Rattle.inplace.proofs.send.Statement.{statement}
 use Rattle.inplace.proofs.send.Tie as tie
 
-operation-requires : tie.Need-operation-requires
-operation-requires c κs = search needs
-
-place-requires : tie.Need-place-requires
-place-requires c κs = search needs
-
-enum-known-p : tie.Need-enum-known-p
-enum-known-p c = search needs
-
-is-framed-requires : tie.Need-is-framed-requires
-is-framed-requires c κs = search needs
-
 returns : tie.Need-returns
 unfolding storedBy numberOf decodeChip decodeRegisters
 returns c =
@@ -44,12 +32,6 @@ send-in-requires c κs =
     let l = framed-in _ _ (sym (c .before .before .before .is-framed .ensures) ∙ not-false _ (c .before .before .if1 .left)) in
     let n : length (c .before .before .before .before .before .before .before .before .before .before .before .before .before .before .args .block .now) ≡ 765 = search needs in
     (placed-sized _ _ _ (sym (c .before .before .before .before .before .before .before .place .ensures) ∙ c .before .before .before .before .before .p .given .1), n, c .before .before .before .before .before .before .before .before .operation .ensures .0, l .2)
-
-enum-told : tie.Need-enum-told
-enum-told c = search needs
-
-same-length : tie.Need-same-length
-same-length c = search needs
 
 returns-2 : tie.Need-returns-2
 unfolding sentState decodeChip decodeRegisters
@@ -76,13 +58,13 @@ pub send-spec : {M : Type 1} → statement M
 send-spec =
     tie.close
     (tie.spec
-    operation-requires
-    place-requires
-    enum-known-p
-    is-framed-requires
+    (λ c κs. search needs)
+    (λ c κs. search needs)
+    (λ c. search needs)
+    (λ c κs. search needs)
     returns
     send-in-requires
-    enum-told
-    same-length
+    (λ c. search needs)
+    (λ c. search needs)
     returns-2
     returns-3)

@@ -18,36 +18,6 @@ use Rattle.inplace.proofs.Held.{lent-both, back}
 use Rattle.inplace.proofs.send_in.Statement.{statement}
 use Rattle.inplace.proofs.send_in.Tie as tie
 
-slice-read-is-set : tie.Need-slice-read-is-set
-slice-read-is-set c = search needs
-
-is-set-requires : tie.Need-is-set-requires
-is-set-requires c κs = search needs
-
-marks-at-requires : tie.Need-marks-at-requires
-marks-at-requires c κs = search needs
-
-control-frame-requires : tie.Need-control-frame-requires
-control-frame-requires c κs = search needs
-
-sub-respond : tie.Need-sub-respond
-sub-respond c = search needs
-
-part-respond-start : tie.Need-part-respond-start
-part-respond-start c = search needs
-
-part-respond-end : tie.Need-part-respond-end
-part-respond-end c = search needs
-
-sub-respond-2 : tie.Need-sub-respond-2
-sub-respond-2 c = search needs
-
-part-respond-start-2 : tie.Need-part-respond-start-2
-part-respond-start-2 c = search needs
-
-part-respond-end-2 : tie.Need-part-respond-end-2
-part-respond-end-2 c = search needs
-
 respond-requires : tie.Need-respond-requires
 respond-requires c κs =
     let s = c .before .before .before .before .before .before .before .before .before .before .before .before .before in
@@ -63,12 +33,6 @@ respond-requires c κs =
 
 settle-requires : tie.Need-settle-requires
 settle-requires c κs = (c .before .before .before .before .before .before .before .before .before .before .before .before .before .before .before .before .before .pre .1, c .before .before .before .before .before .before .before .before .before .before .before .before .before .before .before .before .before .pre .2)
-
-sub-act : tie.Need-sub-act
-sub-act c = search needs
-
-part-act-start : tie.Need-part-act-start
-part-act-start c = search needs
 
 part-act-end : tie.Need-part-act-end
 part-act-end c = omega (arith, c .before .before .settle .kept .0, c .before .before .before .before .before .before .before .before .before .before .before .before .before .before .before .before .before .before .before .before .pre .1)
@@ -87,9 +51,6 @@ part-act-start-2 c =
     let r = decodeRegisters b in
     decided-lead (a .g) r (a .frame .now) _ (c .before .before .before .before .before .before .before .before .before .before .before .before .control-frame .ensures r (sym (c .before .before .before .before .before .before .before .before .before .before .before .before .before .marks-at .ensures))) _ refl
 
-part-act-end-2 : tie.Need-part-act-end-2
-part-act-end-2 c = search needs
-
 act-requires : tie.Need-act-requires
 act-requires c κs =
     let s = c .before .before .before .before .before .before .before .before .before .before .before .before .before .before .before .before .before .before .before .before .before .before in
@@ -98,12 +59,6 @@ act-requires c κs =
     let r = decodeRegisters b in
     let e = c .before .before .before .before .before .before .before .before .before .before .before .before .before .control-frame .ensures r (sym (c .before .before .before .before .before .before .before .before .before .before .before .before .before .before .marks-at .ensures)) in
     (s .pre .0 .most, decided-names (a .g) r (a .frame .now) _ e _ (s .pre .0), run-length 236 528 (c .before .before .before .before .settle .last .0) (omega (arith, c .before .before .before .before .settle .kept .0, s .pre .1)))
-
-same-length : tie.Need-same-length
-same-length c = search needs
-
-same-length-2 : tie.Need-same-length-2
-same-length-2 c = search needs
 
 returns : tie.Need-returns
 unfolding sentState decodeChip
@@ -133,25 +88,25 @@ pub send-in-spec : {M : Type 1} → statement M
 send-in-spec =
     tie.close
     (tie.spec
-    slice-read-is-set
-    is-set-requires
-    marks-at-requires
-    control-frame-requires
-    sub-respond
-    part-respond-start
-    part-respond-end
-    sub-respond-2
-    part-respond-start-2
-    part-respond-end-2
+    (λ c. search needs)
+    (λ c κs. search needs)
+    (λ c κs. search needs)
+    (λ c κs. search needs)
+    (λ c. search needs)
+    (λ c. search needs)
+    (λ c. search needs)
+    (λ c. search needs)
+    (λ c. search needs)
+    (λ c. search needs)
     respond-requires
     settle-requires
-    sub-act
-    part-act-start
+    (λ c. search needs)
+    (λ c. search needs)
     part-act-end
     sub-act-2
     part-act-start-2
-    part-act-end-2
+    (λ c. search needs)
     act-requires
-    same-length
-    same-length-2
+    (λ c. search needs)
+    (λ c. search needs)
     returns)

@@ -9,15 +9,6 @@ use Rattle.memory.proofs.Lent.{run-end, run-long, run-back}
 use Rattle.memory.proofs.erase.Statement.{statement}
 use Rattle.memory.proofs.erase.Tie as tie
 
-page-start-requires : tie.Need-page-start-requires
-page-start-requires c κs = search needs
-
-add-page-start : tie.Need-add-page-start
-add-page-start c = search needs
-
-page-start-requires-2 : tie.Need-page-start-requires-2
-page-start-requires-2 c κs = search needs
-
 sub-fill : tie.Need-sub-fill
 sub-fill c =
     let s = c .before .before .before .before in
@@ -27,15 +18,6 @@ part-fill-start : tie.Need-part-fill-start
 part-fill-start c =
     let s = c .before .before .before .before in
     omega (arith, run-end (s .args .g) (s .args .r) (c .before .before .page-start .ensures .0) (c .page-start2 .ensures .0))
-
-part-fill-end : tie.Need-part-fill-end
-part-fill-end c = search needs
-
-fill-requires : tie.Need-fill-requires
-fill-requires c κs = search needs
-
-same-length : tie.Need-same-length
-same-length c = search needs
 
 returns : tie.Need-returns
 unfolding erased
@@ -51,12 +33,12 @@ pub erase-spec : {M : Type 1} → statement M
 erase-spec =
     tie.close
     (tie.spec
-    page-start-requires
-    add-page-start
-    page-start-requires-2
+    (λ c κs. search needs)
+    (λ c. search needs)
+    (λ c κs. search needs)
     sub-fill
     part-fill-start
-    part-fill-end
-    fill-requires
-    same-length
+    (λ c. search needs)
+    (λ c κs. search needs)
+    (λ c. search needs)
     returns)

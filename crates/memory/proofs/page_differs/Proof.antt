@@ -13,30 +13,15 @@ use Rattle.memory.proofs.Lent.{page-end, page-part}
 use Rattle.memory.proofs.page_differs.Statement.{statement}
 use Rattle.memory.proofs.page_differs.Tie as tie
 
-page-start-requires : tie.Need-page-start-requires
-page-start-requires c κs = search needs
-
-add-e : tie.Need-add-e
-add-e c = search needs
-
 slice-aggregate-differs : tie.Need-slice-aggregate-differs
 slice-aggregate-differs c =
     let s = c .before .before .before .before in
     sym (length-take-le (s .args .g .size) (s .args .buffer .now) (s .pre .2))
 
-sub-differs : tie.Need-sub-differs
-sub-differs c = search needs
-
-part-differs-start : tie.Need-part-differs-start
-part-differs-start c = search needs
-
 part-differs-end : tie.Need-part-differs-end
 part-differs-end c =
     let s = c .before .before .before .before in
     page-end (s .args .array .now) (s .pre .0) (s .pre .1) (c .before .page-start .ensures .0)
-
-differs-requires : tie.Need-differs-requires
-differs-requires c κs = search needs
 
 returns : tie.Need-returns
 unfolding differing
@@ -49,11 +34,11 @@ pub page-differs-spec : {M : Type 1} → statement M
 page-differs-spec =
     tie.close
     (tie.spec
-    page-start-requires
-    add-e
+    (λ c κs. search needs)
+    (λ c. search needs)
     slice-aggregate-differs
-    sub-differs
-    part-differs-start
+    (λ c. search needs)
+    (λ c. search needs)
     part-differs-end
-    differs-requires
+    (λ c κs. search needs)
     returns)

@@ -7,18 +7,6 @@ use Rattle.memory.proofs.Lent.{page-end, page-long, page-back}
 use Rattle.memory.proofs.program.Statement.{statement}
 use Rattle.memory.proofs.program.Tie as tie
 
-page-start-requires : tie.Need-page-start-requires
-page-start-requires c κs = search needs
-
-add-e : tie.Need-add-e
-add-e c = search needs
-
-sub-copy : tie.Need-sub-copy
-sub-copy c = search needs
-
-part-copy-start : tie.Need-part-copy-start
-part-copy-start c = search needs
-
 part-copy-end : tie.Need-part-copy-end
 part-copy-end c =
     let s = c .before .before .before in
@@ -34,9 +22,6 @@ copy-requires c κs =
     let s = c .before .before .before .before .before in
     page-long (s .args .array .now) (s .args .buffer .now) (s .pre .0) (s .pre .1) (s .pre .2) (c .before .before .page-start .ensures .0)
 
-same-length : tie.Need-same-length
-same-length c = search needs
-
 returns : tie.Need-returns
 unfolding programmed
 returns c =
@@ -48,12 +33,12 @@ pub program-spec : {M : Type 1} → statement M
 program-spec =
     tie.close
     (tie.spec
-    page-start-requires
-    add-e
-    sub-copy
-    part-copy-start
+    (λ c κs. search needs)
+    (λ c. search needs)
+    (λ c. search needs)
+    (λ c. search needs)
     part-copy-end
     slice-aggregate-copy
     copy-requires
-    same-length
+    (λ c. search needs)
     returns)

@@ -14,18 +14,6 @@ use Rattle.memory.proofs.Lent.{page-end, page-part, page-long, page-bac
 use Rattle.memory.proofs.program_over.Statement.{statement}
 use Rattle.memory.proofs.program_over.Tie as tie
 
-page-start-requires : tie.Need-page-start-requires
-page-start-requires c κs = search needs
-
-add-e : tie.Need-add-e
-add-e c = search needs
-
-sub-and-into : tie.Need-sub-and-into
-sub-and-into c = search needs
-
-part-and-into-start : tie.Need-part-and-into-start
-part-and-into-start c = search needs
-
 part-and-into-end : tie.Need-part-and-into-end
 part-and-into-end c =
     let s = c .before .before .before in
@@ -41,9 +29,6 @@ and-into-requires c κs =
     let s = c .before .before .before .before .before in
     page-long (s .args .array .now) (s .args .buffer .now) (s .pre .0) (s .pre .1) (s .pre .2) (c .before .before .page-start .ensures .0)
 
-same-length : tie.Need-same-length
-same-length c = search needs
-
 returns : tie.Need-returns
 unfolding programmedOver
 returns c =
@@ -58,12 +43,12 @@ pub program-over-spec : {M : Type 1} → statement M
 program-over-spec =
     tie.close
     (tie.spec
-    page-start-requires
-    add-e
-    sub-and-into
-    part-and-into-start
+    (λ c κs. search needs)
+    (λ c. search needs)
+    (λ c. search needs)
+    (λ c. search needs)
     part-and-into-end
     slice-aggregate-and-into
     and-into-requires
-    same-length
+    (λ c. search needs)
     returns)

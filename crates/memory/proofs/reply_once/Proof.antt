@@ -10,35 +10,11 @@ use Rattle.memory.proofs.Lent.{once}
 use Rattle.memory.proofs.reply_once.Statement.{statement}
 use Rattle.memory.proofs.reply_once.Tie as tie
 
-fill-requires : tie.Need-fill-requires
-fill-requires c κs = search needs
-
-sub-lesser : tie.Need-sub-lesser
-sub-lesser c = search needs
-
-lesser-requires : tie.Need-lesser-requires
-lesser-requires c κs = search needs
-
-add-e : tie.Need-add-e
-add-e c = search needs
-
-sub-copy : tie.Need-sub-copy
-sub-copy c = search needs
-
-part-copy-start : tie.Need-part-copy-start
-part-copy-start c = search needs
-
-part-copy-end : tie.Need-part-copy-end
-part-copy-end c = search needs
-
 slice-aggregate-copy : tie.Need-slice-aggregate-copy
 slice-aggregate-copy c = sym (length-take-le (c .before .before .lesser .result) (c .before .before .before .before .before .before .before .before .before .args .bytes .now) (omega arith))
 
 copy-requires : tie.Need-copy-requires
 copy-requires c κs = simp (length-take, length-drop) (omega arith)
-
-same-length : tie.Need-same-length
-same-length c = search needs
 
 returns : tie.Need-returns
 returns c =
@@ -53,14 +29,14 @@ pub reply-once-spec : {M : Type 1} → statement M
 reply-once-spec =
     tie.close
     (tie.spec
-    fill-requires
-    sub-lesser
-    lesser-requires
-    add-e
-    sub-copy
-    part-copy-start
-    part-copy-end
+    (λ c κs. search needs)
+    (λ c. search needs)
+    (λ c κs. search needs)
+    (λ c. search needs)
+    (λ c. search needs)
+    (λ c. search needs)
+    (λ c. search needs)
     slice-aggregate-copy
     copy-requires
-    same-length
+    (λ c. search needs)
     returns)

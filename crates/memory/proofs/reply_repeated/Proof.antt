@@ -7,31 +7,10 @@ use Rattle.memory.proofs.Lent.{led}
 use Rattle.memory.proofs.reply_repeated.Statement.{statement}
 use Rattle.memory.proofs.reply_repeated.Tie as tie
 
-slice-relend-prefix-fill : tie.Need-slice-relend-prefix-fill
-slice-relend-prefix-fill c = search needs
-
 slice-aggregate-fill : tie.Need-slice-aggregate-fill
 slice-aggregate-fill c =
     let s = c .before .before in
     sym (length-take-le (s .args .lead) (s .args .reply .now) (s .pre))
-
-fill-requires : tie.Need-fill-requires
-fill-requires c κs = search needs
-
-sub-fill : tie.Need-sub-fill
-sub-fill c = search needs
-
-part-fill-start : tie.Need-part-fill-start
-part-fill-start c = search needs
-
-part-fill-end : tie.Need-part-fill-end
-part-fill-end c = search needs
-
-fill-requires-2 : tie.Need-fill-requires-2
-fill-requires-2 c κs = search needs
-
-same-length : tie.Need-same-length
-same-length c = search needs
 
 returns : tie.Need-returns
 returns c =
@@ -43,12 +22,12 @@ pub reply-repeated-spec : {M : Type 1} → statement M
 reply-repeated-spec =
     tie.close
     (tie.spec
-    slice-relend-prefix-fill
+    (λ c. search needs)
     slice-aggregate-fill
-    fill-requires
-    sub-fill
-    part-fill-start
-    part-fill-end
-    fill-requires-2
-    same-length
+    (λ c κs. search needs)
+    (λ c. search needs)
+    (λ c. search needs)
+    (λ c. search needs)
+    (λ c κs. search needs)
+    (λ c. search needs)
     returns)

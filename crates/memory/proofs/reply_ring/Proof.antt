@@ -8,31 +8,10 @@ use Rattle.memory.proofs.Lent.{led}
 use Rattle.memory.proofs.reply_ring.Statement.{statement}
 use Rattle.memory.proofs.reply_ring.Tie as tie
 
-slice-relend-prefix-fill : tie.Need-slice-relend-prefix-fill
-slice-relend-prefix-fill c = search needs
-
 slice-aggregate-fill : tie.Need-slice-aggregate-fill
 slice-aggregate-fill c =
     let s = c .before .before .before in
     sym (length-take-le (s .args .lead) (s .args .reply .now) (s .pre .0))
-
-fill-requires : tie.Need-fill-requires
-fill-requires c κs = search needs
-
-sub-ring-read : tie.Need-sub-ring-read
-sub-ring-read c = search needs
-
-part-ring-read-start : tie.Need-part-ring-read-start
-part-ring-read-start c = search needs
-
-part-ring-read-end : tie.Need-part-ring-read-end
-part-ring-read-end c = search needs
-
-ring-read-requires : tie.Need-ring-read-requires
-ring-read-requires c κs = search needs
-
-same-length : tie.Need-same-length
-same-length c = search needs
 
 returns : tie.Need-returns
 unfolding ringRead
@@ -45,12 +24,12 @@ pub reply-ring-spec : {M : Type 1} → statement M
 reply-ring-spec =
     tie.close
     (tie.spec
-    slice-relend-prefix-fill
+    (λ c. search needs)
     slice-aggregate-fill
-    fill-requires
-    sub-ring-read
-    part-ring-read-start
-    part-ring-read-end
-    ring-read-requires
-    same-length
+    (λ c κs. search needs)
+    (λ c. search needs)
+    (λ c. search needs)
+    (λ c. search needs)
+    (λ c κs. search needs)
+    (λ c. search needs)
     returns)

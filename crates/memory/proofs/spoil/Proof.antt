@@ -10,24 +10,6 @@ use Rattle.memory.proofs.Lent.{run-end, run-from, run-back}
 use Rattle.memory.proofs.spoil.Statement.{statement}
 use Rattle.memory.proofs.spoil.Tie as tie
 
-page-start-requires : tie.Need-page-start-requires
-page-start-requires c κs = search needs
-
-add-page-start : tie.Need-add-page-start
-add-page-start c = search needs
-
-page-start-requires-2 : tie.Need-page-start-requires-2
-page-start-requires-2 c κs = search needs
-
-mul-base : tie.Need-mul-base
-mul-base c = search needs
-
-add-from : tie.Need-add-from
-add-from c = search needs
-
-add-to : tie.Need-add-to
-add-to c = search needs
-
 sub-copy : tie.Need-sub-copy
 sub-copy c =
     let s = c .before .before .before .before .before .before in
@@ -38,9 +20,6 @@ part-copy-start c =
     let s = c .before .before .before .before .before .before in
     omega (arith, run-end (s .args .g) (s .args .r) (c .before .before .before .page-start .ensures .0) (c .before .page-start2 .ensures .0))
 
-part-copy-end : tie.Need-part-copy-end
-part-copy-end c = search needs
-
 sub-copy-2 : tie.Need-sub-copy-2
 sub-copy-2 c =
     let s = c .before .before .before .before .before .before .before in
@@ -50,15 +29,6 @@ part-copy-start-2 : tie.Need-part-copy-start-2
 part-copy-start-2 c =
     let s = c .before .before .before .before .before .before .before in
     omega (arith, run-end (s .args .g) (s .args .r) (c .before .before .before .before .page-start .ensures .0) (c .before .before .page-start2 .ensures .0))
-
-part-copy-end-2 : tie.Need-part-copy-end-2
-part-copy-end-2 c = search needs
-
-copy-requires : tie.Need-copy-requires
-copy-requires c κs = search needs
-
-same-length : tie.Need-same-length
-same-length c = search needs
 
 returns : tie.Need-returns
 unfolding junked
@@ -74,18 +44,18 @@ pub spoil-spec : {M : Type 1} → statement M
 spoil-spec =
     tie.close
     (tie.spec
-    page-start-requires
-    add-page-start
-    page-start-requires-2
-    mul-base
-    add-from
-    add-to
+    (λ c κs. search needs)
+    (λ c. search needs)
+    (λ c κs. search needs)
+    (λ c. search needs)
+    (λ c. search needs)
+    (λ c. search needs)
     sub-copy
     part-copy-start
-    part-copy-end
+    (λ c. search needs)
     sub-copy-2
     part-copy-start-2
-    part-copy-end-2
-    copy-requires
-    same-length
+    (λ c. search needs)
+    (λ c κs. search needs)
+    (λ c. search needs)
     returns)

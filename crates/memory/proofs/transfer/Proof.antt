@@ -8,25 +8,10 @@ use Rattle.memory.proofs.Lent.{page-end, page-part, page-long, over-bac
 use Rattle.memory.proofs.transfer.Statement.{statement}
 use Rattle.memory.proofs.transfer.Tie as tie
 
-page-start-requires : tie.Need-page-start-requires
-page-start-requires c κs = search needs
-
-add-e : tie.Need-add-e
-add-e c = search needs
-
-slice-relend-prefix-copy : tie.Need-slice-relend-prefix-copy
-slice-relend-prefix-copy c = search needs
-
 slice-aggregate-copy : tie.Need-slice-aggregate-copy
 slice-aggregate-copy c =
     let s = c .before .before .before .before in
     sym (length-take-le (s .args .g .size) (s .args .buffer .now) (s .pre .2))
-
-sub-copy : tie.Need-sub-copy
-sub-copy c = search needs
-
-part-copy-start : tie.Need-part-copy-start
-part-copy-start c = search needs
 
 part-copy-end : tie.Need-part-copy-end
 part-copy-end c =
@@ -37,9 +22,6 @@ copy-requires : tie.Need-copy-requires
 copy-requires c κs =
     let s = c .before .before .before .before .before in
     sym (page-long (s .args .array .now) (s .args .buffer .now) (s .pre .0) (s .pre .1) (s .pre .2) (c .before .before .page-start .ensures .0))
-
-same-length : tie.Need-same-length
-same-length c = search needs
 
 returns : tie.Need-returns
 unfolding transferred
@@ -54,13 +36,13 @@ pub transfer-spec : {M : Type 1} → statement M
 transfer-spec =
     tie.close
     (tie.spec
-    page-start-requires
-    add-e
-    slice-relend-prefix-copy
+    (λ c κs. search needs)
+    (λ c. search needs)
+    (λ c. search needs)
     slice-aggregate-copy
-    sub-copy
-    part-copy-start
+    (λ c. search needs)
+    (λ c. search needs)
     part-copy-end
     copy-requires
-    same-length
+    (λ c. search needs)
     returns)

@@ -1,7 +1,7 @@
 -- `orders::read` meets its contract: each test is one of the definition's, in its order; the bounds follow from the definition (`read-sound`).
 -- Assumes nothing.
 use Rattle.orders.specs.declared.Reading.the-variants as Reading
-use Rattle.orders.specs.declared.Fault.the-variants as Fault
+use Rattle.faults.specs.declared.Fault.the-variants as Fault
 use Rattle.orders.proofs.Whole.{too-long, blank, commanded}
 use Rattle.orders.specs.Lines.{withCommand}
 use mathlib.Core.Path.{sym, ap, _∙_}
@@ -12,34 +12,10 @@ use Rattle.orders.proofs.read.Tie as tie
 returns : tie.Need-returns
 returns c = too-long (c .before .before .args .line .now) (c .if1 .taken)
 
-next-word-requires : tie.Need-next-word-requires
-next-word-requires c κs = search needs
-
 returns-2 : tie.Need-returns-2
 returns-2 c =
     let w = c .before .next-word in
     blank (c .before .before .before .before .args .line .now) (w .result) (c .before .before .if1 .left) (w .ensures .2) (c .if2 .taken)
-
-sub-command-of : tie.Need-sub-command-of
-sub-command-of c = search needs
-
-part-command-of-start : tie.Need-part-command-of-start
-part-command-of-start c = search needs
-
-part-command-of-end : tie.Need-part-command-of-end
-part-command-of-end c = search needs
-
-command-of-requires : tie.Need-command-of-requires
-command-of-requires c κs = search needs
-
-enum-known-k : tie.Need-enum-known-k
-enum-known-k c = search needs
-
-read-rest-requires : tie.Need-read-rest-requires
-read-rest-requires c κs = search needs
-
-enum-told : tie.Need-enum-told
-enum-told c = search needs
 
 returns-3 : tie.Need-returns-3
 returns-3 c =
@@ -60,14 +36,14 @@ read-spec =
     tie.close
     (tie.spec
     returns
-    next-word-requires
+    (λ c κs. search needs)
     returns-2
-    sub-command-of
-    part-command-of-start
-    part-command-of-end
-    command-of-requires
-    enum-known-k
-    read-rest-requires
-    enum-told
+    (λ c. search needs)
+    (λ c. search needs)
+    (λ c. search needs)
+    (λ c κs. search needs)
+    (λ c. search needs)
+    (λ c κs. search needs)
+    (λ c. search needs)
     returns-3
     returns-4)

@@ -14,33 +14,15 @@ use Rattle.state.proofs.Accepted.{leaves-as, leaves-refused, known-script, know
 use Rattle.power_loss.proofs.cut_in.Statement.{statement}
 use Rattle.power_loss.proofs.cut_in.Tie as tie
 
-mul-if1 : tie.Need-mul-if1
-mul-if1 c = search needs
-
-add-if1 : tie.Need-add-if1
-add-if1 c = search needs
-
 returns : tie.Need-returns
 returns c =
     let a = c .before .before .before .before .args in
     leaves-refused Answers.Script (a .c) (a .array .now) [] (known-script (a .junk .now) (stateOf (a .c) (a .array .now)) (a .g) (c .if1 .taken))
 
-spoil-array-requires : tie.Need-spoil-array-requires
-spoil-array-requires c κs = search needs
-
-spoil-buffers-requires : tie.Need-spoil-buffers-requires
-spoil-buffers-requires c κs = search needs
-
 lose-requires : tie.Need-lose-requires
 lose-requires c κs =
     let s = c .before .before .before .before .before .before .before .before .before .before in
     (sized-own (s .args .g) _ (s .pre .0), s .pre .1, omega (arith, sized-room (s .args .g) _ (s .pre .0), c .before .before .before .before .before .before .if1 .left))
-
-with-registers-requires : tie.Need-with-registers-requires
-with-registers-requires c κs = search needs
-
-same-length : tie.Need-same-length
-same-length c = search needs
 
 returns-2 : tie.Need-returns-2
 unfolding cutState lostMemory
@@ -58,12 +40,12 @@ pub cut-in-spec : {M : Type 1} → statement M
 cut-in-spec =
     tie.close
     (tie.spec
-    mul-if1
-    add-if1
+    (λ c. search needs)
+    (λ c. search needs)
     returns
-    spoil-array-requires
-    spoil-buffers-requires
+    (λ c κs. search needs)
+    (λ c κs. search needs)
     lose-requires
-    with-registers-requires
-    same-length
+    (λ c κs. search needs)
+    (λ c. search needs)
     returns-2)

@@ -8,25 +8,10 @@ use Rattle.state.proofs.Arms.{target-has, target-sectors}
 use Rattle.power_loss.proofs.spoil_array.Statement.{statement}
 use Rattle.power_loss.proofs.spoil_array.Tie as tie
 
-target-of-requires : tie.Need-target-of-requires
-target-of-requires c κs = search needs
-
 run-named-requires : tie.Need-run-named-requires
 run-named-requires c κs =
     let s = c .before .before .before .before in
     (sized-own (s .args .g) _ (s .pre .0), target-has (s .args .g) (s .args .o) (c .before .target-of .ensures) (s .pre .1))
-
-spoil-requires : tie.Need-spoil-requires
-spoil-requires c κs = search needs
-
-set-named-requires : tie.Need-set-named-requires
-set-named-requires c κs = search needs
-
-spoil-sectors-requires : tie.Need-spoil-sectors-requires
-spoil-sectors-requires c κs = search needs
-
-same-length : tie.Need-same-length
-same-length c = search needs
 
 returns : tie.Need-returns
 unfolding arrayLost
@@ -40,10 +25,10 @@ pub spoil-array-spec : {M : Type 1} → statement M
 spoil-array-spec =
     tie.close
     (tie.spec
-    target-of-requires
+    (λ c κs. search needs)
     run-named-requires
-    spoil-requires
-    set-named-requires
-    spoil-sectors-requires
-    same-length
+    (λ c κs. search needs)
+    (λ c κs. search needs)
+    (λ c κs. search needs)
+    (λ c. search needs)
     returns)

@@ -8,17 +8,11 @@ use borrow.Author.Needs.{needs}
 use Rattle.power_loss.proofs.spoil_buffers.Statement.{statement}
 use Rattle.power_loss.proofs.spoil_buffers.Tie as tie
 
-slice-aggregate-spoil-buffer : tie.Need-slice-aggregate-spoil-buffer
-slice-aggregate-spoil-buffer c = search needs
-
 spoil-buffer-requires : tie.Need-spoil-buffer-requires
 spoil-buffer-requires c κs =
     let s = c .before .before .before in
     let l : length (s .args .c .buffer1) ≡ 264 = search needs in
     (omega arith, omega arith)
-
-slice-aggregate-spoil-buffer-2 : tie.Need-slice-aggregate-spoil-buffer-2
-slice-aggregate-spoil-buffer-2 c = search needs
 
 spoil-buffer-requires-2 : tie.Need-spoil-buffer-requires-2
 spoil-buffer-requires-2 c κs =
@@ -33,8 +27,8 @@ pub spoil-buffers-spec : {M : Type 1} → statement M
 spoil-buffers-spec =
     tie.close
     (tie.spec
-    slice-aggregate-spoil-buffer
+    (λ c. search needs)
     spoil-buffer-requires
-    slice-aggregate-spoil-buffer-2
+    (λ c. search needs)
     spoil-buffer-requires-2
     returns)

@@ -4,7 +4,7 @@ use mathlib.Core.Path.{sym}
 use Prim.Native.Nat.{_+_}
 use native.Mathlib.Omega.{arith}
 use borrow.Author.Tests.{lt-ltb}
-use Rattle.records.proofs.Bytes.{ends-later}
+use Rattle.records.proofs.Ends.{ends-later}
 use Rattle.records.proofs.ends_beyond.Statement.{statement}
 use Rattle.records.proofs.ends_beyond.Tie as tie
 

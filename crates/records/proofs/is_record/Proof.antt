@@ -12,23 +12,11 @@ use Rattle.slots.specs.Records.{lengthIn, isRecord, limitOf, slotSize}
 use Rattle.records.proofs.is_record.Statement.{statement}
 use Rattle.records.proofs.is_record.Tie as tie
 
-byte-or-requires : tie.Need-byte-or-requires
-byte-or-requires c κs = search needs
-
 returns : tie.Need-returns
 unfolding isRecord
 returns c =
     let a = c .before .before .before .args in
     ap (λ (b : Bool). b && leb (lengthIn (a .bytes .now)) (limitOf (a .g))) (sym (ne-eqb (getD (a .bytes .now) 0 0) 1 (λ e. omega (arith, c .if1 .taken, c .before .byte-or .ensures))))
-
-record-length-requires : tie.Need-record-length-requires
-record-length-requires c κs = search needs
-
-mul-result : tie.Need-mul-result
-mul-result c = search needs
-
-sub-result : tie.Need-sub-result
-sub-result c = search needs
 
 returns-2 : tie.Need-returns-2
 unfolding isRecord limitOf slotSize
@@ -40,4 +28,4 @@ returns-2 c =
 pub is-record-spec : {M : Type 1} → statement M
 is-record-spec =
     tie.close
-    (tie.spec byte-or-requires returns record-length-requires mul-result sub-result returns-2)
+    (tie.spec (λ c κs. search needs) returns (λ c κs. search needs) (λ c. search needs) (λ c. search needs) returns-2)

@@ -8,9 +8,6 @@ use Rattle.slots.specs.Records.{getVerdict}
 use Rattle.records.proofs.judge_get.Statement.{statement}
 use Rattle.records.proofs.judge_get.Tie as tie
 
-is-record-requires : tie.Need-is-record-requires
-is-record-requires c κs = search needs
-
 returns : tie.Need-returns
 unfolding getVerdict
 returns c = ap (λ (b : Bool). cond b Good Blank) (sym (c .if1 .taken) ∙ c .before .is-record .ensures)
@@ -20,4 +17,4 @@ unfolding getVerdict
 returns-2 c = ap (λ (b : Bool). cond b Good Blank) (sym (c .if1 .left) ∙ c .before .is-record .ensures)
 
 pub judge-get-spec : {M : Type 1} → statement M
-judge-get-spec = tie.close (tie.spec is-record-requires returns returns-2)
+judge-get-spec = tie.close (tie.spec (λ c κs. search needs) returns returns-2)

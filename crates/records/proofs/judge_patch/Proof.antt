@@ -8,12 +8,9 @@ use borrow.Author.Tests.{not-true, not-false}
 use borrow.Author.Needs.{needs}
 use Rattle.slots.specs.declared.Verdict.the-variants.{Good, Blank, Beyond}
 use Rattle.slots.specs.Records.{lengthIn, patchVerdict}
-use Rattle.records.proofs.Bytes.{not-later}
+use Rattle.records.proofs.Ends.{not-later}
 use Rattle.records.proofs.judge_patch.Statement.{statement}
 use Rattle.records.proofs.judge_patch.Tie as tie
-
-is-record-requires : tie.Need-is-record-requires
-is-record-requires c κs = search needs
 
 returns : tie.Need-returns
 unfolding patchVerdict
@@ -21,12 +18,6 @@ returns c =
     let is-record = c .before .is-record in
     let a = c .before .before .before .args in
     ap (λ (b : Bool). cond b (cond (leb (a .place + a .count) (lengthIn (a .bytes .now))) Good Beyond) Blank) (sym (not-true (is-record .result) (c .if1 .taken)) ∙ is-record .ensures)
-
-record-length-requires : tie.Need-record-length-requires
-record-length-requires c κs = search needs
-
-ends-beyond-requires : tie.Need-ends-beyond-requires
-ends-beyond-requires c κs = search needs
 
 returns-2 : tie.Need-returns-2
 unfolding patchVerdict
@@ -48,9 +39,9 @@ pub judge-patch-spec : {M : Type 1} → statement M
 judge-patch-spec =
     tie.close
     (tie.spec
-    is-record-requires
+    (λ c κs. search needs)
     returns
-    record-length-requires
-    ends-beyond-requires
+    (λ c κs. search needs)
+    (λ c κs. search needs)
     returns-2
     returns-3)

@@ -8,24 +8,6 @@ use Rattle.slots.specs.Records.{lengthIn}
 use Rattle.records.proofs.record_length.Statement.{statement}
 use Rattle.records.proofs.record_length.Tie as tie
 
-byte-or-requires : tie.Need-byte-or-requires
-byte-or-requires c κs = search needs
-
-wide-requires : tie.Need-wide-requires
-wide-requires c κs = search needs
-
-mul-result : tie.Need-mul-result
-mul-result c = search needs
-
-byte-or-requires-2 : tie.Need-byte-or-requires-2
-byte-or-requires-2 c κs = search needs
-
-wide-requires-2 : tie.Need-wide-requires-2
-wide-requires-2 c κs = search needs
-
-add-result : tie.Need-add-result
-add-result c = search needs
-
 returns : tie.Need-returns
 unfolding lengthIn
 returns c =
@@ -36,10 +18,10 @@ pub record-length-spec : {M : Type 1} → statement M
 record-length-spec =
     tie.close
     (tie.spec
-    byte-or-requires
-    wide-requires
-    mul-result
-    byte-or-requires-2
-    wide-requires-2
-    add-result
+    (λ c κs. search needs)
+    (λ c κs. search needs)
+    (λ c. search needs)
+    (λ c κs. search needs)
+    (λ c κs. search needs)
+    (λ c. search needs)
     returns)

@@ -5,17 +5,11 @@ use borrow.Author.Needs.{needs}
 use Rattle.refusals.proofs.bad_script.Statement.{statement}
 use Rattle.refusals.proofs.bad_script.Tie as tie
 
-largest-requires : tie.Need-largest-requires
-largest-requires c κs = search needs
-
 returns : tie.Need-returns
 returns c = let a = c .before .before .before .args in fine-below (a .g) (a .array) (a .script .now) (a .junk) (c .before .largest .ensures) (c .if1 .taken)
 
 returns-2 : tie.Need-returns-2
 returns-2 c = let a = c .before .before .before .before .args in bad-above (a .g) (a .array) (a .script .now) (a .junk) (c .before .before .largest .ensures) (c .if2 .taken)
-
-mul-result : tie.Need-mul-result
-mul-result c = search needs
 
 add-result : tie.Need-add-result
 add-result c = let s = c .before .before .before .before .before in small (s .args .g) (s .args .array) (s .pre)
@@ -25,4 +19,4 @@ returns-3 c = let a = c .before .before .before .before .before .args in cut-two
 
 pub bad-script-spec : {M : Type 1} → statement M
 bad-script-spec =
-    tie.close (tie.spec largest-requires returns returns-2 mul-result add-result returns-3)
+    tie.close (tie.spec (λ c κs. search needs) returns returns-2 (λ c. search needs) add-result returns-3)

@@ -7,12 +7,6 @@ use borrow.Author.Needs.{needs}
 use Rattle.refusals.proofs.call_refusal.Statement.{statement}
 use Rattle.refusals.proofs.call_refusal.Tie as tie
 
-refusal-requires : tie.Need-refusal-requires
-refusal-requires c κs = search needs
-
-number-requires : tie.Need-number-requires
-number-requires c κs = search needs
-
 returns : tie.Need-returns
 returns c =
     let a = c .before .before .before .before .args in
@@ -25,12 +19,6 @@ bound-of-requires c κs =
     let a = s .args in
     limit-few (a .g) (a .array) (asking (a .kind) (a .slot) (a .limit)) (a .place) (a .n) (a .lent) (s .pre .1) (c .before .before .refusal .ensures) (sym (c .before .number .ensures) ∙ c .if1 .left)
 
-mul-late-refusal : tie.Need-mul-late-refusal
-mul-late-refusal c = search needs
-
-late-refusal-requires : tie.Need-late-refusal-requires
-late-refusal-requires c κs = search needs
-
 returns-2 : tie.Need-returns-2
 returns-2 c =
     let s = c .before .before .before .before .before .before in
@@ -42,10 +30,10 @@ pub call-refusal-spec : {M : Type 1} → statement M
 call-refusal-spec =
     tie.close
     (tie.spec
-    refusal-requires
-    number-requires
+    (λ c κs. search needs)
+    (λ c κs. search needs)
     returns
     bound-of-requires
-    mul-late-refusal
-    late-refusal-requires
+    (λ c. search needs)
+    (λ c κs. search needs)
     returns-2)

@@ -12,9 +12,6 @@ returns : tie.Need-returns
 unfolding lateRefusal
 returns c = simp (lt-ltb _ _ (c .if1 .taken))
 
-bad-script-requires : tie.Need-bad-script-requires
-bad-script-requires c κs = search needs
-
 returns-2 : tie.Need-returns-2
 unfolding lateRefusal
 returns-2 c =
@@ -28,4 +25,4 @@ returns-3 c =
     simp (le-ltb _ _ (c .before .before .if1 .left), k)
 
 pub late-refusal-spec : {M : Type 1} → statement M
-late-refusal-spec = tie.close (tie.spec returns bad-script-requires returns-2 returns-3)
+late-refusal-spec = tie.close (tie.spec returns (λ c κs. search needs) returns-2 returns-3)

@@ -10,18 +10,12 @@ use borrow.Author.Needs.{needs}
 use Rattle.refusals.proofs.raw_refusal.Statement.{statement}
 use Rattle.refusals.proofs.raw_refusal.Tie as tie
 
-is-framed-requires : tie.Need-is-framed-requires
-is-framed-requires c κs = search needs
-
 returns : tie.Need-returns
 unfolding rawRefusal
 returns c =
     let a = c .before .before .before .before .args in
     let k : framed (length (a .frame .now)) (a .reply) ≡ false = sym (c .before .is-framed .ensures) ∙ not-true (c .before .is-framed .result) (c .if1 .taken) in
     simp k
-
-late-refusal-requires : tie.Need-late-refusal-requires
-late-refusal-requires c κs = search needs
 
 returns-2 : tie.Need-returns-2
 unfolding rawRefusal
@@ -31,4 +25,4 @@ returns-2 c =
     simp k (c .late-refusal .ensures)
 
 pub raw-refusal-spec : {M : Type 1} → statement M
-raw-refusal-spec = tie.close (tie.spec is-framed-requires returns late-refusal-requires returns-2)
+raw-refusal-spec = tie.close (tie.spec (λ c κs. search needs) returns (λ c κs. search needs) returns-2)

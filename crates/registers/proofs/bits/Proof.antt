@@ -8,18 +8,6 @@ use borrow.Author.Needs.{needs}
 use Rattle.registers.proofs.bits.Statement.{statement}
 use Rattle.registers.proofs.bits.Tie as tie
 
-array-read-result : tie.Need-array-read-result
-array-read-result c = search needs
-
-array-read-result-2 : tie.Need-array-read-result-2
-array-read-result-2 c = search needs
-
-sub-result : tie.Need-sub-result
-sub-result c = search needs
-
-array-read-result-3 : tie.Need-array-read-result-3
-array-read-result-3 c = search needs
-
 returns : tie.Need-returns
 unfolding bitsOf
 returns c = rw (c .match .keys1)
@@ -35,10 +23,10 @@ pub bits-spec : {M : Type 1} → statement M
 bits-spec =
     tie.close
     (tie.spec
-    array-read-result
-    array-read-result-2
-    sub-result
-    array-read-result-3
+    (λ c. search needs)
+    (λ c. search needs)
+    (λ c. search needs)
+    (λ c. search needs)
     returns
     returns-2
     returns-3)

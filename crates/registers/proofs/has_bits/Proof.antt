@@ -5,12 +5,9 @@ use borrow.Author.Needs.{needs}
 use Rattle.registers.proofs.has_bits.Statement.{statement}
 use Rattle.registers.proofs.has_bits.Tie as tie
 
-bits-requires : tie.Need-bits-requires
-bits-requires c κs = search needs
-
 returns : tie.Need-returns
 unfolding hasBits
 returns c = rw (c .bits .ensures)
 
 pub has-bits-spec : {M : Type 1} → statement M
-has-bits-spec = tie.close (tie.spec bits-requires returns)
+has-bits-spec = tie.close (tie.spec (λ c κs. search needs) returns)

@@ -11,9 +11,6 @@ use borrow.Author.Needs.{needs}
 use Rattle.registers.proofs.is_sealed.Statement.{statement}
 use Rattle.registers.proofs.is_sealed.Tie as tie
 
-has-bits-requires : tie.Need-has-bits-requires
-has-bits-requires c κs = search needs
-
 -- what holds of the seals holds of the registers that have them
 locked : (r : Registers) (s : Seals) (n : ℕ) {b v : Bool} → sealsOf r ≡ s → b ≡ hasBits (s .lockdown) n → b ≡ v → hasBits (r .lockdown) n ≡ v
 locked r s n e h k = ap (λ (x : Seals). hasBits (x .lockdown) n) e ∙ sym h ∙ k
@@ -25,12 +22,6 @@ returns : tie.Need-returns
 returns c =
     let s = c .before .before .before .args in
     λ r e. sym (protected-locked r (s .sector) (locked r (s .s) (s .sector) e (c .before .has-bits .ensures) (c .if1 .taken)))
-
-has-bits-requires-2 : tie.Need-has-bits-requires-2
-has-bits-requires-2 c κs = search needs
-
-is-guarded-requires : tie.Need-is-guarded-requires
-is-guarded-requires c κs = search needs
 
 returns-2 : tie.Need-returns-2
 returns-2 c =
@@ -53,9 +44,9 @@ pub is-sealed-spec : {M : Type 1} → statement M
 is-sealed-spec =
     tie.close
     (tie.spec
-    has-bits-requires
+    (λ c κs. search needs)
     returns
-    has-bits-requires-2
-    is-guarded-requires
+    (λ c κs. search needs)
+    (λ c κs. search needs)
     returns-2
     returns-3)

@@ -6,32 +6,8 @@ use borrow.Author.Needs.{needs}
 use Rattle.registers.proofs.is_within.Statement.{statement}
 use Rattle.registers.proofs.is_within.Tie as tie
 
-enum-told : tie.Need-enum-told
-enum-told c = search needs
-
-enum-known-n : tie.Need-enum-known-n
-enum-known-n c = search needs
-
-enum-known-n-2 : tie.Need-enum-known-n-2
-enum-known-n-2 c = search needs
-
-enum-known-n-3 : tie.Need-enum-known-n-3
-enum-known-n-3 c = search needs
-
-sector-count-requires : tie.Need-sector-count-requires
-sector-count-requires c κs = search needs
-
-enum-known-n-4 : tie.Need-enum-known-n-4
-enum-known-n-4 c = search needs
-
-sector-count-requires-2 : tie.Need-sector-count-requires-2
-sector-count-requires-2 c κs = search needs
-
 power-requires : tie.Need-power-requires
 power-requires c κs = omega (arith, sector-most (c .before .before .before .before .args .g) (c .before .before .before .before .pre .few), c .sector-count2 .ensures)
-
-returns : tie.Need-returns
-returns c = search needs
 
 returns-2 : tie.Need-returns-2
 returns-2 c = rw (c .before .before .n .given .1)
@@ -49,15 +25,15 @@ pub is-within-spec : {M : Type 1} → statement M
 is-within-spec =
     tie.close
     (tie.spec
-    enum-told
-    enum-known-n
-    enum-known-n-2
-    enum-known-n-3
-    sector-count-requires
-    enum-known-n-4
-    sector-count-requires-2
+    (λ c. search needs)
+    (λ c. search needs)
+    (λ c. search needs)
+    (λ c. search needs)
+    (λ c κs. search needs)
+    (λ c. search needs)
+    (λ c κs. search needs)
     power-requires
-    returns
+    (λ c. search needs)
     returns-2
     returns-3
     returns-4

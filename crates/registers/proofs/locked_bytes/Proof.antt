@@ -9,14 +9,8 @@ use borrow.Author.Needs.{needs}
 use Rattle.registers.proofs.locked_bytes.Statement.{statement}
 use Rattle.registers.proofs.locked_bytes.Tie as tie
 
-sub-i : tie.Need-sub-i
-sub-i c = search needs
-
 array-read-l : tie.Need-array-read-l
 array-read-l c = ⊎-elim (λ w. omega arith) (λ w. omega arith) (c .if1 .came)
-
-mask-requires : tie.Need-mask-requires
-mask-requires c κs = search needs
 
 array-write-l : tie.Need-array-write-l
 array-write-l c = ⊎-elim (λ w. omega arith) (λ w. omega arith) (c .before .if1 .came)
@@ -28,4 +22,4 @@ returns c =
     rw (e, c .mask .ensures)
 
 pub locked-bytes-spec : {M : Type 1} → statement M
-locked-bytes-spec = tie.close (tie.spec sub-i array-read-l mask-requires array-write-l returns)
+locked-bytes-spec = tie.close (tie.spec (λ c. search needs) array-read-l (λ c κs. search needs) array-write-l returns)

@@ -5,15 +5,9 @@ use borrow.Author.Needs.{needs}
 use Rattle.registers.proofs.packed16.Statement.{statement}
 use Rattle.registers.proofs.packed16.Tie as tie
 
-word-at-requires : tie.Need-word-at-requires
-word-at-requires c κs = search needs
-
-word-at-requires-2 : tie.Need-word-at-requires-2
-word-at-requires-2 c κs = search needs
-
 returns : tie.Need-returns
 unfolding pack16
 returns c = rw (c .before .before .word-at .ensures, c .word-at2 .ensures)
 
 pub packed16-spec : {M : Type 1} → statement M
-packed16-spec = tie.close (tie.spec word-at-requires word-at-requires-2 returns)
+packed16-spec = tie.close (tie.spec (λ c κs. search needs) (λ c κs. search needs) returns)

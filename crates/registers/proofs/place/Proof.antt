@@ -7,23 +7,11 @@ use borrow.Author.Needs.{needs}
 use Rattle.registers.proofs.place.Statement.{statement}
 use Rattle.registers.proofs.place.Tie as tie
 
-part-of-requires : tie.Need-part-of-requires
-part-of-requires c κs = search needs
-
-enum-known-p : tie.Need-enum-known-p
-enum-known-p c = search needs
-
-facts-of-requires : tie.Need-facts-of-requires
-facts-of-requires c κs = search needs
-
 is-within-requires : tie.Need-is-within-requires
 is-within-requires c κs =
     let g = c .before .before .p .given .0 .0 in
     let n = c .before .before .before .before .before .args .length in
     sized-own g n (sized n g (sym (c .before .before .before .before .part-of .ensures) ∙ c .before .before .p .given .1))
-
-enum-told : tie.Need-enum-told
-enum-told c = search needs
 
 returns : tie.Need-returns
 returns c =
@@ -46,11 +34,11 @@ pub place-spec : {M : Type 1} → statement M
 place-spec =
     tie.close
     (tie.spec
-    part-of-requires
-    enum-known-p
-    facts-of-requires
+    (λ c κs. search needs)
+    (λ c. search needs)
+    (λ c κs. search needs)
     is-within-requires
-    enum-told
+    (λ c. search needs)
     returns
     returns-2
     returns-3)

@@ -10,9 +10,6 @@ use borrow.Author.Needs.{needs}
 use Rattle.sessions.proofs.heed.Statement.{statement}
 use Rattle.sessions.proofs.heed.Tie as tie
 
-end-with-requires : tie.Need-end-with-requires
-end-with-requires c κs = search needs
-
 returns : tie.Need-returns
 returns c =
     let a = (c .before .before .before .args) in
@@ -25,4 +22,4 @@ returns-2 c =
     ap (λ (b : Bool). with (a .e) (a .e .verdict) (cond b (ended Answers.Cut (a .d .course)) (a .e .course))) (sym (ne-eqb (a .b) 2 ((c .if1) .left)))
 
 pub heed-spec : {M : Type 1} → statement M
-heed-spec = tie.close (tie.spec end-with-requires returns returns-2)
+heed-spec = tie.close (tie.spec (λ c κs. search needs) returns returns-2)

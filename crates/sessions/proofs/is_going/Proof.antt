@@ -5,11 +5,8 @@ use borrow.Author.Needs.{needs}
 use Rattle.sessions.proofs.is_going.Statement.{statement}
 use Rattle.sessions.proofs.is_going.Tie as tie
 
-has-ended-requires : tie.Need-has-ended-requires
-has-ended-requires c κs = search needs
-
 returns : tie.Need-returns
 returns c = ap not ((c .has-ended) .ensures)
 
 pub is-going-spec : {M : Type 1} → statement M
-is-going-spec = tie.close (tie.spec has-ended-requires returns)
+is-going-spec = tie.close (tie.spec (λ c κs. search needs) returns)

@@ -11,12 +11,6 @@ slice-aggregate-take-step c = sym (length-take-le ((c .before .before .before .b
 take-step-requires : tie.Need-take-step-requires
 take-step-requires c κs = ((c .before .before .before .before .before .pre) .0, (c .before .before .before .before .before .pre) .1, (c .before .before .before .before .before .pre) .2)
 
-same-length : tie.Need-same-length
-same-length c = search needs
-
-returns : tie.Need-returns
-returns c = search needs
-
 pub take-first-spec : {M : Type 1} → statement M
 take-first-spec =
-    tie.close (tie.spec slice-aggregate-take-step take-step-requires same-length returns)
+    tie.close (tie.spec slice-aggregate-take-step take-step-requires (λ c. search needs) (λ c. search needs))

@@ -19,12 +19,6 @@ step-at-requires c κs = sound-slot ((c .before .before .before .before .before 
 write-step-requires : tie.Need-write-step-requires
 write-step-requires c κs = (sound-pages ((c .before .before .before .before .before .before .before .before .before .before .pre) .sound), sized _ _ ((c .before .before .before .before .before .before .before .before .before .before .pre) .sound .part) .narrow, (c .before .before .before .step-at) .ensures .1, search needs, search needs)
 
-byte-or-requires : tie.Need-byte-or-requires
-byte-or-requires c κs = search needs
-
-mul-exchange-first : tie.Need-mul-exchange-first
-mul-exchange-first c = search needs
-
 -- the frame's buffer, as long as it was lent
 long : (e : tie.After-struct-known) → length (e .before .before .before .before .before .before .before .before .before .before .before .before .before .before .before .before .before .before .before .args .frame .now) ≡ 272
 long e = search needs
@@ -44,23 +38,14 @@ take-first-requires c κs =
     ((c .before .before .before .before .before .before .before .before .before .before .before .before .before .before .before .before .before .before .before .before .step-at) .ensures .0 (a .g)) ((c .before .before .before .before .before .before .before .before .before .before .before .before .before .before .before .before .write-step) .ensures) in
     ((c .before .before .before .before .before .before .before .before .before .before .before .before .before .before .before .before .before .before .before .before .before .before .before .before .before .before .before .pre) .sound, (c .before .before .before .before .before .before .before .before .before .before .before .before .before .before .before .before .before .before .before .before .step-at) .ensures .0 (a .g), search needs, reply-reaches ((c .before .before .before .before .before .before .before .before .before .before .before .before .before .before .before .before .write-step) .result) ((c .before .before .before .before .before .before .before .before .before .before .before .before .before .before .before .before .write-step) .last .1 .1 .1 .1 .1 .0) ((c .before .before .before .before .before .before .before .exchange-first) .last .1 .1 .1 .1 .0) ((c .before .before .before .before .before .before .before .exchange-first) .ensures .0) (k .0))
 
-heed-requires : tie.Need-heed-requires
-heed-requires c κs = search needs
-
 add-t32 : tie.Need-add-t32
 add-t32 c = omega (arith, (c .before .before .before .before .before .before .before .before .before .before .before .before .before .before .before .before .before .before .before .before .before .before .before .before .before .before .before .before .before .before .pre) .frames)
-
-poll-count-requires : tie.Need-poll-count-requires
-poll-count-requires c κs = search needs
 
 add-t39 : tie.Need-add-t39
 add-t39 c = omega (arith, (c .before .before .before .before .before .before .before .before .before .before .before .before .before .before .before .before .before .before .before .before .before .before .before .before .before .before .before .before .before .before .before .before .pre) .polls, (c .before .poll-count) .ensures .1)
 
 same-length : tie.Need-same-length
 same-length c = array-long ((c .before .before .before .before .before .before .before .before .before .before .before .before .exchange-first) .ensures .0)
-
-same-length-2 : tie.Need-same-length-2
-same-length-2 c = search needs
 
 returns : tie.Need-returns
 returns c =
@@ -80,14 +65,14 @@ turn-spec =
     (tie.spec
     step-at-requires
     write-step-requires
-    byte-or-requires
-    mul-exchange-first
+    (λ c κs. search needs)
+    (λ c. search needs)
     exchange-first-requires
     take-first-requires
-    heed-requires
+    (λ c κs. search needs)
     add-t32
-    poll-count-requires
+    (λ c κs. search needs)
     add-t39
     same-length
-    same-length-2
+    (λ c. search needs)
     returns)

@@ -12,13 +12,10 @@ returns c =
     let a = c .before .args in
     sym (List·getD-eq-default (a .bytes .now) (a .other) (c .if1 .taken))
 
-shared-slice-read-result : tie.Need-shared-slice-read-result
-shared-slice-read-result c = search needs
-
 returns-2 : tie.Need-returns-2
 returns-2 c =
     let a = c .before .before .args in
     getD-other (a .bytes .now) (a .i) 0 (a .other) (c .before .if1 .left)
 
 pub byte-or-spec : {M : Type 1} → statement M
-byte-or-spec = tie.close (tie.spec returns shared-slice-read-result returns-2)
+byte-or-spec = tie.close (tie.spec returns (λ c. search needs) returns-2)

@@ -6,14 +6,8 @@ use borrow.Author.Needs.{needs}
 use Rattle.slipknoll.proofs.slipknoll_driver_count.Statement.{statement}
 use Rattle.slipknoll.proofs.slipknoll_driver_count.Tie as tie
 
-decode-requires : tie.Need-decode-requires
-decode-requires c κs = search needs
-
-count-requires : tie.Need-count-requires
-count-requires c κs = search needs
-
 returns : tie.Need-returns
 returns c = ((c .count) .ensures .0 ∙ ap (λ (d : Driver). countIn d ((c .before .before .args) .staged .now)) ((c .before .decode) .ensures), (c .count) .ensures .1)
 
 pub slipknoll-driver-count-spec : {M : Type 1} → statement M
-slipknoll-driver-count-spec = tie.close (tie.spec decode-requires count-requires returns)
+slipknoll-driver-count-spec = tie.close (tie.spec (λ c κs. search needs) (λ c κs. search needs) returns)

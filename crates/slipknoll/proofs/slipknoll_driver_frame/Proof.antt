@@ -10,12 +10,6 @@ use borrow.Author.Needs.{needs}
 use Rattle.slipknoll.proofs.slipknoll_driver_frame.Statement.{statement}
 use Rattle.slipknoll.proofs.slipknoll_driver_frame.Tie as tie
 
-decode-requires : tie.Need-decode-requires
-decode-requires c κs = search needs
-
-write-frame-requires : tie.Need-write-frame-requires
-write-frame-requires c κs = search needs
-
 returns : tie.Need-returns
 returns c =
     let a = c .before .before .before .before .args in
@@ -24,4 +18,4 @@ returns c =
     (w .0 ∙ ap length f, w .1 ∙ f, w .2 ∙ ap (λ (l : List ℕ). over l (a .frame .now)) f)
 
 pub slipknoll-driver-frame-spec : {M : Type 1} → statement M
-slipknoll-driver-frame-spec = tie.close (tie.spec decode-requires write-frame-requires returns)
+slipknoll-driver-frame-spec = tie.close (tie.spec (λ c κs. search needs) (λ c κs. search needs) returns)

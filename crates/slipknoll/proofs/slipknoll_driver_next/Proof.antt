@@ -9,15 +9,6 @@ use borrow.Author.Needs.{needs}
 use Rattle.slipknoll.proofs.slipknoll_driver_next.Statement.{statement}
 use Rattle.slipknoll.proofs.slipknoll_driver_next.Tie as tie
 
-decode-requires : tie.Need-decode-requires
-decode-requires c κs = search needs
-
-next-frame-requires : tie.Need-next-frame-requires
-next-frame-requires c κs = search needs
-
-encode-requires : tie.Need-encode-requires
-encode-requires c κs = search needs
-
 returns : tie.Need-returns
 returns c =
     let a = c .before .before .before .before .before .before .before .before .before .before .args in
@@ -31,4 +22,4 @@ returns c =
 
 pub slipknoll-driver-next-spec : {M : Type 1} → statement M
 slipknoll-driver-next-spec =
-    tie.close (tie.spec decode-requires next-frame-requires encode-requires returns)
+    tie.close (tie.spec (λ c κs. search needs) (λ c κs. search needs) (λ c κs. search needs) returns)

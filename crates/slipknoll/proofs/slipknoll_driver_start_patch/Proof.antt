@@ -1,19 +1,13 @@
--- `slipknoll::slipknoll_driver_start_patch` meets its contract: the block holds the first state of `driver::start_patch`. Assumes nothing.
+-- `slipknoll::slipknoll_driver_start_patch` meets its contract: the block holds the first state of `openings::start_patch`. Assumes nothing.
 use mathlib.Core.Path.{ap, _∙_}
 use Rattle.driver_blocks.specs.Block.{encodeDriver}
 use borrow.Author.Needs.{needs}
 use Rattle.slipknoll.proofs.slipknoll_driver_start_patch.Statement.{statement}
 use Rattle.slipknoll.proofs.slipknoll_driver_start_patch.Tie as tie
 
-start-patch-requires : tie.Need-start-patch-requires
-start-patch-requires c κs = search needs
-
-encode-requires : tie.Need-encode-requires
-encode-requires c κs = search needs
-
 returns : tie.Need-returns
 returns c = c .encode .ensures ∙ ap encodeDriver (c .before .before .start-patch .ensures)
 
 pub slipknoll-driver-start-patch-spec : {M : Type 1} → statement M
 slipknoll-driver-start-patch-spec =
-    tie.close (tie.spec start-patch-requires encode-requires returns)
+    tie.close (tie.spec (λ c κs. search needs) (λ c κs. search needs) returns)

@@ -4,21 +4,9 @@ use Rattle.runs.proofs.Promised.{told}
 use Rattle.slipknoll.proofs.slipknoll_patch.Statement.{statement}
 use Rattle.slipknoll.proofs.slipknoll_patch.Tie as tie
 
-patch-requires : tie.Need-patch-requires
-patch-requires c κs = search needs
-
-tell-requires : tie.Need-tell-requires
-tell-requires c κs = search needs
-
-same-length : tie.Need-same-length
-same-length c = search needs
-
-same-length-2 : tie.Need-same-length-2
-same-length-2 c = search needs
-
 returns : tie.Need-returns
 returns c = told (c .tell .ensures) (c .before .before .before .before .before .before .patch .ensures)
 
 pub slipknoll-patch-spec : {M : Type 1} → statement M
 slipknoll-patch-spec =
-    tie.close (tie.spec patch-requires tell-requires same-length same-length-2 returns)
+    tie.close (tie.spec (λ c κs. search needs) (λ c κs. search needs) (λ c. search needs) (λ c. search needs) returns)

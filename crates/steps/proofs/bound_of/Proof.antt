@@ -8,39 +8,6 @@ use borrow.Author.Needs.{needs}
 use Rattle.steps.proofs.bound_of.Statement.{statement}
 use Rattle.steps.proofs.bound_of.Tie as tie
 
-enum-told : tie.Need-enum-told
-enum-told c = search needs
-
-mul-result : tie.Need-mul-result
-mul-result c = search needs
-
-add-result : tie.Need-add-result
-add-result c = search needs
-
-enum-told-2 : tie.Need-enum-told-2
-enum-told-2 c = search needs
-
-mul-result-2 : tie.Need-mul-result-2
-mul-result-2 c = search needs
-
-add-result-2 : tie.Need-add-result-2
-add-result-2 c = search needs
-
-enum-told-3 : tie.Need-enum-told-3
-enum-told-3 c = search needs
-
-add-result-3 : tie.Need-add-result-3
-add-result-3 c = search needs
-
-enum-told-4 : tie.Need-enum-told-4
-enum-told-4 c = search needs
-
-mul-result-3 : tie.Need-mul-result-3
-mul-result-3 c = search needs
-
-add-result-4 : tie.Need-add-result-4
-add-result-4 c = search needs
-
 returns : tie.Need-returns
 unfolding stated
 returns c = let a = c .before .before .args in (sym (ap (λ (k : Kind). stated k (a .limit)) (c .enum-told .given .1)), omega arith)
@@ -61,17 +28,17 @@ pub bound-of-spec : {M : Type 1} → statement M
 bound-of-spec =
     tie.close
     (tie.spec
-    enum-told
-    mul-result
-    add-result
-    enum-told-2
-    mul-result-2
-    add-result-2
-    enum-told-3
-    add-result-3
-    enum-told-4
-    mul-result-3
-    add-result-4
+    (λ c. search needs)
+    (λ c. search needs)
+    (λ c. search needs)
+    (λ c. search needs)
+    (λ c. search needs)
+    (λ c. search needs)
+    (λ c. search needs)
+    (λ c. search needs)
+    (λ c. search needs)
+    (λ c. search needs)
+    (λ c. search needs)
     returns
     returns-2
     returns-3

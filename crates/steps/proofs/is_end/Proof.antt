@@ -7,9 +7,6 @@ use borrow.Author.Needs.{needs}
 use Rattle.steps.proofs.is_end.Statement.{statement}
 use Rattle.steps.proofs.is_end.Tie as tie
 
-enum-told : tie.Need-enum-told
-enum-told c = search needs
-
 returns : tie.Need-returns
 unfolding isEnd
 returns c = sym (ap isEnd (c .enum-told .given .1))
@@ -18,4 +15,4 @@ returns-2 : tie.Need-returns-2
 returns-2 c = not-end (c .before .args .x) (c .match .keys2)
 
 pub is-end-spec : {M : Type 1} → statement M
-is-end-spec = tie.close (tie.spec enum-told returns returns-2)
+is-end-spec = tie.close (tie.spec (λ c. search needs) returns returns-2)

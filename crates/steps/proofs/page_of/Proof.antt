@@ -9,18 +9,6 @@ use borrow.Author.Needs.{needs}
 use Rattle.steps.proofs.page_of.Statement.{statement}
 use Rattle.steps.proofs.page_of.Tie as tie
 
-enum-told : tie.Need-enum-told
-enum-told c = search needs
-
-enum-told-2 : tie.Need-enum-told-2
-enum-told-2 c = search needs
-
-enum-told-3 : tie.Need-enum-told-3
-enum-told-3 c = search needs
-
-enum-told-4 : tie.Need-enum-told-4
-enum-told-4 c = search needs
-
 returns : tie.Need-returns
 unfolding perPage
 returns c = let a = c .before .before .args in sym (ap (λ (k : Kind). a .j / perPage k) (c .enum-told .given .1))
@@ -40,4 +28,4 @@ returns-4 c = let a = c .before .before .args in sym (ap (λ (k : Kind). a .j / 
 pub page-of-spec : {M : Type 1} → statement M
 page-of-spec =
     tie.close
-    (tie.spec enum-told enum-told-2 enum-told-3 enum-told-4 returns returns-2 returns-3 returns-4)
+    (tie.spec (λ c. search needs) (λ c. search needs) (λ c. search needs) (λ c. search needs) returns returns-2 returns-3 returns-4)

@@ -11,41 +11,17 @@ use borrow.Author.Needs.{needs}
 use Rattle.steps.proofs.page_step.Statement.{statement}
 use Rattle.steps.proofs.page_step.Tie as tie
 
-enum-told : tie.Need-enum-told
-enum-told c = search needs
-
-put-step-requires : tie.Need-put-step-requires
-put-step-requires c κs = search needs
-
-enum-told-2 : tie.Need-enum-told-2
-enum-told-2 c = search needs
-
 returns : tie.Need-returns
 unfolding pageSteps pageBy
 returns c =
     let a = c .before .before .before .args in
     (by-kind (a .page) (a .j) (c .before .enum-told2 .given .1) (at-first (Read (a .page)) (putPage (a .page)) (a .j) (omega arith)), omega arith)
 
-sub-put-step : tie.Need-sub-put-step
-sub-put-step c = search needs
-
-put-step-requires-2 : tie.Need-put-step-requires-2
-put-step-requires-2 c κs = search needs
-
-enum-told-3 : tie.Need-enum-told-3
-enum-told-3 c = search needs
-
 returns-2 : tie.Need-returns-2
 unfolding pageSteps pageBy
 returns-2 c =
     let a = c .before .before .before .args in
     (by-kind (a .page) (a .j) (c .before .enum-told3 .given .1) (at-first (Read (a .page)) [] (a .j) (omega arith)), omega arith)
-
-enum-told-4 : tie.Need-enum-told-4
-enum-told-4 c = search needs
-
-sent-step-requires : tie.Need-sent-step-requires
-sent-step-requires c κs = search needs
 
 returns-3 : tie.Need-returns-3
 unfolding pageSteps
@@ -77,16 +53,16 @@ pub page-step-spec : {M : Type 1} → statement M
 page-step-spec =
     tie.close
     (tie.spec
-    enum-told
-    put-step-requires
-    enum-told-2
+    (λ c. search needs)
+    (λ c κs. search needs)
+    (λ c. search needs)
     returns
-    sub-put-step
-    put-step-requires-2
-    enum-told-3
+    (λ c. search needs)
+    (λ c κs. search needs)
+    (λ c. search needs)
     returns-2
-    enum-told-4
-    sent-step-requires
+    (λ c. search needs)
+    (λ c κs. search needs)
     returns-3
     returns-4
     returns-5

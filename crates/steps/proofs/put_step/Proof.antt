@@ -15,16 +15,10 @@ returns : tie.Need-returns
 unfolding pageBy
 returns c = let a = c .before .args in (at-first (Load (a .page)) (Send Program (a .page) ∷ Wait ∷ []) (a .j) (omega arith), omega arith)
 
-sub-sent-step : tie.Need-sub-sent-step
-sub-sent-step c = search needs
-
-sent-step-requires : tie.Need-sent-step-requires
-sent-step-requires c κs = search needs
-
 returns-2 : tie.Need-returns-2
 returns-2 c =
     let a = c .before .before .args in
     (c .sent-step .ensures .0 ∙ at-later (Load (a .page)) (Send Program (a .page) ∷ Wait ∷ []) (a .j) (λ e. omega arith), c .sent-step .ensures .1)
 
 pub put-step-spec : {M : Type 1} → statement M
-put-step-spec = tie.close (tie.spec returns sub-sent-step sent-step-requires returns-2)
+put-step-spec = tie.close (tie.spec returns (λ c. search needs) (λ c κs. search needs) returns-2)

@@ -9,12 +9,6 @@ use borrow.Author.Needs.{needs}
 use Rattle.steps.proofs.step_at.Statement.{statement}
 use Rattle.steps.proofs.step_at.Tie as tie
 
-opening-length-requires : tie.Need-opening-length-requires
-opening-length-requires c κs = search needs
-
-opening-step-requires : tie.Need-opening-step-requires
-opening-step-requires c κs = search needs
-
 returns : tie.Need-returns
 returns c =
     let a = c .before .before .before .args in
@@ -23,12 +17,6 @@ returns c =
           ∙ at-opening (a .kind) g (a .slot) (a .i) (n .ensures .0) (omega arith),
       omega (arith, c .opening-step .ensures .1),
     )
-
-page-of-requires : tie.Need-page-of-requires
-page-of-requires c κs = search needs
-
-page-count-requires : tie.Need-page-count-requires
-page-count-requires c κs = search needs
 
 returns-2 : tie.Need-returns-2
 unfolding pageBy
@@ -40,15 +28,6 @@ returns-2 c =
       omega arith,
     )
 
-mul-page-step : tie.Need-mul-page-step
-mul-page-step c = search needs
-
-add-page-step : tie.Need-add-page-step
-add-page-step c = search needs
-
-per-page-requires : tie.Need-per-page-requires
-per-page-requires c κs = search needs
-
 mul-page-step-2 : tie.Need-mul-page-step-2
 mul-page-step-2 c =
     let a = c .before .before .before .before .before .before .args in
@@ -56,9 +35,6 @@ mul-page-step-2 c =
 
 sub-page-step : tie.Need-sub-page-step
 sub-page-step c = page-low (c .before .before .before .before .before .before .args .kind) (c .per-page .ensures .0) (c .before .before .before .page-of .ensures)
-
-page-step-requires : tie.Need-page-step-requires
-page-step-requires c κs = search needs
 
 returns-3 : tie.Need-returns-3
 returns-3 c =
@@ -76,16 +52,16 @@ pub step-at-spec : {M : Type 1} → statement M
 step-at-spec =
     tie.close
     (tie.spec
-    opening-length-requires
-    opening-step-requires
+    (λ c κs. search needs)
+    (λ c κs. search needs)
     returns
-    page-of-requires
-    page-count-requires
+    (λ c κs. search needs)
+    (λ c κs. search needs)
     returns-2
-    mul-page-step
-    add-page-step
-    per-page-requires
+    (λ c. search needs)
+    (λ c. search needs)
+    (λ c κs. search needs)
     mul-page-step-2
     sub-page-step
-    page-step-requires
+    (λ c κs. search needs)
     returns-3)

@@ -5,12 +5,6 @@ use borrow.Author.Needs.{needs}
 use Rattle.turns.proofs.opcode_of.Statement.{statement}
 use Rattle.turns.proofs.opcode_of.Tie as tie
 
-enum-told : tie.Need-enum-told
-enum-told c = search needs
-
-enum-told-2 : tie.Need-enum-told-2
-enum-told-2 c = search needs
-
 returns : tie.Need-returns
 unfolding opcodeOf
 returns c = search needs
@@ -20,4 +14,4 @@ unfolding opcodeOf
 returns-2 c = search needs
 
 pub opcode-of-spec : {M : Type 1} → statement M
-opcode-of-spec = tie.close (tie.spec enum-told enum-told-2 returns returns-2)
+opcode-of-spec = tie.close (tie.spec (λ c. search needs) (λ c. search needs) returns returns-2)

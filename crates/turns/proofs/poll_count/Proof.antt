@@ -6,9 +6,6 @@ use borrow.Author.Needs.{needs}
 use Rattle.turns.proofs.poll_count.Statement.{statement}
 use Rattle.turns.proofs.poll_count.Tie as tie
 
-enum-told : tie.Need-enum-told
-enum-told c = search needs
-
 returns : tie.Need-returns
 unfolding isWait
 returns c = rw (c .enum-told .given .1) (search needs)
@@ -17,4 +14,4 @@ returns-2 : tie.Need-returns-2
 returns-2 c = no-wait (c .before .args .x) (c .match .keys2)
 
 pub poll-count-spec : {M : Type 1} → statement M
-poll-count-spec = tie.close (tie.spec enum-told returns returns-2)
+poll-count-spec = tie.close (tie.spec (λ c. search needs) returns returns-2)

@@ -8,29 +8,14 @@ use borrow.Author.Needs.{needs}
 use Rattle.turns.proofs.put_address.Statement.{statement}
 use Rattle.turns.proofs.put_address.Tie as tie
 
-slice-write-frame : tie.Need-slice-write-frame
-slice-write-frame c = search needs
-
-cast-frame : tie.Need-cast-frame
-cast-frame c = search needs
-
 slice-write-frame-2 : tie.Need-slice-write-frame-2
 slice-write-frame-2 c = simp length-set (omega (arith, c .pre))
-
-cast-frame-2 : tie.Need-cast-frame-2
-cast-frame-2 c = search needs
 
 slice-write-frame-3 : tie.Need-slice-write-frame-3
 slice-write-frame-3 c = simp length-set (omega (arith, c .pre))
 
-cast-frame-3 : tie.Need-cast-frame-3
-cast-frame-3 c = search needs
-
 slice-write-frame-4 : tie.Need-slice-write-frame-4
 slice-write-frame-4 c = simp length-set (omega (arith, c .pre))
-
-same-length : tie.Need-same-length
-same-length c = search needs
 
 returns : tie.Need-returns
 returns c =
@@ -41,12 +26,12 @@ pub put-address-spec : {M : Type 1} → statement M
 put-address-spec =
     tie.close
     (tie.spec
-    slice-write-frame
-    cast-frame
+    (λ c. search needs)
+    (λ c. search needs)
     slice-write-frame-2
-    cast-frame-2
+    (λ c. search needs)
     slice-write-frame-3
-    cast-frame-3
+    (λ c. search needs)
     slice-write-frame-4
-    same-length
+    (λ c. search needs)
     returns)

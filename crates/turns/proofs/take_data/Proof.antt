@@ -9,15 +9,6 @@ use borrow.Author.Needs.{needs}
 use Rattle.turns.proofs.take_data.Statement.{statement}
 use Rattle.turns.proofs.take_data.Tie as tie
 
-enum-known-x : tie.Need-enum-known-x
-enum-known-x c = search needs
-
-read-page-requires : tie.Need-read-page-requires
-read-page-requires c κs = search needs
-
-same-length : tie.Need-same-length
-same-length c = search needs
-
 returns : tie.Need-returns
 unfolding takenBy
 returns c =
@@ -31,4 +22,4 @@ returns-2 c =
     taken-none (a .x) (a .g) (a .d .kind) (holdingOf (a .d) (a .payload .now) (a .staged .now)) (a .reply .now) (c .match .keys2)
 
 pub take-data-spec : {M : Type 1} → statement M
-take-data-spec = tie.close (tie.spec enum-known-x read-page-requires same-length returns returns-2)
+take-data-spec = tie.close (tie.spec (λ c. search needs) (λ c κs. search needs) (λ c. search needs) returns returns-2)

@@ -11,15 +11,6 @@ use borrow.Author.Needs.{needs}
 use Rattle.turns.proofs.take_step.Statement.{statement}
 use Rattle.turns.proofs.take_step.Tie as tie
 
-mul-sector-of : tie.Need-mul-sector-of
-mul-sector-of c = search needs
-
-sector-of-requires : tie.Need-sector-of-requires
-sector-of-requires c κs = search needs
-
-is-last-requires : tie.Need-is-last-requires
-is-last-requires c κs = search needs
-
 take-course-requires : tie.Need-take-course-requires
 take-course-requires c κs =
     let s = c .before .before .before .before .before .before .before in
@@ -29,9 +20,6 @@ take-data-requires : tie.Need-take-data-requires
 take-data-requires c κs =
     let s = c .before .before .before .before .before .before .before .before .before in
     (sound-pages (s .pre .0), s .pre .2)
-
-same-length : tie.Need-same-length
-same-length c = search needs
 
 returns : tie.Need-returns
 returns c =
@@ -48,10 +36,10 @@ pub take-step-spec : {M : Type 1} → statement M
 take-step-spec =
     tie.close
     (tie.spec
-    mul-sector-of
-    sector-of-requires
-    is-last-requires
+    (λ c. search needs)
+    (λ c κs. search needs)
+    (λ c κs. search needs)
     take-course-requires
     take-data-requires
-    same-length
+    (λ c. search needs)
     returns)

@@ -16,27 +16,6 @@ use borrow.Author.Needs.{needs}
 use Rattle.turns.proofs.write_load.Statement.{statement}
 use Rattle.turns.proofs.write_load.Tie as tie
 
-add-e : tie.Need-add-e
-add-e c = search needs
-
-put-address-requires : tie.Need-put-address-requires
-put-address-requires c κs = search needs
-
-sub-load-page : tie.Need-sub-load-page
-sub-load-page c = search needs
-
-part-load-page-start : tie.Need-part-load-page-start
-part-load-page-start c = search needs
-
-part-load-page-end : tie.Need-part-load-page-end
-part-load-page-end c = search needs
-
-load-page-requires : tie.Need-load-page-requires
-load-page-requires c κs = search needs
-
-same-length : tie.Need-same-length
-same-length c = search needs
-
 returns : tie.Need-returns
 unfolding loaded
 returns c =
@@ -57,11 +36,11 @@ pub write-load-spec : {M : Type 1} → statement M
 write-load-spec =
     tie.close
     (tie.spec
-    add-e
-    put-address-requires
-    sub-load-page
-    part-load-page-start
-    part-load-page-end
-    load-page-requires
-    same-length
+    (λ c. search needs)
+    (λ c κs. search needs)
+    (λ c. search needs)
+    (λ c. search needs)
+    (λ c. search needs)
+    (λ c κs. search needs)
+    (λ c. search needs)
     returns)

@@ -6,17 +6,8 @@ use borrow.Author.Needs.{needs}
 use Rattle.turns.proofs.write_poll.Statement.{statement}
 use Rattle.turns.proofs.write_poll.Tie as tie
 
-slice-write-frame : tie.Need-slice-write-frame
-slice-write-frame c = search needs
-
-slice-write-frame-2 : tie.Need-slice-write-frame-2
-slice-write-frame-2 c = search needs
-
-same-length : tie.Need-same-length
-same-length c = search needs
-
 returns : tie.Need-returns
 returns c = (refl, two-set (c .args .frame .now) 0xD7 0 (c .pre))
 
 pub write-poll-spec : {M : Type 1} → statement M
-write-poll-spec = tie.close (tie.spec slice-write-frame slice-write-frame-2 same-length returns)
+write-poll-spec = tie.close (tie.spec (λ c. search needs) (λ c. search needs) (λ c. search needs) returns)

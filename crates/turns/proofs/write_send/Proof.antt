@@ -8,15 +8,6 @@ use borrow.Author.Needs.{needs}
 use Rattle.turns.proofs.write_send.Statement.{statement}
 use Rattle.turns.proofs.write_send.Tie as tie
 
-opcode-of-requires : tie.Need-opcode-of-requires
-opcode-of-requires c κs = search needs
-
-put-address-requires : tie.Need-put-address-requires
-put-address-requires c κs = search needs
-
-same-length : tie.Need-same-length
-same-length c = search needs
-
 returns : tie.Need-returns
 returns c =
     let a = c .before .before .before .before .before .before .args in
@@ -24,4 +15,4 @@ returns c =
     (refl, c .before .before .put-address .ensures ∙ ap (λ (x : ℕ). over (x ∷ a .n / 65536 % 256 ∷ a .n / 256 % 256 ∷ a .n % 256 ∷ []) (a .frame .now)) o)
 
 pub write-send-spec : {M : Type 1} → statement M
-write-send-spec = tie.close (tie.spec opcode-of-requires put-address-requires same-length returns)
+write-send-spec = tie.close (tie.spec (λ c κs. search needs) (λ c κs. search needs) (λ c. search needs) returns)

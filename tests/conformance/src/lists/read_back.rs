@@ -1,7 +1,6 @@
-//! A recipe that was put comes back: after a put that answers 0 and any list in
-//! which no obeyed frame starts an operation that programs or erases in the
-//! slot, every get of the slot answers 1 to 9 or 11, or it answers 0 with
-//! exactly the recipe.
+//! A recipe that was put comes back (14.8): if a put has answered 0, and the list
+//! after it is quiet in the slot, each get of the slot hands over exactly this
+//! recipe with 0, or says why not with 1 to 9 or 11.
 
 use std::ops::Range;
 
@@ -178,8 +177,8 @@ fn last_get(rng: &mut Rng, slot: usize) -> Item {
     }))
 }
 
-/// True if an obeyed frame of the item starts an operation that programs or
-/// erases in the slot.
+/// True if the item is not quiet in the slot: a frame of it is obeyed, and what
+/// this starts writes one of the slot's pages (14.6).
 fn touches(world: &World, item: &Item, part: Part, slot: usize) -> bool {
     let request = match item {
         Item::Send { frame, .. } => return starts_in(world, frame, part, slot),

@@ -2,9 +2,8 @@
 //! what an outline may depend on and different in everything else, on two chips
 //! alike in registers and otherwise different.
 //!
-//! Compared are, for each call, the six log bytes of each frame sent, frames,
-//! polls and answer; for an event, its answer. Answers 0, 12 and 13 may stand
-//! for one another.
+//! The outcomes are the same one by one (14.22): lines of the log, frames, polls
+//! and answer of a call, the answer of an event, with 0, 12 and 13 as one.
 
 use at45db081d_model::record::{field, tag};
 use at45db081d_model::slot::{with_recipe, MAX_RECIPE, SLOT_SIZE};
@@ -185,7 +184,7 @@ fn item_pair(rng: &mut Rng, ahead: &mut World, part: Part, without: Without) -> 
         _ => reach(ahead, &first),
     };
     let answer = ahead.run(&mut Model, &first).outcome.answer;
-    // 01: "whether 5 is met"; it is met by neither if 1 to 4 come before it.
+    // Both meet 5 or neither does (14.19); neither if 1 to 4 come before it.
     let size_matters = !(1..=4).contains(&answer) && without != Without::SizeAlike;
     let mut second = first.clone();
     if let Item::Call(call) = &mut second {
@@ -227,13 +226,13 @@ fn change_request(rng: &mut Rng, call: &mut CallItem, size_matters: bool) {
     }
 }
 
-/// What the cut rule takes of the junk for a register.
+/// The junk that reaches a register (8.9).
 #[derive(Clone, Copy, PartialEq, Eq)]
 enum Reach {
     Nothing,
     /// So many bytes from 528 on.
     Bytes(usize),
-    /// Whether J[528] is at least 80h.
+    /// Whether J[528] is 80h or more (8.8).
     Lock,
 }
 

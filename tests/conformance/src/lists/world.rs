@@ -39,7 +39,7 @@ impl World {
         }
     }
 
-    /// Does one item with record and array as the one before left them.
+    /// Does one item on what the one before has left of record and array.
     pub fn run(&mut self, device: &mut dyn Device, item: &Item) -> Outline {
         let (record, array) = (&mut self.record, &mut self.array);
         let answer = match item {

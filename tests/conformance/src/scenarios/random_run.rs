@@ -1,5 +1,5 @@
-//! Long random runs: each call takes record and array as the one before left
-//! them.
+//! Long random runs: each call works on what the one before has left of record
+//! and array.
 
 use at45db081d_model::record::{field, tag};
 use at45db081d_model::{Part, Record};

@@ -19,7 +19,7 @@ use wire::Wire;
 pub enum Slip {
     None,
 
-    /// A page whose bytes are already there is not programmed again.
+    /// A page that has its bytes already is not programmed again.
     SkipsPageAlreadyThere,
     /// A page that a patch does not touch is not programmed again.
     SkipsPageOutsidePatch,

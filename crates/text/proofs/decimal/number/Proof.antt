@@ -8,19 +8,13 @@ use Rattle.text.proofs.decimal.number.Tie as tie
 returns : tie.Need-returns
 returns c = none-empty (c .before .before .args .word .now) (c .if1 .taken)
 
-all-digits-requires : tie.Need-all-digits-requires
-all-digits-requires c κs = search needs
-
-value-requires : tie.Need-value-requires
-value-requires c κs = search needs
-
 returns-2 : tie.Need-returns-2
 returns-2 c =
     (c .value .ensures)
-    ∙ some-digits (c .before .before .before .before .before .args .word .now) (c .before .before .before .if1 .left) (sym (c .before .before .all-digits .ensures) ∙ (c .before .if2 .taken))
+    ∙ some-digits (c .before .before .before .before .before .args .word .now) (c .before .before .before .if1 .left) (sym (c .before .before .all .ensures) ∙ (c .before .if2 .taken))
 
 returns-3 : tie.Need-returns-3
-returns-3 c = none-other (c .before .before .before .before .args .word .now) (sym (c .before .all-digits .ensures) ∙ (c .if2 .left))
+returns-3 c = none-other (c .before .before .before .before .args .word .now) (sym (c .before .all .ensures) ∙ (c .if2 .left))
 
 pub number-spec : {M : Type 1} → statement M
-number-spec = tie.close (tie.spec returns all-digits-requires value-requires returns-2 returns-3)
+number-spec = tie.close (tie.spec returns (λ c κs. search needs) (λ c κs. search needs) returns-2 returns-3)

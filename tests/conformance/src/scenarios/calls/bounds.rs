@@ -45,8 +45,7 @@ fn run(pair: &mut Pair, case: u64) -> Result<(), Mismatch> {
     let slot = slot(&mut rng, part);
     let request = request(&mut rng, kind, slot, limit);
     let outcome = pair.call(CallStep::new(part, request).with_script(script))?;
-    // 01: "Frames are at most 9B + 18 (put), 9B + 26 (patch), B + 8 (get),
-    // 2B + 3 (wipe)".
+    // The most frames of a put, a patch, a get, a wipe (10.29).
     let bound = [9 * limit + 18, 9 * limit + 26, limit + 8, 2 * limit + 3][kind] as u64;
     let locks = operation.0 == tag::LOCK_SECTOR;
     if busy && late == LATE - 1 && !locks {

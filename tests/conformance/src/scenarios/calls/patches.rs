@@ -62,10 +62,10 @@ fn run(pair: &mut Pair, case: u64) -> Result<(), Mismatch> {
     let (part, mut digits, mut rng) = (pair.part, Digits::new(case), Rng::new(case));
     let place = digits.below(NEAR + 4 + FAR.len());
     let len = digits.pick(&LENGTHS);
-    let place = match place {
-        0..NEAR => near(place),
-        NEAR.. if place < NEAR + 4 => (place - NEAR).wrapping_sub(len),
-        _ => FAR[place - NEAR - 4],
+    let place = match place.checked_sub(NEAR) {
+        None => near(place),
+        Some(wrapped) if wrapped < 4 => wrapped.wrapping_sub(len),
+        Some(far) => FAR[far - 4],
     };
     let slot = slot(&mut rng, part);
     let (version, stored) = head(digits.below(HEADS), place.saturating_add(len));

@@ -1,5 +1,5 @@
 //! Long random runs of calls, straight frames, busy ends, pin moves and cuts:
-//! each takes record and array as the one before left them.
+//! each works on what the one before has left of record and array.
 
 use at45db081d_model::record::field;
 use at45db081d_model::slot::MAX_RECIPE;

@@ -155,8 +155,8 @@ fn set_log(rng: &mut Rng, call: &mut CallStep, wrong: bool) {
     };
 }
 
-/// A byte over 2, or a cut with junk of another length; if nothing is to be
-/// wrong, a cut with the right junk, or other junk and no cut.
+/// A byte that is 3 or more, or a cut whose junk has a wrong length; if nothing
+/// is to be wrong, a cut with the right junk, or other junk and no cut.
 fn set_script(rng: &mut Rng, call: &mut CallStep, wrong: bool, part: Part) {
     let mut script = vec![0; rng.pick(&[0, 1, 5, 40])];
     let lengths = [0, 1, 528, part.junk_len() - 1, part.junk_len() + 1];

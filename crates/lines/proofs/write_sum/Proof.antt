@@ -1,0 +1,30 @@
+-- `lines::write_sum` meets its contract: each piece stands behind the one before it. Assumes nothing.
+use native.Mathlib.Omega.{arith}
+use Rattle.lines.specs.Texts.{sumText}
+use Rattle.lines.proofs.Laws.{stands-more, stands-counts}
+use borrow.Author.Needs.{needs}
+use Rattle.lines.proofs.write_sum.Statement.{statement}
+use Rattle.lines.proofs.write_sum.Tie as tie
+
+returns : tie.Need-returns
+unfolding sumText
+returns c =
+    let z = stands-more ((c .before .before .before .before .before .before .before .before .before .before .before .before .before .before .before .before .before .before .before .before .before .before .put-check) .ensures .0) (stands-more ((c .before .before .before .before .before .before .before .before .before .before .before .before .before .before .before .before .before .put-check2) .ensures .0) (stands-more ((c .before .before .before .before .before .before .before .before .before .before .before .before .put-check3) .ensures .0) (stands-more ((c .before .before .before .before .before .before .before .put-count) .ensures .0) ((c .before .before .put) .ensures)))) in
+    (z, stands-counts z (omega (arith, (c .before .before .before .before .before .before .before .before .before .before .before .before .before .before .before .before .before .before .before .before .before .before .put-check) .ensures .1, (c .before .before .before .before .before .before .before .before .before .before .before .before .before .before .before .before .before .put-check2) .ensures .1, (c .before .before .before .before .before .before .before .before .before .before .before .before .put-check3) .ensures .1, (c .before .before .before .before .before .before .before .put-count) .ensures .1, (c .before .before .put) .ensures .end, (c .before .before .before .before .before .before .before .before .before .before .before .before .before .before .before .before .before .before .before .before .before .before .before .before .before .before .pre))))
+
+pub write-sum-spec : {M : Type 1} → statement M
+write-sum-spec =
+    tie.close
+    (tie.spec
+    (λ c. search needs)
+    (λ c κs. search needs)
+    (λ c. search needs)
+    (λ c κs. search needs)
+    (λ c. search needs)
+    (λ c κs. search needs)
+    (λ c. search needs)
+    (λ c κs. search needs)
+    (λ c. search needs)
+    (λ c κs. search needs)
+    (λ c. search needs)
+    returns)

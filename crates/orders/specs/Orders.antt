@@ -1,0 +1,36 @@
+-- The order that the operands and the options of a line make.
+-- Assumes nothing.
+use Prim.Native.Nat.{ℕ, _%_}
+use mathlib.Core.Bool.{cond}
+use Rattle.words.specs.declared.Command.{Command}
+use Rattle.orders.specs.declared.Lent.{Lent}
+use Rattle.orders.specs.declared.Lent.the-variants as Lent
+use Rattle.orders.specs.declared.Order.{Order}
+use Rattle.operands.specs.declared.Taken.{Taken}
+use Rattle.options.specs.declared.Setting.{Setting}
+use Rattle.options.specs.declared.Settings.{Settings}
+
+-- an option's value, or its default
+abbrev pub valueOr : Setting → ℕ → ℕ
+valueOr s default = cond (s .given) (s .value) default
+
+-- a length lent, as given or as the call needs
+abbrev pub lentOf : Setting → Lent
+lentOf s = cond (s .given) (Lent.Given (s .value)) Lent.Needed
+
+-- the order: b is 1, and the seed 0, where they are not given
+unfoldable pub orderOf : Command → Taken → Settings → Order
+orderOf c t s =
+    record {
+      command = c;
+      number = t .number;
+      place = t .place;
+      bytes = t .bytes;
+      limit = valueOr (s .limit) 1;
+      script = s .script;
+      seed = valueOr (s .seed) 0 % 256;
+      junk = lentOf (s .junk);
+      log = lentOf (s .log);
+      buffer = lentOf (s .buffer);
+      reply = lentOf (s .reply);
+    }

@@ -1,0 +1,49 @@
+-- `page_data::load_patched` meets its contract: the page as it was read, with the patch laid over it where the verdict is good.
+-- Assumes nothing.
+use native.Mathlib.Omega.{arith}
+use lib.ListN.{length}
+use borrow.Author.Needs.{needs}
+use Rattle.page_data.proofs.Pages.{patch-good, patch-blank, patch-beyond}
+use Rattle.page_data.proofs.load_patched.Statement.{statement}
+use Rattle.page_data.proofs.load_patched.Tie as tie
+
+returns : tie.Need-returns
+returns c =
+    let s = c .before .before .before .before .before .before .before .before .before .before .before .before .before .before in
+    let a = s .args in
+    let r = c .before .before .before .before .before .before .before .before .copy in
+    patch-good (a .place) (a .payload .now) (a .staged .now) (a .start) (length (a .part .now)) (omega (arith, s .pre .0, s .pre .1)) (r .last .0) (r .ensures) (c .before .before .lay-patch .last .1 .1 .1 .0) (c .before .before .before .before .enum-told .given .1) (c .before .before .lay-patch .ensures)
+
+returns-2 : tie.Need-returns-2
+returns-2 c =
+    let s = c .before .before .before .before .before .before .before .before .before .before in
+    let a = s .args in
+    let r = c .before .before .before .before .copy in
+    patch-blank (a .place) (a .payload .now) (a .staged .now) (a .start) (length (a .part .now)) (omega (arith, s .pre .0, s .pre .1)) (r .last .0) (r .ensures) (c .enum-told2 .given .1)
+
+returns-3 : tie.Need-returns-3
+returns-3 c =
+    let s = c .before .before .before .before .before .before .before .before .before .before in
+    let a = s .args in
+    let r = c .before .before .before .before .copy in
+    patch-beyond (a .place) (a .payload .now) (a .staged .now) (a .start) (length (a .part .now)) (omega (arith, s .pre .0, s .pre .1)) (r .last .0) (r .ensures) (c .enum-told3 .given .1)
+
+pub load-patched-spec : {M : Type 1} → statement M
+load-patched-spec =
+    tie.close
+    (tie.spec
+    (λ c. search needs)
+    (λ c. search needs)
+    (λ c. search needs)
+    (λ c. search needs)
+    (λ c κs. search needs)
+    (λ c. search needs)
+    (λ c κs. search needs)
+    (λ c. search needs)
+    (λ c. search needs)
+    (λ c. search needs)
+    returns
+    (λ c. search needs)
+    returns-2
+    (λ c. search needs)
+    returns-3)

@@ -1,0 +1,436 @@
+/*
+ * Calls every function of slipknoll.h and checks what the header says of it. It
+ * is C99 and C++ at once. Prints each check that fails, and how many there were.
+ */
+#include <stdio.h>
+#include <string.h>
+
+#include "slipknoll.h"
+
+static unsigned checks, failures;
+
+#define CHECK(fact) check((fact), #fact, __LINE__)
+
+static void check(int holds, const char *fact, int line)
+{
+    checks++;
+    if (!holds) {
+        failures++;
+        printf("line %d does not hold: %s\n", line, fact);
+    }
+}
+
+/* ---- The chip, and a copy of it from before a call. */
+
+#define ARRAY SLIPKNOLL_SHORT_ARRAY_LEN
+#define JUNK SLIPKNOLL_JUNK_LEN(ARRAY)
+
+static uint8_t record[SLIPKNOLL_RECORD_LEN], record_before[SLIPKNOLL_RECORD_LEN];
+static uint8_t array[ARRAY], array_before[ARRAY];
+static uint8_t factory[SLIPKNOLL_FACTORY_LEN];
+static uint8_t junk[JUNK];
+static const uint8_t none[1] = {0};
+
+static void remember(void)
+{
+    memcpy(record_before, record, sizeof record);
+    memcpy(array_before, array, sizeof array);
+}
+
+/* Neither record nor array has changed since. */
+static int kept(void)
+{
+    return memcmp(record, record_before, sizeof record) == 0
+        && memcmp(array, array_before, sizeof array) == 0;
+}
+
+static int all(const uint8_t *bytes, size_t len, uint8_t value)
+{
+    size_t i;
+    for (i = 0; i < len; i++)
+        if (bytes[i] != value)
+            return 0;
+    return 1;
+}
+
+static uint8_t fresh(void)
+{
+    return slipknoll_fresh(record, factory, array, sizeof array);
+}
+
+/* The status of the chip; 0 if it cannot be asked. */
+static uint8_t status(void)
+{
+    const uint8_t frame[2] = {0xD7, 0x00};
+    uint8_t reply[2] = {0, 0};
+    if (slipknoll_send(record, array, sizeof array, frame, 2, reply, 2) != SLIPKNOLL_ACCEPTED)
+        return 0;
+    return reply[1];
+}
+
+/* ---- The lengths, as the header's words have them. */
+
+static void check_lengths(void)
+{
+    CHECK(SLIPKNOLL_ARRAY_LEN == 4096 * SLIPKNOLL_PAGE_LEN);
+    CHECK(SLIPKNOLL_SHORT_ARRAY_LEN == 128 * SLIPKNOLL_PAGE_LEN);
+    CHECK(SLIPKNOLL_SLOT_LEN == 8 * SLIPKNOLL_PAGE_LEN);
+    CHECK(SLIPKNOLL_SLOTS(SLIPKNOLL_ARRAY_LEN) == 512 && SLIPKNOLL_SLOTS(ARRAY) == 16);
+    CHECK(SLIPKNOLL_RECIPE_MAX == SLIPKNOLL_SLOT_LEN - 3);
+    CHECK(JUNK == 264 + 264 + 33792);
+    /* Frames of an undisturbed call, one poll a wait: 27, 35, 9 and 5. */
+    CHECK(SLIPKNOLL_PUT_LOG_LEN(1) == 6 * 27 && SLIPKNOLL_PATCH_LOG_LEN(1) == 6 * 35);
+    CHECK(SLIPKNOLL_GET_LOG_LEN(1) == 6 * 9 && SLIPKNOLL_WIPE_LOG_LEN(1) == 6 * 5);
+    CHECK(SLIPKNOLL_AT_COMPARE + 1 == SLIPKNOLL_RECORD_LEN);
+    CHECK(SLIPKNOLL_DRIVER_FRAME_LEN == 8 + SLIPKNOLL_PAGE_LEN);
+}
+
+/* ---- The chip. */
+
+static void check_fresh(void)
+{
+    memset(record, 0x77, sizeof record);
+    memset(array, 0x77, sizeof array);
+    remember();
+    CHECK(slipknoll_fresh(record, factory, array, sizeof array - 1) == SLIPKNOLL_PART);
+    CHECK(kept());
+    CHECK(fresh() == SLIPKNOLL_ACCEPTED);
+    CHECK(all(array, sizeof array, 0xFF));
+    CHECK(all(record, 32, 0));
+    CHECK(all(record + SLIPKNOLL_AT_USER, 64, 0xFF));
+    CHECK(memcmp(record + SLIPKNOLL_AT_FACTORY, factory, sizeof factory) == 0);
+    CHECK(record[SLIPKNOLL_AT_USED] == 0 && record[SLIPKNOLL_AT_PROTECT] == 0);
+    CHECK(record[SLIPKNOLL_AT_WP] == 1 && record[SLIPKNOLL_AT_DEEP] == 0);
+    CHECK(all(record + SLIPKNOLL_AT_TAG, SLIPKNOLL_RECORD_LEN - SLIPKNOLL_AT_TAG, 0));
+}
+
+/* Writes "hi" to buffer 1 and begins to program it to page 5. */
+static void program_page_5(void)
+{
+    const uint8_t load[6] = {0x84, 0, 0, 0, 'h', 'i'};
+    const uint8_t program[4] = {0x83, 0x00, 0x0A, 0x00};
+    uint8_t reply[6];
+    CHECK(slipknoll_send(record, array, sizeof array, load, 6, reply, 6) == SLIPKNOLL_ACCEPTED);
+    CHECK(all(reply, 6, 0xFF));
+    CHECK(slipknoll_send(record, array, sizeof array, program, 4, reply, 4) == SLIPKNOLL_ACCEPTED);
+    CHECK(record[SLIPKNOLL_AT_TAG] == SLIPKNOLL_TAG_PROGRAM);
+    CHECK(record[SLIPKNOLL_AT_BUFFER] == 1);
+    CHECK(record[SLIPKNOLL_AT_NUMBER] == 0 && record[SLIPKNOLL_AT_NUMBER + 1] == 5);
+}
+
+static void check_send(void)
+{
+    static uint8_t frame[SLIPKNOLL_FRAME_MAX + 1], reply[SLIPKNOLL_FRAME_MAX + 1];
+    fresh();
+    CHECK(status() == 0xA4);
+    remember();
+    memset(reply, 0x33, sizeof reply);
+    CHECK(slipknoll_send(record, array, sizeof array - 1, frame, 2, reply, 2) == SLIPKNOLL_PART);
+    CHECK(slipknoll_send(record, array, sizeof array, frame, 0, reply, 0) == SLIPKNOLL_FRAME);
+    CHECK(slipknoll_send(record, array, sizeof array, frame, 2, reply, 3) == SLIPKNOLL_FRAME);
+    CHECK(slipknoll_send(record, array, sizeof array, frame, sizeof frame, reply, sizeof reply)
+          == SLIPKNOLL_FRAME);
+    CHECK(all(reply, sizeof reply, 0x33) && kept());
+    /* No command begins with 00: ignored, and answered 0. */
+    CHECK(slipknoll_send(record, array, sizeof array, frame, SLIPKNOLL_FRAME_MAX, reply,
+                         SLIPKNOLL_FRAME_MAX) == SLIPKNOLL_ACCEPTED);
+    CHECK(all(reply, SLIPKNOLL_FRAME_MAX, 0xFF) && reply[SLIPKNOLL_FRAME_MAX] == 0x33 && kept());
+}
+
+static void check_end_busy(void)
+{
+    fresh();
+    remember();
+    CHECK(slipknoll_end_busy(record, array, sizeof array) == SLIPKNOLL_ACCEPTED && kept());
+    program_page_5();
+    CHECK(status() == 0x24);
+    CHECK(all(array, sizeof array, 0xFF));
+    remember();
+    CHECK(slipknoll_end_busy(record, array, 0) == SLIPKNOLL_PART && kept());
+    CHECK(slipknoll_end_busy(record, array, sizeof array) == SLIPKNOLL_ACCEPTED);
+    CHECK(array[5 * 264] == 'h' && array[5 * 264 + 1] == 'i');
+    CHECK(all(array + 5 * 264 + 2, 262, 0));
+    CHECK(all(array, 5 * 264, 0xFF) && all(array + 6 * 264, sizeof array - 6 * 264, 0xFF));
+    CHECK(status() == 0xA4 && record[SLIPKNOLL_AT_TAG] == SLIPKNOLL_TAG_IDLE);
+}
+
+static void check_move_pin(void)
+{
+    fresh();
+    remember();
+    CHECK(slipknoll_move_pin(record, false) == SLIPKNOLL_ACCEPTED);
+    CHECK(record[SLIPKNOLL_AT_WP] == 0);
+    record_before[SLIPKNOLL_AT_WP] = 0;
+    CHECK(kept());
+    CHECK(slipknoll_move_pin(record, true) == SLIPKNOLL_ACCEPTED);
+    CHECK(record[SLIPKNOLL_AT_WP] == 1);
+}
+
+static void check_cut(void)
+{
+    fresh();
+    program_page_5();
+    slipknoll_move_pin(record, false);
+    remember();
+    CHECK(slipknoll_cut(record, array, 7, junk, JUNK) == SLIPKNOLL_PART);
+    CHECK(slipknoll_cut(record, array, sizeof array, junk, JUNK - 1) == SLIPKNOLL_SCRIPT);
+    CHECK(kept());
+    CHECK(slipknoll_cut(record, array, sizeof array, junk, JUNK) == SLIPKNOLL_ACCEPTED);
+    CHECK(memcmp(record + SLIPKNOLL_AT_BUFFER_1, junk, 264) == 0);
+    CHECK(memcmp(record + SLIPKNOLL_AT_BUFFER_2, junk + 264, 264) == 0);
+    CHECK(record[SLIPKNOLL_AT_TAG] == SLIPKNOLL_TAG_IDLE && record[SLIPKNOLL_AT_WP] == 0);
+    CHECK(memcmp(array + 5 * 264, junk + 528 + 5 * 264, 264) == 0);
+    CHECK(all(array, 5 * 264, 0xFF) && all(array + 6 * 264, sizeof array - 6 * 264, 0xFF));
+}
+
+/* ---- The slot calls, with poll limit 1. */
+
+static uint8_t lines[SLIPKNOLL_PATCH_LOG_LEN(1)];
+static uint64_t counts[3];
+static uint8_t buffer[SLIPKNOLL_RECIPE_MAX];
+
+static int counted(uint64_t frames, uint64_t polls, uint64_t n)
+{
+    return counts[0] == frames && counts[1] == polls && counts[2] == n;
+}
+
+static uint8_t put(size_t slot, const char *recipe, const uint8_t *script, size_t script_len)
+{
+    return slipknoll_put(record, array, sizeof array, slot, 1, (const uint8_t *)recipe,
+                         strlen(recipe), script, script_len, junk, JUNK, lines, sizeof lines,
+                         counts);
+}
+
+static uint8_t patch(size_t slot, size_t place, const char *bytes)
+{
+    return slipknoll_patch(record, array, sizeof array, slot, 1, place, (const uint8_t *)bytes,
+                           strlen(bytes), none, 0, none, 0, lines, sizeof lines, counts);
+}
+
+static uint8_t get(size_t slot)
+{
+    memset(buffer, 0x55, sizeof buffer);
+    return slipknoll_get(record, array, sizeof array, slot, 1, buffer, sizeof buffer, none, 0,
+                         none, 0, lines, sizeof lines, counts);
+}
+
+static uint8_t wipe(size_t slot, size_t poll_limit, size_t log_len)
+{
+    return slipknoll_wipe(record, array, sizeof array, slot, poll_limit, none, 0, none, 0, lines,
+                          log_len, counts);
+}
+
+/* One frame of up to four bytes. */
+static uint8_t raw(uint8_t a, uint8_t b, uint8_t c, uint8_t d, size_t len, uint8_t *reply)
+{
+    uint8_t frame[4];
+    frame[0] = a;
+    frame[1] = b;
+    frame[2] = c;
+    frame[3] = d;
+    return slipknoll_raw(record, array, sizeof array, frame, len, reply, len, none, 0, none, 0,
+                         lines, sizeof lines, counts);
+}
+
+static void check_put(void)
+{
+    const uint8_t poll[6] = {0, 2, 0xD7, 0, 0xFF, 0xFF};
+    const uint8_t seal[6] = {0, 20, 0x32, 0, 0, 0};
+    const uint8_t load[6] = {1, 12, 0x84, 0, 0, 0};
+    const uint8_t program[6] = {0, 4, 0x83, 0, 0x30, 0}; /* page 24: 512 * 24 is 3000h */
+    const uint8_t head[5] = {1, 0, 2, 'A', 'B'};
+    fresh();
+    memset(lines, 0x99, sizeof lines);
+    CHECK(put(3, "AB", none, 0) == SLIPKNOLL_ACCEPTED && counted(27, 9, 0));
+    CHECK(memcmp(lines, poll, 6) == 0 && memcmp(lines + 6, seal, 6) == 0);
+    CHECK(memcmp(lines + 18, load, 6) == 0 && memcmp(lines + 24, program, 6) == 0);
+    CHECK(memcmp(lines + 6 * 26, poll, 6) == 0 && lines[6 * 27] == 0x99);
+    CHECK(memcmp(array + 3 * SLIPKNOLL_SLOT_LEN, head, 5) == 0);
+    CHECK(all(array + 3 * SLIPKNOLL_SLOT_LEN + 5, SLIPKNOLL_SLOT_LEN - 5, 0));
+    CHECK(all(array, 3 * SLIPKNOLL_SLOT_LEN, 0xFF) && array[4 * SLIPKNOLL_SLOT_LEN] == 0xFF);
+}
+
+static void check_put_refused(void)
+{
+    const uint8_t three[1] = {3}, cut[2] = {0, 2};
+    static uint8_t recipe[SLIPKNOLL_RECIPE_MAX + 1];
+    fresh();
+    remember();
+    memset(lines, 0x99, sizeof lines);
+    counts[0] = counts[1] = counts[2] = 9;
+    CHECK(put(16, "AB", none, 0) == SLIPKNOLL_SLOT && counted(0, 0, 0));
+    CHECK(put(0, "AB", three, 1) == SLIPKNOLL_SCRIPT && counted(0, 0, 0));
+    CHECK(slipknoll_put(record, array, sizeof array, 0, 1, recipe, sizeof recipe, none, 0, none, 0,
+                        lines, sizeof lines, counts) == SLIPKNOLL_SIZE);
+    CHECK(slipknoll_put(record, array, sizeof array, 0, 1, recipe, 1, none, 0, none, 0, lines,
+                        SLIPKNOLL_PUT_LOG_LEN(1) - 1, counts) == SLIPKNOLL_LOG);
+    CHECK(slipknoll_put(record, array, sizeof array, 0, 1, recipe, 1, cut, 2, none, 0, lines,
+                        sizeof lines, counts) == SLIPKNOLL_SCRIPT);
+    CHECK(kept() && all(lines, sizeof lines, 0x99));
+    /* The supply goes after the second frame; the buffers become junk. */
+    CHECK(put(0, "AB", cut, 2) == SLIPKNOLL_CUT && counted(2, 1, 0));
+    CHECK(memcmp(record + SLIPKNOLL_AT_BUFFER_1, junk, 528) == 0);
+    CHECK(memcmp(array, array_before, sizeof array) == 0);
+}
+
+static void check_get(void)
+{
+    fresh();
+    CHECK(get(3) == SLIPKNOLL_BLANK && counted(9, 1, 0) && all(buffer, sizeof buffer, 0x55));
+    put(3, "AB", none, 0);
+    CHECK(get(3) == SLIPKNOLL_ACCEPTED && counted(9, 1, 2));
+    CHECK(buffer[0] == 'A' && buffer[1] == 'B' && all(buffer + 2, sizeof buffer - 2, 0x55));
+    CHECK(slipknoll_get(record, array, sizeof array, 3, 1, buffer, SLIPKNOLL_RECIPE_MAX - 1, none, 0,
+                        none, 0, lines, sizeof lines, counts) == SLIPKNOLL_SIZE);
+    CHECK(get(16) == SLIPKNOLL_SLOT && counted(0, 0, 0));
+}
+
+static void check_patch(void)
+{
+    fresh();
+    CHECK(patch(3, 0, "x") == SLIPKNOLL_BLANK && counted(35, 9, 0));
+    CHECK(all(array, sizeof array, 0xFF));
+    put(3, "salt", none, 0);
+    CHECK(patch(3, 1, "ol") == SLIPKNOLL_ACCEPTED && counted(35, 9, 0));
+    CHECK(get(3) == SLIPKNOLL_ACCEPTED && counted(9, 1, 4) && memcmp(buffer, "solt", 4) == 0);
+    remember();
+    CHECK(patch(3, 3, "ol") == SLIPKNOLL_END && counted(35, 9, 0));
+    CHECK(memcmp(array, array_before, sizeof array) == 0);
+    CHECK(patch(3, 2108, "ol") == SLIPKNOLL_SIZE && counted(0, 0, 0));
+}
+
+static void check_wipe(void)
+{
+    fresh();
+    put(3, "AB", none, 0);
+    put(4, "CD", none, 0);
+    CHECK(wipe(3, 1, SLIPKNOLL_WIPE_LOG_LEN(1)) == SLIPKNOLL_ACCEPTED && counted(5, 2, 0));
+    CHECK(all(array + 3 * SLIPKNOLL_SLOT_LEN, SLIPKNOLL_SLOT_LEN, 0xFF));
+    CHECK(get(4) == SLIPKNOLL_ACCEPTED && counted(9, 1, 2));
+    CHECK(wipe(3, 1, SLIPKNOLL_WIPE_LOG_LEN(1) - 1) == SLIPKNOLL_LOG);
+    CHECK(wipe(3, 0, sizeof lines) == SLIPKNOLL_LIMIT);
+    CHECK(wipe(3, SLIPKNOLL_POLL_LIMIT_MAX + 1, sizeof lines) == SLIPKNOLL_LIMIT);
+}
+
+static void check_raw(void)
+{
+    const uint8_t poll[6] = {0, 2, 0xD7, 0, 0xFF, 0xFF};
+    uint8_t reply[4];
+    fresh();
+    CHECK(raw(0xD7, 0, 0, 0, 2, reply) == SLIPKNOLL_ACCEPTED && counted(1, 0, 0));
+    CHECK(reply[1] == 0xA4 && memcmp(lines, poll, 6) == 0);
+    CHECK(raw(0, 0, 0, 0, 0, reply) == SLIPKNOLL_FRAME && counted(0, 0, 0));
+    CHECK(slipknoll_raw(record, array, sizeof array, poll + 2, 2, reply, 2, none, 0, none, 0, lines,
+                        SLIPKNOLL_RAW_LOG_LEN - 1, counts) == SLIPKNOLL_LOG);
+    /* Every sector listed and protection on: nothing may be written. */
+    CHECK(raw(0x3D, 0x2A, 0x7F, 0xCF, 4, reply) == SLIPKNOLL_ACCEPTED);
+    CHECK(raw(0x3D, 0x2A, 0x7F, 0xA9, 4, reply) == SLIPKNOLL_ACCEPTED);
+    CHECK(put(3, "AB", none, 0) == SLIPKNOLL_SEALED && counted(3, 1, 0));
+    /* Deep: no status comes back. */
+    CHECK(raw(0xB9, 0, 0, 0, 1, reply) == SLIPKNOLL_ACCEPTED);
+    CHECK(get(3) == SLIPKNOLL_CHIP && counted(1, 1, 0));
+}
+
+/* A busy chip that stays so: one poll, and no more by the limit. */
+static void check_busy(void)
+{
+    const uint8_t nothing[1] = {1};
+    fresh();
+    program_page_5();
+    CHECK(put(3, "AB", nothing, 1) == SLIPKNOLL_BUSY && counted(1, 1, 0));
+    CHECK(record[SLIPKNOLL_AT_TAG] == SLIPKNOLL_TAG_PROGRAM);
+}
+
+/* ---- The driver alone, in front of the same chip. */
+
+static uint8_t state[SLIPKNOLL_DRIVER_LEN], staged[SLIPKNOLL_SLOT_LEN];
+static uint8_t frame[SLIPKNOLL_DRIVER_FRAME_LEN], reply[SLIPKNOLL_DRIVER_FRAME_LEN];
+
+/* Carries a call's frames to the chip; how many there were, and their bytes. */
+static unsigned carry(const char *payload, size_t *bytes)
+{
+    const uint8_t *lent = (const uint8_t *)payload;
+    unsigned frames = 0;
+    size_t len = slipknoll_driver_frame(state, lent, strlen(payload), staged, frame);
+    *bytes = 0;
+    while (len != 0 && frames < 100) {
+        CHECK(slipknoll_driver_answer(state) == SLIPKNOLL_RUNNING);
+        CHECK(slipknoll_driver_frame(state, lent, strlen(payload), staged, frame) == len);
+        slipknoll_send(record, array, sizeof array, frame, len, reply, len);
+        slipknoll_end_busy(record, array, sizeof array);
+        frames++;
+        *bytes += len;
+        len = slipknoll_driver_next(state, lent, strlen(payload), reply, len, staged, frame);
+    }
+    CHECK(slipknoll_driver_next(state, lent, strlen(payload), reply, 0, staged, frame) == 0);
+    return frames;
+}
+
+static void check_driver(void)
+{
+    size_t bytes;
+    fresh();
+    slipknoll_driver_start_put(state, sizeof array, 3, 1, (const uint8_t *)"salt", 4);
+    CHECK(carry("salt", &bytes) == 27 && bytes == 2 + 20 + 20 + 8 * (268 + 4 + 2));
+    CHECK(slipknoll_driver_answer(state) == SLIPKNOLL_ACCEPTED);
+    CHECK(slipknoll_driver_count(state, staged) == 0);
+    slipknoll_driver_start_patch(state, sizeof array, 3, 1, 1, (const uint8_t *)"ol", 2);
+    CHECK(carry("ol", &bytes) == 35 && bytes == 2 + 20 + 20 + 8 * (272 + 268 + 4 + 2));
+    CHECK(slipknoll_driver_answer(state) == SLIPKNOLL_ACCEPTED);
+    slipknoll_driver_start_get(state, sizeof array, 3, 1, SLIPKNOLL_RECIPE_MAX);
+    CHECK(carry("", &bytes) == 9 && bytes == 2 + 8 * 272);
+    CHECK(slipknoll_driver_answer(state) == SLIPKNOLL_ACCEPTED);
+    CHECK(slipknoll_driver_count(state, staged) == 4 && memcmp(staged + 3, "solt", 4) == 0);
+    slipknoll_driver_start_wipe(state, sizeof array, 3, 1);
+    CHECK(carry("", &bytes) == 5 && bytes == 2 + 20 + 20 + 4 + 2);
+    CHECK(slipknoll_driver_answer(state) == SLIPKNOLL_ACCEPTED);
+    CHECK(all(array, sizeof array, 0xFF));
+}
+
+/* A start that is refused is at its end, and tells why. */
+static int refused(uint8_t answer)
+{
+    return slipknoll_driver_frame(state, none, 0, staged, frame) == 0
+        && slipknoll_driver_answer(state) == answer
+        && slipknoll_driver_count(state, staged) == 0;
+}
+
+static void check_driver_refused(void)
+{
+    slipknoll_driver_start_put(state, 33793, 3, 1, none, 0);
+    CHECK(refused(SLIPKNOLL_PART));
+    slipknoll_driver_start_put(state, SLIPKNOLL_ARRAY_LEN, 512, 1, none, 0);
+    CHECK(refused(SLIPKNOLL_SLOT));
+    slipknoll_driver_start_wipe(state, SLIPKNOLL_ARRAY_LEN, 511, 1001);
+    CHECK(refused(SLIPKNOLL_LIMIT));
+    slipknoll_driver_start_patch(state, sizeof array, 3, 1, 2109, none, 1);
+    CHECK(refused(SLIPKNOLL_SIZE));
+    slipknoll_driver_start_get(state, sizeof array, 3, 1, 2108);
+    CHECK(refused(SLIPKNOLL_SIZE));
+}
+
+int main(void)
+{
+    size_t i;
+    for (i = 0; i < sizeof factory; i++)
+        factory[i] = (uint8_t)(3 * i + 1);
+    for (i = 0; i < sizeof junk; i++)
+        junk[i] = (uint8_t)(i * i + 7);
+    check_lengths();
+    check_fresh();
+    check_send();
+    check_end_busy();
+    check_move_pin();
+    check_cut();
+    check_put();
+    check_put_refused();
+    check_get();
+    check_patch();
+    check_wipe();
+    check_raw();
+    check_busy();
+    check_driver();
+    check_driver_refused();
+    printf("%u of %u checks hold\n", checks - failures, checks);
+    return failures == 0 ? 0 : 1;
+}

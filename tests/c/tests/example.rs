@@ -1,0 +1,46 @@
+//! The C example is built with the machine's C compiler and run; what it must
+//! print was worked out by hand from docs/SPECIFICATION.md.
+
+use std::path::Path;
+use std::process::Command;
+
+/// An undisturbed put has 27 frames, 9 of them polls, and a get 9 with one poll
+/// (14.15); a slot of FFh holds no record, which a get answers with 12 (9.9).
+///
+/// The driver's get sends 2 + 8 * 272 = 2,178 bytes. In its put each page is
+/// polled twice: 2 + 20 + 20 + 8 * (268 + 4 + 2 + 2) = 2,250 bytes in
+/// 3 + 8 * 4 = 35 frames, for either recipe.
+const OUTPUT: &str = "\
+call get: answer 12, frames 9, polls 1
+call put: answer 0, frames 27, polls 9
+call get: answer 0, frames 9, polls 1
+recipe: salt
+driver get: answer 0, frames 9, bytes on the wire 2178
+recipe: salt
+driver put: answer 0, frames 35, bytes on the wire 2250
+driver put: answer 0, frames 35, bytes on the wire 2250
+call get: answer 0, frames 9, polls 1
+recipe: 2109 bytes, as put
+";
+
+#[test]
+fn c_example_prints_what_it_must() {
+    let root = Path::new(env!("CARGO_MANIFEST_DIR")).join("../..");
+    let program = Path::new(env!("CARGO_TARGET_TMPDIR")).join("recipes");
+    let built = Command::new("cc")
+        .args(["-std=c99", "-Wall", "-Wextra", "-pedantic", "-Werror"])
+        .arg("-I")
+        .arg(root.join("include"))
+        .arg("-o")
+        .arg(&program)
+        .arg(root.join("examples/c/recipes.c"))
+        .arg(root.join("target/staticlib/libslipknoll.a"))
+        .status()
+        .expect("a C compiler");
+    assert!(built.success(), "cc: {built}");
+
+    let run = Command::new(&program).output().expect("the example runs");
+    let output = String::from_utf8_lossy(&run.stdout);
+    assert_eq!(output, OUTPUT);
+    assert!(run.status.success(), "recipes: {}", run.status);
+}
