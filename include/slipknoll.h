@@ -1,18 +1,29 @@
 /*
- * slipknoll.h: an AT45DB081D data flash chip with 264-byte pages, as
- * docs/SPECIFICATION.md describes it, held and driven through libslipknoll.a;
- * and the slot driver that keeps recipes in such a chip, held here or real.
+ * slipknoll.h: an AT45DB081D data flash chip with pages of 264 or of 256
+ * bytes, as docs/SPECIFICATION.md describes it, held and driven through
+ * libslipknoll.a; and the slot driver that keeps recipes in such a chip, held
+ * here or real.
  *
  * The library keeps no state and allocates nothing. The caller holds a chip as
  * two pieces of memory:
  *
  *   record   765 bytes: registers, operation under way, buffers, compare bit
  *            (layout below);
- *   array    the flash pages: 1,081,344 bytes (4,096 pages) or, for the short
- *            part, 33,792 bytes (128 pages).
+ *   array    the flash pages. Its length alone tells the part:
  *
- * A copy of both is a copy of the chip. Calls on chips that share no memory
- * may run at the same time.
+ *              length         pages  status    slot  recipe        junk
+ *           1,081,344   4,096 x 264     A4h   2,112   2,109   1,081,872
+ *              33,792     128 x 264     A4h   2,112   2,109      34,320
+ *           1,048,576   4,096 x 256     A5h   2,048   2,045   1,049,088
+ *              32,768     128 x 256     A5h   2,048   2,045      33,280
+ *
+ *            Here are the status of a fresh chip, and the lengths of a slot,
+ *            of the longest recipe and of a cut's junk. The two parts of 128
+ *            pages are the short ones.
+ *
+ * A copy of both is a copy of the chip. Each call goes by the array that it is
+ * lent, also where a record meets arrays of several parts one after the other.
+ * Calls on chips that share no memory may run at the same time.
  *
  * There are three groups of functions:
  *
@@ -52,16 +63,23 @@ extern "C" {
 
 #define SLIPKNOLL_RECORD_LEN 765
 #define SLIPKNOLL_FACTORY_LEN 64
-#define SLIPKNOLL_PAGE_LEN 264
-#define SLIPKNOLL_ARRAY_LEN 1081344      /* 4,096 pages */
-#define SLIPKNOLL_SHORT_ARRAY_LEN 33792  /* 128 pages */
+#define SLIPKNOLL_ARRAY_LEN 1081344          /* 4,096 pages of 264 bytes */
+#define SLIPKNOLL_SHORT_ARRAY_LEN 33792      /* 128 pages of 264 bytes */
+#define SLIPKNOLL_ARRAY_256_LEN 1048576      /* 4,096 pages of 256 bytes */
+#define SLIPKNOLL_SHORT_ARRAY_256_LEN 32768  /* 128 pages of 256 bytes */
+/* What goes by the part. `array_len`, at times evaluated twice, is one of these four. */
+#define SLIPKNOLL_PAGE_LEN(array_len) ((array_len) % 264 == 0 ? 264 : 256)
+/* The junk of a cut: a page for each buffer, then a byte for each of the array. */
+#define SLIPKNOLL_JUNK_LEN(array_len) (2 * SLIPKNOLL_PAGE_LEN(array_len) + (array_len))
+/* A slot: eight pages; 2,112 or 2,048. */
+#define SLIPKNOLL_SLOT_LEN(array_len) (8 * SLIPKNOLL_PAGE_LEN(array_len))
+/* The number of slots: 512, or 16 in a short part. */
+#define SLIPKNOLL_SLOTS(array_len) ((array_len) / SLIPKNOLL_SLOT_LEN(array_len))
+/* A recipe has 0 to 2,109 bytes, or 0 to 2,045. */
+#define SLIPKNOLL_RECIPE_MAX(array_len) (SLIPKNOLL_SLOT_LEN(array_len) - 3)
+/* What goes by no part. */
+#define SLIPKNOLL_SLOT_ROOM 2112         /* room for a slot of any part */
 #define SLIPKNOLL_FRAME_MAX 1100         /* a frame has 1 to 1,100 bytes */
-/* The junk of a cut: 264 bytes for each buffer, then one for each of the array. */
-#define SLIPKNOLL_JUNK_LEN(array_len) (528 + (array_len))
-#define SLIPKNOLL_SLOT_LEN 2112          /* a slot: eight pages */
-/* The number of slots: 512, or 16 in the short part. */
-#define SLIPKNOLL_SLOTS(array_len) ((array_len) / SLIPKNOLL_SLOT_LEN)
-#define SLIPKNOLL_RECIPE_MAX 2109        /* a recipe has 0 to 2,109 bytes */
 #define SLIPKNOLL_POLL_LIMIT_MAX 1000    /* a poll limit is 1 to 1,000 */
 /* The shortest log of a call with poll limit b: six bytes for each frame that it can send. */
 #define SLIPKNOLL_PUT_LOG_LEN(b) (6 * (9 * (b) + 18))
@@ -70,7 +88,7 @@ extern "C" {
 #define SLIPKNOLL_WIPE_LOG_LEN(b) (6 * (2 * (b) + 3))
 #define SLIPKNOLL_RAW_LOG_LEN 6
 #define SLIPKNOLL_DRIVER_LEN 48          /* the driver's state */
-#define SLIPKNOLL_DRIVER_FRAME_LEN 272   /* the longest frame of the driver */
+#define SLIPKNOLL_DRIVER_FRAME_LEN 272   /* room for the driver's longest frame, on any part */
 
 /* ---- Answers. */
 
@@ -84,13 +102,13 @@ extern "C" {
 #define SLIPKNOLL_SLOT 3
 /* limit: poll limit 0, or over 1,000 */
 #define SLIPKNOLL_LIMIT 4
-/* size: a recipe of more than 2,109 bytes, a patch that ends behind 2,109, a
-   get buffer of less than 2,109 bytes */
+/* size: a recipe of more than the part's 2,109 or 2,045 bytes, a patch that ends
+   behind these, a get buffer of less */
 #define SLIPKNOLL_SIZE 5
 /* log: no room for six bytes of each frame that the call can send */
 #define SLIPKNOLL_LOG 6
-/* script: a byte that is 3 or more; or a 2, and junk that has not 528 +
-   array_len bytes */
+/* script: a byte that is 3 or more; or a 2, and junk that has not the part's
+   length, SLIPKNOLL_JUNK_LEN(array_len) */
 #define SLIPKNOLL_SCRIPT 7
 /* chip: a status without 1001 in bits 5-2: no AT45DB081D, or a deep one */
 #define SLIPKNOLL_CHIP 8
@@ -101,7 +119,7 @@ extern "C" {
 /* cut: the script cut the supply */
 #define SLIPKNOLL_CUT 11
 /* blank: the slot holds no record: its first byte is not 1, or the length
-   behind it is over 2,109 */
+   behind it is over the part's 2,109 or 2,045 */
 #define SLIPKNOLL_BLANK 12
 /* end: the patch would end behind the recipe that is there */
 #define SLIPKNOLL_END 13
@@ -120,6 +138,10 @@ extern "C" {
  * The fields from SLIPKNOLL_AT_TAG to SLIPKNOLL_AT_DATA are the operation
  * under way. Of these a tag reads the fields that are named at it below; the
  * others may hold anything.
+ *
+ * Each buffer has 264 bytes. A part of 256-byte pages uses the first 256; the
+ * last eight are not its, and no call on it reads or changes them, but for
+ * slipknoll_fresh, which makes them 0.
  */
 #define SLIPKNOLL_AT_PROTECTION 0   /* 16: protection register: sector j has byte j, 0a bits
                                        7-6 of byte 0, and 0b its bits 5-4 */
@@ -150,7 +172,7 @@ extern "C" {
  * the tag is not said to have them.
  *
  * Sectors of 7C, 30 and C7 are numbered 0 (0a), 1 (0b), j + 1 (sector j). The
- * short part has 0 and 1 alone: a number, or a bit of the set of a C7, beyond
+ * short parts have 0 and 1 alone: a number, or a bit of the set of a C7, beyond
  * the part's sectors is answered 1 too.
  */
 #define SLIPKNOLL_TAG_IDLE 0x00          /* buffer 0; nothing else is read */
@@ -204,11 +226,12 @@ extern "C" {
  *     for name in ("fresh", "send", "end_busy", "move_pin", "cut",
  *                  "put", "patch", "get", "wipe", "raw"):
  *         getattr(lib, "slipknoll_" + name).restype = c.c_uint8
- *     record, array = (c.c_uint8 * 765)(), (c.c_uint8 * 33792)()
- *     lib.slipknoll_fresh(record, bytes(64), array, c.c_size_t(33792))
- *     reply = (c.c_uint8 * 2)()
- *     lib.slipknoll_send(record, array, c.c_size_t(33792), b"\xd7\x00", c.c_size_t(2), reply, c.c_size_t(2))
- *     print("%02X" % reply[1])                                            # A4
+ *     for length in (33792, 32768):                          # short parts of 264 and of 256
+ *         record, array = (c.c_uint8 * 765)(), (c.c_uint8 * length)()
+ *         lib.slipknoll_fresh(record, bytes(64), array, c.c_size_t(length))
+ *         reply = (c.c_uint8 * 2)()
+ *         lib.slipknoll_send(record, array, c.c_size_t(length), b"\xd7\x00", c.c_size_t(2), reply, c.c_size_t(2))
+ *         print("%02X" % reply[1])                                        # A4, then A5
  */
 
 /*
@@ -241,11 +264,13 @@ uint8_t slipknoll_end_busy(uint8_t *record, uint8_t *array, size_t array_len);
 uint8_t slipknoll_move_pin(uint8_t *record, bool high);
 
 /*
- * Cuts the supply. Junk stands for what is lost: its first 264 bytes become
- * buffer 1, the next 264 buffer 2, and byte 528 + i array byte i where the
+ * Cuts the supply. Junk stands for what is lost: as many bytes as a page has
+ * become buffer 1, as many behind them buffer 2, and of the rest, which begins at
+ * byte 528 (pages of 264) or 512 (of 256), byte i becomes array byte i where the
  * operation under way was erasing or programming that byte. Under CF or FC the
- * protection register becomes junk from byte 528 on, under 9B the user bytes,
- * and used is set; under 30 the sector is locked if junk[528] is 80h or more.
+ * protection register becomes the beginning of the rest, under 9B the user bytes
+ * do, and used is set; under 30 the sector is locked if the first byte of the rest
+ * is 80h or more.
  * The chip starts again idle, with compare bit, protect and deep cleared. What
  * is not named here stays, the level of WP too. Answers 0, 1, 7.
  */
@@ -254,8 +279,8 @@ uint8_t slipknoll_cut(uint8_t *record, uint8_t *array, size_t array_len, const u
 /*
  * ---- The slot calls.
  *
- * Slot s is block s: pages 8s to 8s + 7, 2,112 bytes. In it stand a 1, the
- * version; n, the recipe's length, high byte first; the recipe; and zeros to
+ * Slot s is block s: pages 8s to 8s + 7, 2,112 or 2,048 bytes. In it stand a 1,
+ * the version; n, the recipe's length, high byte first; the recipe; and zeros to
  * the end.
  *
  * A call first looks at its arguments: the lowest of 1 to 7 that applies to
@@ -268,26 +293,27 @@ uint8_t slipknoll_cut(uint8_t *record, uint8_t *array, size_t array_len, const u
  *           and lockdown register. The call ends with 10 if these, and bit 1 of
  *           the status before them, tell that the slot's sector is sealed.
  *
- *   put     wait, seal; for each page 84 00 00 00 with 264 bytes (268), 83 with
- *           the page's address (4), wait
+ *   put     wait, seal; for each page 84 00 00 00 with its bytes (268 or 260),
+ *           83 with the page's address (4), wait
  *   patch   wait, seal; for each page D2 with its address and 00 behind it
- *           (272), then 84, 83 and wait as put
+ *           (272 or 264), then 84, 83 and wait as put
  *   get     wait; D2 for each page
  *   wipe    wait, seal; 50 with the first page's address (4), wait
  *   raw     one frame of the caller's; no wait
  *
- * A page's address is 512 times its number, in three bytes. Which frames are
- * sent, and how long they are, depends on the call, slot, poll limit, script and
- * the chip's registers, and never on recipes or on what the slots hold: a patch
- * under 12 or 13 programs every page as it was, get always reads eight pages,
- * and a page is programmed whether or not its bytes are there already.
+ * A page's address is 512 times its number, or 256 times with pages of 256 bytes,
+ * in three bytes. Which frames are sent, and how long they are, depends on the
+ * part, call, slot, poll limit, script and the chip's registers, and never on
+ * recipes or on what the slots hold: a patch under 12 or 13 programs every page
+ * as it was, get always reads eight pages, and a page is programmed whether or
+ * not its bytes are there already.
  *
  * Script. Its byte i says what follows frame i: 0 a busy end, 1 nothing, 2 a
  * cut with `junk` (as slipknoll_cut), which ends the call with 11 whatever the
  * reply was. Frames beyond the script have 0, so that an empty script is a chip
  * that has done its work by the next frame. A byte of 3 or more anywhere in the
  * script is answered with 7, reached or not; so is a 2 anywhere if the junk's
- * length is not 528 + array_len. Without a 2 the junk is not looked at and may
+ * length is not the part's. Without a 2 the junk is not looked at and may
  * have any length.
  *
  * Log. Each frame writes a line of six bytes: its length, high byte first, and
@@ -302,7 +328,7 @@ uint8_t slipknoll_cut(uint8_t *record, uint8_t *array, size_t array_len, const u
  *
  * A recipe is put into slot 3 of a chip and read back:
  *
- *     uint8_t log[SLIPKNOLL_PUT_LOG_LEN(1)], buffer[SLIPKNOLL_RECIPE_MAX], none[1];
+ *     uint8_t log[SLIPKNOLL_PUT_LOG_LEN(1)], buffer[SLIPKNOLL_RECIPE_MAX(sizeof array)], none[1];
  *     uint64_t counts[3];
  *     slipknoll_put(record, array, sizeof array, 3, 1, (const uint8_t *)"AB", 2,
  *                   none, 0, none, 0, log, sizeof log, counts);          // 0; counts 27, 9, 0
@@ -311,9 +337,9 @@ uint8_t slipknoll_cut(uint8_t *record, uint8_t *array, size_t array_len, const u
  */
 
 /*
- * Stores a recipe of up to 2,109 bytes in a slot. With answer 0 the slot holds
- * it. With 8 to 11 pages of the slot may be old, new, or (11) junk.
- * Answers 0, 1, 3 to 11.
+ * Stores a recipe of up to 2,109 bytes, or 2,045 with pages of 256, in a slot.
+ * With answer 0 the slot holds it. With 8 to 11 pages of the slot may be old,
+ * new, or (11) junk. Answers 0, 1, 3 to 11.
  */
 uint8_t slipknoll_put(uint8_t *record, uint8_t *array, size_t array_len, size_t slot,
                       size_t poll_limit, const uint8_t *recipe, size_t recipe_len,
@@ -324,8 +350,8 @@ uint8_t slipknoll_put(uint8_t *record, uint8_t *array, size_t array_len, size_t 
 /*
  * Changes bytes of a slot's recipe: those from `place` on become `bytes`, where
  * place 0 is the first. The recipe grows no longer: place + bytes_len may not be
- * over its length (13) nor over 2,109 (5). Under 12 and 13 all frames are sent and the slot
- * keeps its bytes. Answers 0, 1, 3 to 13.
+ * over its length (13) nor over the part's longest (5). Under 12 and 13 all frames
+ * are sent and the slot keeps its bytes. Answers 0, 1, 3 to 13.
  */
 uint8_t slipknoll_patch(uint8_t *record, uint8_t *array, size_t array_len, size_t slot,
                         size_t poll_limit, size_t place, const uint8_t *bytes, size_t bytes_len,
@@ -336,8 +362,8 @@ uint8_t slipknoll_patch(uint8_t *record, uint8_t *array, size_t array_len, size_
 /*
  * Reads a slot's recipe. With answer 0 its n bytes are the first n of `buffer`,
  * and counts[2] is n; the rest of the buffer keeps. With any other answer the
- * buffer keeps whole. The buffer has at least 2,109 bytes.
- * Answers 0, 1, 3 to 9, 11, 12.
+ * buffer keeps whole. The buffer has at least SLIPKNOLL_RECIPE_MAX(array_len)
+ * bytes. Answers 0, 1, 3 to 9, 11, 12.
  */
 uint8_t slipknoll_get(uint8_t *record, uint8_t *array, size_t array_len, size_t slot,
                       size_t poll_limit, uint8_t *buffer, size_t buffer_len,
@@ -378,15 +404,16 @@ uint8_t slipknoll_raw(uint8_t *record, uint8_t *array, size_t array_len,
  *             copied, and kept while a reply is under way.
  *   payload   the recipe of a put or the bytes of a patch, the same at every
  *             step; of a get or wipe, anything of length 0. It is not copied.
- *   staged    SLIPKNOLL_SLOT_LEN bytes, in which a patch and a get keep what
- *             they have read of the slot; the caller leaves them alone between
- *             the steps. What they hold at the start does not matter.
- *   frame     SLIPKNOLL_DRIVER_FRAME_LEN bytes; the frame to send is written to
- *             its beginning, and its length returned.
+ *   staged    SLIPKNOLL_SLOT_ROOM bytes, whatever the part, in which a patch and
+ *             a get keep what they have read of the slot; the caller leaves them
+ *             alone between the steps. What they hold at the start does not
+ *             matter.
+ *   frame     SLIPKNOLL_DRIVER_FRAME_LEN bytes, whatever the part; the frame to
+ *             send is written to its beginning, and its length returned.
  *
  * The loop is the same for every call:
  *
- *     static uint8_t staged[SLIPKNOLL_SLOT_LEN];
+ *     static uint8_t staged[SLIPKNOLL_SLOT_ROOM];
  *     uint8_t state[SLIPKNOLL_DRIVER_LEN];
  *     uint8_t frame[SLIPKNOLL_DRIVER_FRAME_LEN], reply[SLIPKNOLL_DRIVER_FRAME_LEN];
  *     size_t len, got;
@@ -405,8 +432,8 @@ uint8_t slipknoll_raw(uint8_t *record, uint8_t *array, size_t array_len,
  * on SI while len bytes come in on SO, CS high. Programs and erases begin when
  * CS goes high, so a frame may not be split, joined with another, or sent twice.
  * The reply is all that came in, from the first byte on, so that it lines up
- * with the frame: the status stands in reply[1], a page read in reply[8] to
- * reply[271]. Bytes behind the frame's length are not looked at.
+ * with the frame: the status stands in reply[1], a page read from reply[8] on to
+ * its end. Bytes behind the frame's length are not looked at.
  *
  * A link that loses bytes. What is not there counts as FFh; so a status that
  * did not come ends the call with 8 and registers that did not come with 10.
@@ -442,8 +469,9 @@ uint8_t slipknoll_raw(uint8_t *record, uint8_t *array, size_t array_len,
  * recipes, or of none. Start the call again from its beginning.
  *
  * Before the first call: wake the chip with AB if it may be in deep power-down.
- * The driver does not look at status bit 0: a chip that is set to 256-byte pages
- * has a 1 there and must not be driven by it.
+ * The driver does not look at status bit 0, which is 1 on a chip that is set to
+ * 256-byte pages: read it with D7 00, and start the calls with
+ * SLIPKNOLL_ARRAY_256_LEN where it is 1 and with SLIPKNOLL_ARRAY_LEN where it is 0.
  *
  * Any bytes of `state` are a state. One that no call comes to, made up or
  * damaged, has ended, with 1, 3 or 4: it gives no frame. Any other gives frames
@@ -453,16 +481,16 @@ uint8_t slipknoll_raw(uint8_t *record, uint8_t *array, size_t array_len,
  */
 
 /*
- * Each start tests its arguments: 1 (array_len, which tells the part:
- * SLIPKNOLL_ARRAY_LEN for the real chip), 3, 4 and 5 in this order. A start that
- * is refused is at its end: slipknoll_driver_frame returns 0, and
+ * Each start tests its arguments: 1 (array_len, which tells the part: for a real
+ * chip SLIPKNOLL_ARRAY_LEN or SLIPKNOLL_ARRAY_256_LEN), 3, 4 and 5 in this order.
+ * A start that is refused is at its end: slipknoll_driver_frame returns 0, and
  * slipknoll_driver_answer tells why.
  */
 void slipknoll_driver_start_put(uint8_t *state, size_t array_len, size_t slot, size_t poll_limit,
                                 const uint8_t *recipe, size_t recipe_len);
 void slipknoll_driver_start_patch(uint8_t *state, size_t array_len, size_t slot, size_t poll_limit,
                                   size_t place, const uint8_t *bytes, size_t bytes_len);
-/* buffer_len: room for the recipe, at least 2,109. */
+/* buffer_len: room for the recipe, at least SLIPKNOLL_RECIPE_MAX(array_len). */
 void slipknoll_driver_start_get(uint8_t *state, size_t array_len, size_t slot, size_t poll_limit,
                                 size_t buffer_len);
 void slipknoll_driver_start_wipe(uint8_t *state, size_t array_len, size_t slot, size_t poll_limit);
@@ -489,8 +517,8 @@ size_t slipknoll_driver_next(uint8_t *state, const uint8_t *payload, size_t payl
 uint8_t slipknoll_driver_answer(const uint8_t *state);
 
 /*
- * Of a get that has ended with 0 the recipe's length, 0 to 2,109: the recipe is
- * staged[3] to staged[2 + n]. 0 of any other call, and before the end.
+ * Of a get that has ended with 0 the recipe's length, at most the part's longest:
+ * the recipe is staged[3] to staged[2 + n]. 0 of any other call, and before the end.
  */
 size_t slipknoll_driver_count(const uint8_t *state, const uint8_t *staged);
 

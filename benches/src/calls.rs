@@ -1,4 +1,4 @@
-//! Times put, patch, get and wipe on both parts, library and model over a
+//! Times put, patch, get and wipe on every part, library and model over a
 //! record block alike.
 
 use at45db081d_model::{record, Call, Lent, Part};
@@ -10,7 +10,6 @@ use crate::{nanoseconds, FACTORY, REPEATS};
 const POLL_LIMIT: usize = 1;
 /// A patch sends the most frames.
 const LOG_LEN: usize = log_len::patch(POLL_LIMIT);
-const RECIPE_LEN: usize = 2109;
 
 /// A patch of 300 bytes, which lies in two pages.
 const PLACE: usize = 200;
@@ -25,9 +24,9 @@ enum Work {
 }
 
 const ROWS: [(&str, Work); 4] = [
-    ("put, 2,109 bytes", Work::Put),
+    ("put, longest", Work::Put),
     ("patch, 300 bytes", Work::Patch),
-    ("get, 2,109 bytes", Work::Get),
+    ("get, longest", Work::Get),
     ("wipe", Work::Wipe),
 ];
 
@@ -43,8 +42,8 @@ impl Memory {
     fn new(part: Part) -> Memory {
         Memory {
             array: vec![0; part.array_len()],
-            recipe: (0..RECIPE_LEN).map(|i| (i * 7) as u8).collect(),
-            buffer: vec![0; RECIPE_LEN],
+            recipe: (0..part.max_recipe()).map(|i| (i * 7) as u8).collect(),
+            buffer: vec![0; part.max_recipe()],
             log: vec![0; LOG_LEN],
         }
     }
@@ -179,11 +178,12 @@ fn fill(subject: &mut impl Subject, part: Part) {
 /// Prints the table of the calls.
 pub fn run() {
     println!("calls over a record block, empty script, B = 1; best of {REPEATS} measurements");
+    println!("longest: recipes of 2,109 bytes, or of 2,045 with pages of 256");
     println!(
-        "{:18} {:>6} {:>11} {:>11} {:>11} {:>11} {:>8}",
+        "{:18} {:>9} {:>11} {:>11} {:>11} {:>11} {:>8}",
         "call", "pages", "library ns", "model ns", "library /s", "model /s", "times"
     );
-    for part in [Part::FULL, Part::SHORT] {
+    for part in Part::ALL {
         let (mut library, mut model) = (Library::new(part), Model::new(part));
         fill(&mut library, part);
         fill(&mut model, part);
@@ -195,9 +195,10 @@ pub fn run() {
             }
             let [library, model] = best;
             let [library_rate, model_rate] = best.map(|nanoseconds| 1e9 / nanoseconds);
-            let (pages, times) = (part.pages, library / model);
+            let pages = format!("{}x{}", part.pages, part.page_size);
+            let times = library / model;
             println!(
-                "{name:18} {pages:6} {library:11.0} {model:11.0} \
+                "{name:18} {pages:>9} {library:11.0} {model:11.0} \
                  {library_rate:11.0} {model_rate:11.0} {times:8.2}"
             );
         }

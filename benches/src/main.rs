@@ -15,7 +15,8 @@ use opaque::black_box;
 const LEAST: Duration = Duration::from_millis(20);
 const REPEATS: usize = 7;
 
-const PART: Part = Part::FULL;
+/// The parts whose frames are timed: pages of either size.
+const PARTS: [Part; 2] = [Part::FULL, Part::FULL_256];
 const FACTORY: [u8; 64] = [0x5A; 64];
 const MAX_FRAME: usize = 1100;
 
@@ -39,8 +40,8 @@ struct Library {
 }
 
 impl Library {
-    fn new() -> Library {
-        let mut array = vec![0; PART.array_len()];
+    fn new(part: Part) -> Library {
+        let mut array = vec![0; part.array_len()];
         Library {
             chip: slipknoll::Chip::fresh(&FACTORY, &mut array).expect("a known part"),
             array,
@@ -78,8 +79,8 @@ struct Model {
 }
 
 impl Model {
-    fn new() -> Model {
-        let mut array = vec![0; PART.array_len()];
+    fn new(part: Part) -> Model {
+        let mut array = vec![0; part.array_len()];
         Model {
             chip: Chip::fresh(&FACTORY, &mut array).expect("a known part"),
             array,
@@ -112,6 +113,8 @@ impl Subject for Model {
 enum Work {
     /// One frame of this opcode and length.
     Frame(u8, usize),
+    /// One frame of this opcode with a page of data behind so many bytes.
+    Page(u8, usize),
     /// 83 and its busy end.
     ProgramToEnd,
     /// 83, taken back by hand.
@@ -120,35 +123,51 @@ enum Work {
     WholeArray,
 }
 
-/// Name, work, and the number of bytes for the copy beside it.
-const ROWS: [(&str, Work, usize); 7] = [
-    ("D2, 272 bytes", Work::Frame(0xD2, 272), 272),
-    ("84, 268 bytes", Work::Frame(0x84, 268), 268),
-    ("83 with its busy end", Work::ProgramToEnd, 264),
-    ("83 without busy end", Work::ProgramAlone, 4),
-    ("D7, 2 bytes", Work::Frame(0xD7, 2), 2),
-    ("03, 1,100 bytes", Work::Frame(0x03, 1100), 1100),
-    ("03, whole array", Work::WholeArray, 1_081_344),
+const ROWS: [(&str, Work); 7] = [
+    ("D2 of a page", Work::Page(0xD2, 8)),
+    ("84 of a page", Work::Page(0x84, 4)),
+    ("83 with its busy end", Work::ProgramToEnd),
+    ("83 without busy end", Work::ProgramAlone),
+    ("D7, 2 bytes", Work::Frame(0xD7, 2)),
+    ("03, 1,100 bytes", Work::Frame(0x03, 1100)),
+    ("03, whole array", Work::WholeArray),
 ];
 
-/// A frame with zeros behind the opcode.
-fn frame(opcode: u8, len: usize) -> Vec<u8> {
-    let mut frame = vec![0; len];
-    frame[0] = opcode;
-    frame
+impl Work {
+    /// The number of bytes for the copy beside it.
+    fn copied(self, part: Part) -> usize {
+        match self {
+            Work::ProgramToEnd => part.page_size,
+            Work::WholeArray => part.array_len(),
+            _ => self.frame(part).len(),
+        }
+    }
+
+    /// The frame that it sends, with zeros behind the opcode.
+    fn frame(self, part: Part) -> Vec<u8> {
+        let (opcode, len) = match self {
+            Work::Frame(opcode, len) => (opcode, len),
+            Work::Page(opcode, lead) => (opcode, lead + part.page_size),
+            Work::ProgramToEnd | Work::ProgramAlone => (0x83, 4),
+            Work::WholeArray => (0x03, MAX_FRAME),
+        };
+        let mut frame = vec![0; len];
+        frame[0] = opcode;
+        frame
+    }
 }
 
 /// Puts an address that names this page and byte into a frame.
-fn set_address(frame: &mut [u8], page: usize, byte: usize) {
-    let address = (page << 9 | byte) as u32;
+fn set_address(part: Part, frame: &mut [u8], page: usize, byte: usize) {
+    let address = part.address_of(page as u16) + byte as u32;
     frame[1..4].copy_from_slice(&address.to_be_bytes()[1..]);
 }
 
 /// Does the work once; `turn` chooses the page.
-fn work_once(subject: &mut impl Subject, work: Work, frame: &mut [u8], turn: usize) {
+fn work_once(subject: &mut impl Subject, work: Work, part: Part, frame: &mut [u8], turn: usize) {
     match work {
-        Work::WholeArray => return read_whole_array(subject, frame),
-        _ if frame.len() >= 4 => set_address(frame, turn % PART.pages, 0),
+        Work::WholeArray => return read_whole_array(subject, part, frame),
+        _ if frame.len() >= 4 => set_address(part, frame, turn % part.pages, 0),
         _ => {}
     }
     subject.send(black_box(frame));
@@ -160,11 +179,11 @@ fn work_once(subject: &mut impl Subject, work: Work, frame: &mut [u8], turn: usi
     black_box(subject.reply());
 }
 
-fn read_whole_array(subject: &mut impl Subject, frame: &mut [u8]) {
+fn read_whole_array(subject: &mut impl Subject, part: Part, frame: &mut [u8]) {
     let mut at = 0;
-    while at < PART.array_len() {
-        let len = frame.len().min(PART.array_len() - at + 4);
-        set_address(frame, at / PART.page_size, at % PART.page_size);
+    while at < part.array_len() {
+        let len = frame.len().min(part.array_len() - at + 4);
+        set_address(part, frame, at / part.page_size, at % part.page_size);
         subject.send(black_box(&frame[..len]));
         black_box(subject.reply());
         at += len - 4;
@@ -191,13 +210,9 @@ fn time(call: &mut impl FnMut(usize), count: usize) -> Duration {
     begin.elapsed()
 }
 
-fn measure(subject: &mut impl Subject, work: Work) -> f64 {
-    let mut frame = match work {
-        Work::Frame(opcode, len) => frame(opcode, len),
-        Work::ProgramToEnd | Work::ProgramAlone => frame(0x83, 4),
-        Work::WholeArray => frame(0x03, MAX_FRAME),
-    };
-    nanoseconds(|turn| work_once(subject, work, &mut frame, turn))
+fn measure(subject: &mut impl Subject, work: Work, part: Part) -> f64 {
+    let mut frame = work.frame(part);
+    nanoseconds(|turn| work_once(subject, work, part, &mut frame, turn))
 }
 
 /// One plain copy; the places differ within a memory page, since processors
@@ -211,26 +226,32 @@ fn measure_copy(bytes: usize) -> f64 {
     })
 }
 
+/// Prints the lines of one part.
+fn run(part: Part) {
+    let (mut library, mut model) = (Library::new(part), Model::new(part));
+    for (name, work) in ROWS {
+        let bytes = work.copied(part);
+        let mut best = [f64::MAX; 3];
+        for _ in 0..REPEATS {
+            best[0] = best[0].min(measure(&mut library, work, part));
+            best[1] = best[1].min(measure(&mut model, work, part));
+            best[2] = best[2].min(measure_copy(bytes));
+        }
+        let ([library, model, copy], page) = (best, part.page_size);
+        println!("{name:22} {page:>5} {library:12.1} {model:12.1} {copy:12.1} {bytes:12}");
+    }
+    assert!(library.array == model.array, "the arrays differ");
+}
+
 fn main() {
-    let (mut library, mut model) = (Library::new(), Model::new());
-    println!("part of 4,096 pages; nanoseconds per call, best of {REPEATS} measurements");
+    println!("parts of 4,096 pages; nanoseconds per call, best of {REPEATS} measurements");
     println!("reply buffers are reused and not cleared between calls");
     println!();
     println!(
-        "{:22} {:>12} {:>12} {:>12} {:>12}",
-        "call", "library", "model", "copy", "bytes copied"
+        "{:22} {:>5} {:>12} {:>12} {:>12} {:>12}",
+        "call", "page", "library", "model", "copy", "bytes copied"
     );
-    for (name, work, bytes) in ROWS {
-        let mut best = [f64::MAX; 3];
-        for _ in 0..REPEATS {
-            best[0] = best[0].min(measure(&mut library, work));
-            best[1] = best[1].min(measure(&mut model, work));
-            best[2] = best[2].min(measure_copy(bytes));
-        }
-        let [library, model, copy] = best;
-        println!("{name:22} {library:12.1} {model:12.1} {copy:12.1} {bytes:12}");
-    }
-    assert!(library.array == model.array, "the arrays differ");
+    PARTS.into_iter().for_each(run);
     println!();
     calls::run();
 }

@@ -1,7 +1,8 @@
 /*
  * Keeps recipes in a chip, in the two ways of slipknoll.h: by the slot calls
  * on a chip that is held here, and by the slot driver over an exchange()
- * function, behind which any AT45DB081D may stand. Here it is the same chip.
+ * function, behind which any AT45DB081D may stand. Here it is the same chip,
+ * with pages of 264 bytes and then with pages of 256.
  *
  * From the root of the repository, after `rt staticlib slipknoll`:
  *
@@ -17,9 +18,10 @@
 #define SLOT 7
 #define POLL_LIMIT 10
 
-/* The chip: its record and its array. */
+/* The chip: its record and its array, whose length tells the part. */
 static uint8_t record[SLIPKNOLL_RECORD_LEN];
 static uint8_t array[SLIPKNOLL_ARRAY_LEN];
+static size_t array_len;
 
 /* ---- The slot calls. */
 
@@ -30,19 +32,19 @@ static const uint8_t none[1];
 static uint8_t put(const uint8_t *recipe, size_t len)
 {
     uint64_t counts[3];
-    uint8_t answer = slipknoll_put(record, array, sizeof array, SLOT, POLL_LIMIT, recipe, len,
+    uint8_t answer = slipknoll_put(record, array, array_len, SLOT, POLL_LIMIT, recipe, len,
                                    none, 0, none, 0, call_log, sizeof call_log, counts);
     printf("call put: answer %u, frames %u, polls %u\n", (unsigned)answer,
            (unsigned)counts[0], (unsigned)counts[1]);
     return answer;
 }
 
-/* Reads the recipe into `buffer`, of SLIPKNOLL_RECIPE_MAX bytes. */
+/* Reads the recipe into `buffer`, which has room for the part's longest. */
 static uint8_t get(uint8_t *buffer, size_t *len)
 {
     uint64_t counts[3];
-    uint8_t answer = slipknoll_get(record, array, sizeof array, SLOT, POLL_LIMIT, buffer,
-                                   SLIPKNOLL_RECIPE_MAX, none, 0, none, 0, call_log,
+    uint8_t answer = slipknoll_get(record, array, array_len, SLOT, POLL_LIMIT, buffer,
+                                   SLIPKNOLL_RECIPE_MAX(array_len), none, 0, none, 0, call_log,
                                    sizeof call_log, counts);
     printf("call get: answer %u, frames %u, polls %u\n", (unsigned)answer,
            (unsigned)counts[0], (unsigned)counts[1]);
@@ -60,10 +62,10 @@ static uint8_t get(uint8_t *buffer, size_t *len)
  */
 static bool exchange(const uint8_t *frame, size_t len, uint8_t *reply)
 {
-    if (slipknoll_send(record, array, sizeof array, frame, len, reply, len) != SLIPKNOLL_ACCEPTED)
+    if (slipknoll_send(record, array, array_len, frame, len, reply, len) != SLIPKNOLL_ACCEPTED)
         return false;
     if (frame[0] == 0xD7)
-        slipknoll_end_busy(record, array, sizeof array);
+        slipknoll_end_busy(record, array, array_len);
     return true;
 }
 
@@ -94,20 +96,20 @@ static uint8_t drive(const char *name, uint8_t *state, const uint8_t *payload, s
 
 static uint8_t drive_put(const uint8_t *recipe, size_t len)
 {
-    static uint8_t staged[SLIPKNOLL_SLOT_LEN];
+    static uint8_t staged[SLIPKNOLL_SLOT_ROOM];
     uint8_t state[SLIPKNOLL_DRIVER_LEN];
 
-    slipknoll_driver_start_put(state, sizeof array, SLOT, POLL_LIMIT, recipe, len);
+    slipknoll_driver_start_put(state, array_len, SLOT, POLL_LIMIT, recipe, len);
     return drive("put", state, recipe, len, staged);
 }
 
 static uint8_t drive_get(uint8_t *buffer, size_t *len)
 {
-    static uint8_t staged[SLIPKNOLL_SLOT_LEN];
+    static uint8_t staged[SLIPKNOLL_SLOT_ROOM];
     uint8_t state[SLIPKNOLL_DRIVER_LEN];
     uint8_t answer;
 
-    slipknoll_driver_start_get(state, sizeof array, SLOT, POLL_LIMIT, SLIPKNOLL_RECIPE_MAX);
+    slipknoll_driver_start_get(state, array_len, SLOT, POLL_LIMIT, SLIPKNOLL_RECIPE_MAX(array_len));
     answer = drive("get", state, none, 0, staged);
     *len = slipknoll_driver_count(state, staged);
     memcpy(buffer, staged + 3, *len);
@@ -116,15 +118,16 @@ static uint8_t drive_get(uint8_t *buffer, size_t *len)
 
 /* ---- Both, one after the other. */
 
-int main(void)
+static int run(void)
 {
     static const uint8_t factory[SLIPKNOLL_FACTORY_LEN];
     static const uint8_t short_recipe[] = {'s', 'a', 'l', 't'};
-    static uint8_t long_recipe[SLIPKNOLL_RECIPE_MAX], buffer[SLIPKNOLL_RECIPE_MAX];
+    static uint8_t long_recipe[SLIPKNOLL_SLOT_ROOM], buffer[SLIPKNOLL_SLOT_ROOM];
+    const size_t longest = SLIPKNOLL_RECIPE_MAX(array_len);
     size_t len;
 
-    memset(long_recipe, 0x5A, sizeof long_recipe);
-    if (slipknoll_fresh(record, factory, array, sizeof array) != SLIPKNOLL_ACCEPTED)
+    memset(long_recipe, 0x5A, longest);
+    if (slipknoll_fresh(record, factory, array, array_len) != SLIPKNOLL_ACCEPTED)
         return 1;
     if (get(buffer, &len) != SLIPKNOLL_BLANK)
         return 1;
@@ -141,11 +144,25 @@ int main(void)
     printf("recipe: %.*s\n", (int)len, (const char *)buffer);
     if (drive_put(short_recipe, sizeof short_recipe) != SLIPKNOLL_ACCEPTED)
         return 1;
-    if (drive_put(long_recipe, sizeof long_recipe) != SLIPKNOLL_ACCEPTED)
+    if (drive_put(long_recipe, longest) != SLIPKNOLL_ACCEPTED)
         return 1;
     if (get(buffer, &len) != SLIPKNOLL_ACCEPTED)
         return 1;
     printf("recipe: %u bytes, %s\n", (unsigned)len,
-           len == sizeof long_recipe && memcmp(buffer, long_recipe, len) == 0 ? "as put" : "another");
+           len == longest && memcmp(buffer, long_recipe, len) == 0 ? "as put" : "another");
+    return 0;
+}
+
+int main(void)
+{
+    static const size_t parts[] = {SLIPKNOLL_ARRAY_LEN, SLIPKNOLL_ARRAY_256_LEN};
+    size_t i;
+
+    for (i = 0; i < sizeof parts / sizeof *parts; i++) {
+        array_len = parts[i];
+        printf("pages of %u bytes\n", (unsigned)SLIPKNOLL_PAGE_LEN(array_len));
+        if (run() != 0)
+            return 1;
+    }
     return 0;
 }

@@ -5,7 +5,7 @@
 use crate::answer;
 use crate::chip::MAX_FRAME;
 use crate::driver::{Driver, Link};
-use crate::slot::{MAX_RECIPE, SLOT_SIZE};
+use crate::slot::{HEADER_SIZE, SLOT_ROOM};
 use crate::{Chip, Part};
 
 /// Bytes of a line in the log (11.5).
@@ -70,18 +70,21 @@ pub struct Outcome {
 impl Chip {
     /// Makes a call. A refused one changes nothing (12.2).
     pub fn call(&mut self, lent: Lent, call: Call) -> Outcome {
-        if let Err(answer) = call.refuse(self, &lent) {
-            return Outcome {
-                answer,
-                ..Outcome::default()
-            };
-        }
+        let part = match call.refuse(self, &lent) {
+            Ok(part) => part,
+            Err(answer) => {
+                return Outcome {
+                    answer,
+                    ..Outcome::default()
+                }
+            }
+        };
         let mut run = Run {
             chip: self,
             lent,
             frames: 0,
         };
-        let (result, polls) = call.drive(&mut run);
+        let (result, polls) = call.drive(part, &mut run);
         Outcome {
             answer: result.err().unwrap_or(answer::ACCEPTED),
             frames: run.frames as u64,
@@ -110,17 +113,18 @@ impl Call<'_> {
     }
 
     /// The refusals, in the order of their numbers (12.2); the first that
-    /// applies is the answer.
-    pub fn refuse(&self, chip: &Chip, lent: &Lent) -> Result<(), u8> {
+    /// applies is the answer. If none does, the part that the array stands for.
+    pub fn refuse(&self, chip: &Chip, lent: &Lent) -> Result<Part, u8> {
         let part = chip.part_of(lent.array).ok_or(answer::PART)?;
         allow(self.frame_fits(), answer::FRAME)?;
         if let Some((slot, poll_limit)) = self.target() {
             allow(slot < part.blocks(), answer::SLOT)?;
             allow((1..=MAX_POLL_LIMIT).contains(&poll_limit), answer::LIMIT)?;
         }
-        allow(self.size_fits(), answer::SIZE)?;
+        allow(self.size_fits(part), answer::SIZE)?;
         allow(lent.log.len() >= LOG_LINE * self.most_frames(), answer::LOG)?;
-        allow(script_fits(lent, part), answer::SCRIPT)
+        allow(script_fits(lent, part), answer::SCRIPT)?;
+        Ok(part)
     }
 
     /// Answer 2, which only raw can meet (3.1, 12.9).
@@ -135,13 +139,14 @@ impl Call<'_> {
 
     /// Answer 5: of a put and a patch what would not fit a slot (12.5), of a
     /// get a buffer that the longest recipe would not fit (12.6).
-    fn size_fits(&self) -> bool {
+    pub fn size_fits(&self, part: Part) -> bool {
+        let most = part.max_recipe();
         match self {
-            Call::Put { recipe, .. } => recipe.len() <= MAX_RECIPE,
+            Call::Put { recipe, .. } => recipe.len() <= most,
             Call::Patch { place, bytes, .. } => place
                 .checked_add(bytes.len())
-                .map_or(false, |end| end <= MAX_RECIPE),
-            Call::Get { buffer, .. } => buffer.len() >= MAX_RECIPE,
+                .map_or(false, |end| end <= most),
+            Call::Get { buffer, .. } => buffer.len() >= most,
             Call::Wipe { .. } | Call::Raw { .. } => true,
         }
     }
@@ -159,18 +164,19 @@ impl Call<'_> {
 
     /// Sends the call's frames over a link. Hands back n or the answer that
     /// ended the call, and the number of polls. The call is not refused.
-    pub fn drive(self, link: &mut impl Link) -> (Result<usize, u8>, u64) {
+    pub fn drive(self, part: Part, link: &mut impl Link) -> (Result<usize, u8>, u64) {
         let (slot, poll_limit) = self.target().unwrap_or_default();
-        let mut driver = Driver::new(link, slot, poll_limit);
+        let mut driver = Driver::new(link, part, slot, poll_limit);
         let result = match self {
             Call::Put { recipe, .. } => driver.put(recipe).map(|()| 0),
             Call::Patch { place, bytes, .. } => driver.patch(place, bytes).map(|()| 0),
             Call::Get { buffer, .. } => {
-                let mut slot_bytes = [0; SLOT_SIZE];
-                let result = driver.get(&mut slot_bytes);
+                let mut room = [0; SLOT_ROOM];
+                let slot_bytes = &mut room[..part.slot_size()];
+                let result = driver.get(slot_bytes);
                 // Under any other answer the buffer stays (11.9).
                 if let Ok(n) = result {
-                    buffer[..n].copy_from_slice(recipe_in(&slot_bytes, n));
+                    buffer[..n].copy_from_slice(&slot_bytes[HEADER_SIZE..][..n]);
                 }
                 result
             }
@@ -180,10 +186,6 @@ impl Call<'_> {
         };
         (result, driver.polls)
     }
-}
-
-fn recipe_in(slot_bytes: &[u8; SLOT_SIZE], n: usize) -> &[u8] {
-    &slot_bytes[SLOT_SIZE - MAX_RECIPE..][..n]
 }
 
 fn allow(fits: bool, answer: u8) -> Result<(), u8> {

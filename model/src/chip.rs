@@ -6,7 +6,7 @@ use std::ops::Range;
 use crate::answer;
 use crate::command::{decode, Command, Request};
 use crate::operation::{Buffer, Operation};
-use crate::part::{sector_bits, sector_of, Part, PAGE_SIZE};
+use crate::part::{sector_bits, sector_of, Part, BUFFER_SIZE};
 
 /// The longest frame (3.1).
 pub const MAX_FRAME: usize = 1100;
@@ -16,9 +16,6 @@ const NO_DATA: u8 = 0xFF;
 
 /// The value of an erased byte.
 const ERASED: u8 = 0xFF;
-
-/// Where junk for registers begins: behind the junk for both buffers (8.6).
-const REGISTER_JUNK: usize = 2 * PAGE_SIZE;
 
 /// All of a chip but its array: registers (2.3), buffers (2.2), compare bit.
 #[derive(Clone, Debug, PartialEq, Eq)]
@@ -32,7 +29,9 @@ pub struct Chip {
     pub wp_high: bool,
     pub deep_power_down: bool,
     pub operation: Operation,
-    pub buffers: [[u8; PAGE_SIZE]; 2],
+    /// A part uses as many bytes of each as its pages have; what is behind
+    /// them it neither reads nor writes.
+    pub buffers: [[u8; BUFFER_SIZE]; 2],
     pub compare: bool,
 }
 
@@ -53,7 +52,7 @@ impl Chip {
             wp_high: true,
             deep_power_down: false,
             operation: Operation::Idle,
-            buffers: [[0; PAGE_SIZE]; 2],
+            buffers: [[0; BUFFER_SIZE]; 2],
             compare: false,
         })
     }
@@ -91,20 +90,20 @@ impl Chip {
         match operation {
             // Every byte is the buffer's (7.4).
             Operation::Program { buffer, page } => {
-                array[part.page_range(page)].copy_from_slice(self.buffer(buffer));
+                array[part.page_range(page)].copy_from_slice(self.buffer(part, buffer));
             }
             // Bits of the page are cleared, never set (7.5).
             Operation::ProgramWithoutErase { buffer, page } => {
-                and_into(&mut array[part.page_range(page)], self.buffer(buffer));
+                and_into(&mut array[part.page_range(page)], self.buffer(part, buffer));
             }
             // The page goes to the buffer (7.6), and 58/59 leave it what it
             // has (7.7).
             Operation::Transfer { buffer, page } | Operation::Rewrite { buffer, page } => {
-                self.buffers[buffer.index()].copy_from_slice(&array[part.page_range(page)]);
+                (self.buffer_mut(part, buffer)).copy_from_slice(&array[part.page_range(page)]);
             }
             // Set if a byte differs, cleared if none does (7.8).
             Operation::Compare { buffer, page } => {
-                self.compare = self.buffer(buffer)[..] != array[part.page_range(page)];
+                self.compare = self.buffer(part, buffer)[..] != array[part.page_range(page)];
             }
             // All that is named (7.9), of a set each sector (7.10).
             Operation::ErasePage { .. }
@@ -146,10 +145,11 @@ impl Chip {
         }
         let operation = std::mem::replace(&mut self.operation, Operation::Idle);
         // Both buffers are lost, whatever was under way (8.4).
-        self.buffers[0].copy_from_slice(&junk[..PAGE_SIZE]);
-        self.buffers[1].copy_from_slice(&junk[PAGE_SIZE..REGISTER_JUNK]);
+        let (buffer_junk, array_junk) = junk.split_at(part.array_junk());
+        let (first, second) = buffer_junk.split_at(part.page_size);
+        (self.buffer_mut(part, Buffer::One)).copy_from_slice(first);
+        (self.buffer_mut(part, Buffer::Two)).copy_from_slice(second);
         // So are all pages that the operation writes (8.5).
-        let array_junk = &junk[REGISTER_JUNK..];
         operation.each_altered_range(part, |range: Range<usize>| {
             array[range.clone()].copy_from_slice(&array_junk[range]);
         });
@@ -161,12 +161,13 @@ impl Chip {
         answer::ACCEPTED
     }
 
-    /// The status byte (3.21).
-    pub fn status(&self) -> u8 {
+    /// The status byte; its last bit is the part's (3.21).
+    pub fn status(&self, part: Part) -> u8 {
         u8::from(self.operation.is_idle()) << 7
             | u8::from(self.compare) << 6
             | 0b1001 << 2
             | u8::from(self.protection_active()) << 1
+            | part.status_bit
     }
 
     /// Whether a sector is sealed (2.12): one bit locks or lists it (2.9,
@@ -233,7 +234,7 @@ impl Chip {
             // A ring of all pages (3.17).
             Command::ReadArray => copy_wrapping(array, page.start + byte, reply),
             // A ring of one buffer (3.18).
-            Command::ReadBuffer(buffer) => copy_wrapping(self.buffer(buffer), byte, reply),
+            Command::ReadBuffer(buffer) => copy_wrapping(self.buffer(part, buffer), byte, reply),
             // Registers come once (3.14, 3.19).
             Command::ReadProtection => copy_once(&self.protection, reply),
             Command::ReadLockdown => copy_once(&self.lockdown, reply),
@@ -242,7 +243,7 @@ impl Chip {
                 copy_once(&self.factory, reply.get_mut(64..).unwrap_or_default());
             }
             // The same in every byte (3.20).
-            Command::ReadStatus => reply.fill(self.status()),
+            Command::ReadStatus => reply.fill(self.status(part)),
             // Four bytes, once (3.14, 3.22).
             Command::ReadIdentification => copy_once(&[0x1F, 0x25, 0x00, 0x00], reply),
             _ => {}
@@ -256,7 +257,7 @@ impl Chip {
         match request.command {
             // Of two bytes for one place the later stays (6.2).
             Command::WriteBuffer(buffer) | Command::WriteAndProgram(buffer) => {
-                write_wrapping(&mut self.buffers[buffer.index()], byte, data);
+                write_wrapping(self.buffer_mut(part, buffer), byte, data);
             }
             // The data of both pass through buffer 1 (6.10).
             Command::ProgramProtection => {
@@ -306,8 +307,12 @@ impl Chip {
         Part::from_array_len(array.len()).filter(|&part| self.operation.fits(part))
     }
 
-    fn buffer(&self, buffer: Buffer) -> &[u8; PAGE_SIZE] {
-        &self.buffers[buffer.index()]
+    fn buffer(&self, part: Part, buffer: Buffer) -> &[u8] {
+        &self.buffers[buffer.index()][..part.page_size]
+    }
+
+    fn buffer_mut(&mut self, part: Part, buffer: Buffer) -> &mut [u8] {
+        &mut self.buffers[buffer.index()][..part.page_size]
     }
 
     /// Whether the chip is guarded (2.11).

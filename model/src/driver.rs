@@ -4,8 +4,8 @@
 //! come back; a [`Link`] carries both. Section 10 of the specification.
 
 use crate::answer;
-use crate::part::{sector_bits, sector_of, PAGES_PER_BLOCK, PAGE_SIZE};
-use crate::slot::{judge_patch, stored_len, with_recipe, HEADER_SIZE, SLOT_SIZE};
+use crate::part::{sector_bits, sector_of, Part, BUFFER_SIZE, PAGES_PER_BLOCK};
+use crate::slot::{judge_patch, store, stored_len, HEADER_SIZE, SLOT_ROOM};
 
 /// Bytes before the data: an opcode with its address, and D2's four more.
 const LEAD: usize = 4;
@@ -31,7 +31,8 @@ pub trait Link {
 /// One call on one slot over a link.
 pub struct Driver<'a, L: Link> {
     pub link: &'a mut L,
-    /// Below 512.
+    pub part: Part,
+    /// Below the number of the part's blocks.
     pub slot: usize,
     /// B: how many polls each wait may have (10.15).
     pub poll_limit: usize,
@@ -40,9 +41,10 @@ pub struct Driver<'a, L: Link> {
 }
 
 impl<'a, L: Link> Driver<'a, L> {
-    pub fn new(link: &'a mut L, slot: usize, poll_limit: usize) -> Self {
+    pub fn new(link: &'a mut L, part: Part, slot: usize, poll_limit: usize) -> Self {
         Driver {
             link,
+            part,
             slot,
             poll_limit,
             polls: 0,
@@ -53,8 +55,10 @@ impl<'a, L: Link> Driver<'a, L> {
     /// 9.4.
     pub fn put(&mut self, recipe: &[u8]) -> Result<(), u8> {
         self.begin_writing()?;
-        let bytes = with_recipe(recipe);
-        for (k, page) in bytes.chunks_exact(PAGE_SIZE).enumerate() {
+        let mut room = [0; SLOT_ROOM];
+        let bytes = &mut room[..self.part.slot_size()];
+        store(bytes, recipe);
+        for (k, page) in bytes.chunks_exact(self.part.page_size).enumerate() {
             self.program(k, page)?;
         }
         Ok(())
@@ -64,38 +68,39 @@ impl<'a, L: Link> Driver<'a, L> {
     /// (10.20); under 12 and 13 the frames are as many, with the bytes that
     /// were read (9.8).
     ///
-    /// The patch ends by 2,109.
+    /// The patch ends by the longest recipe's end.
     pub fn patch(&mut self, place: usize, bytes: &[u8]) -> Result<(), u8> {
         self.begin_writing()?;
         let mut verdict = Ok(());
         for k in 0..PAGES_PER_BLOCK {
-            let mut page = [0; PAGE_SIZE];
-            self.read(k, &mut page)?;
+            let mut room = [0; BUFFER_SIZE];
+            let page = &mut room[..self.part.page_size];
+            self.read(k, page)?;
             if k == 0 {
-                verdict = judge_patch(&page, place + bytes.len());
+                verdict = judge_patch(self.part, page, place + bytes.len());
             }
             if verdict.is_ok() {
-                change(&mut page, k, place, bytes);
+                change(page, k, place, bytes);
             }
-            self.program(k, &page)?;
+            self.program(k, page)?;
         }
         verdict
     }
 
     /// Every page is read, however long the recipe is (10.4). The slot's bytes,
     /// and the length of the recipe in them or answer 12 (9.9).
-    pub fn get(&mut self, slot_bytes: &mut [u8; SLOT_SIZE]) -> Result<usize, u8> {
+    pub fn get(&mut self, slot_bytes: &mut [u8]) -> Result<usize, u8> {
         self.wait()?;
-        for (k, page) in slot_bytes.chunks_exact_mut(PAGE_SIZE).enumerate() {
+        for (k, page) in slot_bytes.chunks_exact_mut(self.part.page_size).enumerate() {
             self.read(k, page)?;
         }
-        stored_len(slot_bytes)
+        stored_len(self.part, slot_bytes)
     }
 
     /// One erase of the slot's block (10.5).
     pub fn wipe(&mut self) -> Result<(), u8> {
         self.begin_writing()?;
-        self.send_address(0x50, self.page(0))?;
+        self.send_address(0x50, 0)?;
         self.wait()?;
         Ok(())
     }
@@ -146,28 +151,37 @@ impl<'a, L: Link> Driver<'a, L> {
 
     /// D2 of the slot's page `k` (10.7, 10.19).
     fn read(&mut self, k: usize, page: &mut [u8]) -> Result<(), u8> {
-        let mut frame = [0; READ_LEAD + PAGE_SIZE];
-        frame[..LEAD].copy_from_slice(&naming(0xD2, self.page(k)));
-        let mut reply = [0; READ_LEAD + PAGE_SIZE];
-        self.link.send(&frame, &mut reply)?;
-        page.copy_from_slice(&reply[READ_LEAD..]);
+        let mut frame = [0; READ_LEAD + BUFFER_SIZE];
+        let mut reply = frame;
+        let len = READ_LEAD + self.part.page_size;
+        frame[..LEAD].copy_from_slice(&self.naming(0xD2, k));
+        self.link.send(&frame[..len], &mut reply[..len])?;
+        page.copy_from_slice(&reply[READ_LEAD..len]);
         Ok(())
     }
 
     /// 84, 83 and a wait: the slot's page `k` becomes `bytes`.
     fn program(&mut self, k: usize, bytes: &[u8]) -> Result<(), u8> {
         // The 84 loads the buffer from its first byte (10.7, 10.10).
-        let mut frame = [0; LEAD + PAGE_SIZE];
+        let mut frame = [0; LEAD + BUFFER_SIZE];
+        let mut reply = frame;
+        let len = LEAD + self.part.page_size;
         frame[0] = 0x84;
-        frame[LEAD..].copy_from_slice(bytes);
-        self.link.send(&frame, &mut [0; LEAD + PAGE_SIZE])?;
-        self.send_address(0x83, self.page(k))?;
+        frame[LEAD..len].copy_from_slice(bytes);
+        self.link.send(&frame[..len], &mut reply[..len])?;
+        self.send_address(0x83, k)?;
         self.wait()?;
         Ok(())
     }
 
-    fn send_address(&mut self, opcode: u8, page: u16) -> Result<(), u8> {
-        self.link.send(&naming(opcode, page), &mut [0; LEAD])
+    fn send_address(&mut self, opcode: u8, k: usize) -> Result<(), u8> {
+        self.link.send(&self.naming(opcode, k), &mut [0; LEAD])
+    }
+
+    /// Opcode, and address of the slot's page `k` (10.8).
+    fn naming(&self, opcode: u8, k: usize) -> [u8; LEAD] {
+        let [_, high, middle, low] = self.part.address_of(self.page(k)).to_be_bytes();
+        [opcode, high, middle, low]
     }
 
     /// The part's number of the slot's page `k` (9.1).
@@ -180,18 +194,12 @@ impl<'a, L: Link> Driver<'a, L> {
     }
 }
 
-/// Opcode and address of a page (10.8).
-fn naming(opcode: u8, page: u16) -> [u8; LEAD] {
-    let [_, high, middle, low] = (512 * u32::from(page)).to_be_bytes();
-    [opcode, high, middle, low]
-}
-
 /// Lays a patch over the slot's page `k`; its place counts behind the head
 /// (9.7).
-fn change(page: &mut [u8; PAGE_SIZE], k: usize, place: usize, bytes: &[u8]) {
-    let (page_start, patch_start) = (k * PAGE_SIZE, HEADER_SIZE + place);
+fn change(page: &mut [u8], k: usize, place: usize, bytes: &[u8]) {
+    let (page_start, patch_start) = (k * page.len(), HEADER_SIZE + place);
     let start = patch_start.max(page_start);
-    let end = (patch_start + bytes.len()).min(page_start + PAGE_SIZE);
+    let end = (patch_start + bytes.len()).min(page_start + page.len());
     if start < end {
         page[start - page_start..end - page_start]
             .copy_from_slice(&bytes[start - patch_start..end - patch_start]);

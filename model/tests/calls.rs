@@ -94,7 +94,11 @@ impl Bench {
     }
 
     fn slot(&self, slot: usize) -> &[u8] {
-        &self.array[2112 * slot..2112 * (slot + 1)]
+        let len = match self.array.len() {
+            33_792 | 1_081_344 => 2112,
+            _ => 2048,
+        };
+        &self.array[len * slot..len * (slot + 1)]
     }
 }
 
@@ -109,110 +113,154 @@ fn counted(answer: u8, frames: u64, polls: u64) -> Outcome {
 
 #[test]
 fn empty_script_counts_are_27_35_9_5() {
-    let mut bench = Bench::fresh(Part::SHORT);
-    assert_eq!(bench.get(&[], 3), counted(answer::BLANK, 9, 1));
-    assert_eq!(bench.put(&[], 3, 1, b"AB"), counted(0, 27, 9));
-    assert_eq!(bench.patch(3, 1, b"C"), counted(0, 35, 9));
-    let read = Outcome {
-        n: 2,
-        ..counted(0, 9, 1)
-    };
-    assert_eq!(bench.get(&[], 3), read);
-    assert_eq!(bench.buffer[..3], [b'A', b'C', STALE]);
-    assert_eq!(bench.wipe(&[], 3, 1), counted(0, 5, 2));
-    assert!(bench.array.iter().all(|&byte| byte == 0xFF));
+    for part in Part::ALL {
+        let mut bench = Bench::fresh(part);
+        assert_eq!(bench.get(&[], 3), counted(answer::BLANK, 9, 1));
+        assert_eq!(bench.put(&[], 3, 1, b"AB"), counted(0, 27, 9));
+        assert_eq!(bench.patch(3, 1, b"C"), counted(0, 35, 9));
+        let read = Outcome {
+            n: 2,
+            ..counted(0, 9, 1)
+        };
+        assert_eq!(bench.get(&[], 3), read);
+        assert_eq!(bench.buffer[..3], [b'A', b'C', STALE]);
+        assert_eq!(bench.wipe(&[], 3, 1), counted(0, 5, 2));
+        assert!(bench.array.iter().all(|&byte| byte == 0xFF));
+    }
 }
 
 #[test]
 fn wipe_2_has_the_outline_of_the_readme() {
-    let mut bench = Bench::fresh(Part::SHORT);
-    let outcome = bench.wipe(&[], 2, 1);
-    let expected = [
-        "0002D700FFFF",
-        "001432000000",
-        "001435000000",
-        "000450002000",
-        "0002D700FFFF",
-    ];
-    assert_eq!(bench.lines(&outcome), expected);
-    assert_eq!(outcome, counted(0, 5, 2));
+    for (part, erase) in [
+        (Part::SHORT, "000450002000"),
+        (Part::SHORT_256, "000450001000"),
+    ] {
+        let mut bench = Bench::fresh(part);
+        let outcome = bench.wipe(&[], 2, 1);
+        let expected = [
+            "0002D700FFFF",
+            "001432000000",
+            "001435000000",
+            erase,
+            "0002D700FFFF",
+        ];
+        assert_eq!(bench.lines(&outcome), expected);
+        assert_eq!(outcome, counted(0, 5, 2));
+    }
 }
 
 #[test]
 fn put_and_patch_send_the_listed_frames() {
-    let mut bench = Bench::fresh(Part::FULL);
-    let outcome = bench.put(&[], 511, 1, &[]);
-    let lines = bench.lines(&outcome);
-    assert_eq!(
-        lines[3..6],
-        ["010C84000000", "0004831FF000", "0002D700FFFF"]
-    );
-    assert_eq!(
-        lines[24..27],
-        ["010C84000000", "0004831FFE00", "0002D700FFFF"]
-    );
-    let outcome = bench.patch(511, 0, &[]);
-    let lines = bench.lines(&outcome);
-    assert_eq!(lines[3..5], ["0110D21FF000", "010C84000000"]);
-    assert_eq!(
-        lines[31..34],
-        ["0110D21FFE00", "010C84000000", "0004831FFE00"]
-    );
+    // Load, and read and program of the slot's first and last page.
+    for (part, load, read, program) in [
+        (
+            Part::FULL,
+            "010C84000000",
+            ["0110D21FF000", "0110D21FFE00"],
+            ["0004831FF000", "0004831FFE00"],
+        ),
+        (
+            Part::FULL_256,
+            "010484000000",
+            ["0108D20FF800", "0108D20FFF00"],
+            ["0004830FF800", "0004830FFF00"],
+        ),
+    ] {
+        let mut bench = Bench::fresh(part);
+        let outcome = bench.put(&[], 511, 1, &[]);
+        let lines = bench.lines(&outcome);
+        assert_eq!(lines[3..6], [load, program[0], "0002D700FFFF"]);
+        assert_eq!(lines[24..27], [load, program[1], "0002D700FFFF"]);
+        let outcome = bench.patch(511, 0, &[]);
+        let lines = bench.lines(&outcome);
+        assert_eq!(lines[3..6], [read[0], load, program[0]]);
+        assert_eq!(lines[31..34], [read[1], load, program[1]]);
+    }
 }
+
+/// A short part of either page size, the bytes of its slots, its longest recipe
+/// and this length as a head has it.
+const LIMITS: [(Part, usize, usize, [u8; 2]); 2] = [
+    (Part::SHORT, 2112, 2109, [0x08, 0x3D]),
+    (Part::SHORT_256, 2048, 2045, [0x07, 0xFD]),
+];
 
 #[test]
 fn recipes_are_stored_with_version_and_length() {
-    let mut bench = Bench::fresh(Part::SHORT);
-    bench.put(&[], 0, 1, &[0x41, 0x42]);
-    assert_eq!(bench.slot(0)[..5], [0x01, 0x00, 0x02, 0x41, 0x42]);
-    assert_eq!(bench.slot(0)[5..], [0; 2107]);
-    bench.put(&[], 0, 1, &[]);
-    assert_eq!(bench.slot(0)[..3], [0x01, 0x00, 0x00]);
-    bench.put(&[], 0, 1, &[7; 2109]);
-    assert_eq!(bench.slot(0)[..3], [0x01, 0x08, 0x3D]);
-    assert_eq!(
-        bench.put(&[], 0, 1, &[7; 2110]),
-        counted(answer::SIZE, 0, 0)
-    );
+    for (part, slot_len, most, [high, low]) in LIMITS {
+        let mut bench = Bench::fresh(part);
+        bench.put(&[], 0, 1, &[0x41, 0x42]);
+        assert_eq!(bench.slot(0)[..5], [0x01, 0x00, 0x02, 0x41, 0x42]);
+        assert_eq!(bench.slot(0)[5..], vec![0; slot_len - 5]);
+        assert_eq!(bench.slot(1)[0], 0xFF);
+        bench.put(&[], 0, 1, &[]);
+        assert_eq!(bench.slot(0)[..3], [0x01, 0x00, 0x00]);
+        bench.put(&[], 0, 1, &vec![7; most]);
+        assert_eq!(bench.slot(0)[..4], [0x01, high, low, 7]);
+        assert_eq!((bench.slot(0)[slot_len - 1], bench.slot(1)[0]), (7, 0xFF));
+        let long = vec![7; most + 1];
+        assert_eq!(bench.put(&[], 0, 1, &long), counted(answer::SIZE, 0, 0));
+    }
 }
 
 #[test]
 fn patches_cross_pages_and_keep_the_length() {
-    let mut bench = Bench::fresh(Part::SHORT);
-    bench.put(&[], 1, 1, &[1; 600]);
-    assert_eq!(bench.patch(1, 258, &[9; 6]).answer, 0);
-    let slot = bench.slot(1);
-    assert_eq!(slot[..3], [0x01, 0x02, 0x58]);
-    assert_eq!(slot[260..268], [1, 9, 9, 9, 9, 9, 9, 1]);
+    for (part, page) in [(Part::SHORT, 264), (Part::SHORT_256, 256)] {
+        let mut bench = Bench::fresh(part);
+        bench.put(&[], 1, 1, &[1; 600]);
+        assert_eq!(bench.patch(1, page - 6, &[9; 6]).answer, 0);
+        let slot = bench.slot(1);
+        assert_eq!(slot[..3], [0x01, 0x02, 0x58]);
+        assert_eq!(slot[page - 4..page + 4], [1, 9, 9, 9, 9, 9, 9, 1]);
+    }
 }
 
 #[test]
 fn patches_under_12_and_13_send_every_frame() {
-    let mut bench = Bench::fresh(Part::SHORT);
-    assert_eq!(bench.patch(0, 0, &[1]), counted(answer::BLANK, 35, 9));
-    assert!(bench.slot(0).iter().all(|&byte| byte == 0xFF));
-    bench.put(&[], 0, 1, &[5; 10]);
-    let before = bench.slot(0).to_vec();
-    assert_eq!(bench.patch(0, 10, &[1]), counted(answer::END, 35, 9));
-    assert_eq!(bench.patch(0, 11, &[]), counted(answer::END, 35, 9));
-    assert_eq!(bench.patch(0, 10, &[]), counted(0, 35, 9));
-    assert_eq!(bench.slot(0), before);
-    assert_eq!(bench.patch(0, 2109, &[]).answer, answer::END);
-    assert_eq!(bench.patch(0, 2110, &[]).answer, answer::SIZE);
-    assert_eq!(bench.patch(0, usize::MAX, &[1]).answer, answer::SIZE);
+    for (part, _, most, _) in LIMITS {
+        let mut bench = Bench::fresh(part);
+        assert_eq!(bench.patch(0, 0, &[1]), counted(answer::BLANK, 35, 9));
+        assert!(bench.slot(0).iter().all(|&byte| byte == 0xFF));
+        bench.put(&[], 0, 1, &[5; 10]);
+        let before = bench.slot(0).to_vec();
+        assert_eq!(bench.patch(0, 10, &[1]), counted(answer::END, 35, 9));
+        assert_eq!(bench.patch(0, 11, &[]), counted(answer::END, 35, 9));
+        assert_eq!(bench.patch(0, 10, &[]), counted(0, 35, 9));
+        assert_eq!(bench.slot(0), before);
+        assert_eq!(bench.patch(0, most, &[]).answer, answer::END);
+        assert_eq!(bench.patch(0, most + 1, &[]).answer, answer::SIZE);
+        assert_eq!(bench.patch(0, usize::MAX, &[1]).answer, answer::SIZE);
+    }
 }
 
 #[test]
-fn length_over_2109_or_another_version_is_blank() {
-    let mut bench = Bench::fresh(Part::SHORT);
-    for (head, expected) in [
-        ([1, 0x08, 0x3D], answer::ACCEPTED),
-        ([1, 0x08, 0x3E], answer::BLANK),
-        ([0, 0x00, 0x00], answer::BLANK),
-        ([2, 0x00, 0x00], answer::BLANK),
-    ] {
-        bench.array[..3].copy_from_slice(&head);
-        assert_eq!(bench.get(&[], 0).answer, expected);
+fn length_over_the_limit_or_another_version_is_blank() {
+    for (part, _, _, [high, low]) in LIMITS {
+        let mut bench = Bench::fresh(part);
+        for (head, expected) in [
+            ([1, high, low], answer::ACCEPTED),
+            ([1, high, low + 1], answer::BLANK),
+            ([0, 0x00, 0x00], answer::BLANK),
+            ([2, 0x00, 0x00], answer::BLANK),
+        ] {
+            bench.array[..3].copy_from_slice(&head);
+            assert_eq!(bench.get(&[], 0).answer, expected);
+        }
+    }
+}
+
+#[test]
+fn get_buffer_holds_the_longest_recipe() {
+    for (part, _, most, _) in LIMITS {
+        let mut bench = Bench::fresh(part);
+        for (len, expected) in [(most - 1, answer::SIZE), (most, answer::BLANK)] {
+            let call = Call::Get {
+                slot: 0,
+                poll_limit: 1,
+                buffer: &mut vec![STALE; len],
+            };
+            assert_eq!(bench.call(&[], call).answer, expected);
+        }
     }
 }
 
@@ -269,34 +317,47 @@ fn seal_is_told_by_bits_of_the_sector_and_bit_1() {
 
 #[test]
 fn raw_has_no_wait_and_its_reply_outlives_a_cut() {
-    let mut bench = Bench::fresh(Part::SHORT);
-    let (outcome, reply) = bench.raw(&[1], &[0x83, 0x00, 0x0A, 0x00]);
-    assert_eq!((outcome, reply), (counted(0, 1, 0), vec![0xFF; 4]));
-    let program = Operation::Program {
-        buffer: Buffer::One,
-        page: 5,
-    };
-    assert_eq!(bench.chip.operation, program);
-    let (outcome, reply) = bench.raw(&[2], &[0xD7, 0x00]);
-    assert_eq!(
-        (outcome, reply),
-        (counted(answer::CUT, 1, 0), vec![0xFF, 0x24])
-    );
-    assert_eq!(bench.array[5 * 264..6 * 264], [0x77; 264]);
-    let (outcome, _) = bench.raw(&[], &[0xB9]);
-    assert_eq!(bench.lines(&outcome), ["0001B9FFFFFF"]);
-    assert_eq!(bench.raw(&[], &[]).0, counted(answer::FRAME, 0, 0));
-    assert_eq!(bench.raw(&[], &[0; 1101]).0, counted(answer::FRAME, 0, 0));
+    for (part, page, address, status) in [
+        (Part::SHORT, 264, 0x0A, 0x24),
+        (Part::SHORT_256, 256, 0x05, 0x25),
+    ] {
+        let mut bench = Bench::fresh(part);
+        let (outcome, reply) = bench.raw(&[1], &[0x83, 0x00, address, 0x00]);
+        assert_eq!((outcome, reply), (counted(0, 1, 0), vec![0xFF; 4]));
+        let program = Operation::Program {
+            buffer: Buffer::One,
+            page: 5,
+        };
+        assert_eq!(bench.chip.operation, program);
+        let (outcome, reply) = bench.raw(&[2], &[0xD7, 0x00]);
+        assert_eq!(
+            (outcome, reply),
+            (counted(answer::CUT, 1, 0), vec![0xFF, status])
+        );
+        let junk = [bench.array[5 * page], bench.array[6 * page - 1]];
+        assert_eq!(junk, [0x77; 2]);
+        let around = [bench.array[5 * page - 1], bench.array[6 * page]];
+        assert_eq!(around, [0xFF; 2]);
+        let (outcome, _) = bench.raw(&[], &[0xB9]);
+        assert_eq!(bench.lines(&outcome), ["0001B9FFFFFF"]);
+        assert_eq!(bench.raw(&[], &[]).0, counted(answer::FRAME, 0, 0));
+        assert_eq!(bench.raw(&[], &[0; 1101]).0, counted(answer::FRAME, 0, 0));
+    }
 }
 
 #[test]
 fn refusals_come_in_order() {
-    let mut bench = Bench::fresh(Part::SHORT);
-    let (recipe, bad) = ([0; 2110], [3]);
-    assert_eq!(bench.put(&bad, 16, 0, &recipe).answer, answer::SLOT);
-    assert_eq!(bench.put(&bad, 15, 0, &recipe).answer, answer::LIMIT);
-    assert_eq!(bench.put(&bad, 15, 1001, &recipe).answer, answer::LIMIT);
-    assert_eq!(bench.put(&bad, 15, 1000, &recipe).answer, answer::SIZE);
+    for (part, _, most, _) in LIMITS {
+        refuses_in_order(Bench::fresh(part), &vec![0; most + 1]);
+    }
+}
+
+fn refuses_in_order(mut bench: Bench, recipe: &[u8]) {
+    let bad = [3];
+    assert_eq!(bench.put(&bad, 16, 0, recipe).answer, answer::SLOT);
+    assert_eq!(bench.put(&bad, 15, 0, recipe).answer, answer::LIMIT);
+    assert_eq!(bench.put(&bad, 15, 1001, recipe).answer, answer::LIMIT);
+    assert_eq!(bench.put(&bad, 15, 1000, recipe).answer, answer::SIZE);
     bench.log.truncate(6 * 9018 - 1);
     assert_eq!(bench.put(&bad, 15, 1000, &[]).answer, answer::LOG);
     bench.log.push(STALE);
@@ -310,5 +371,5 @@ fn refusals_come_in_order() {
     bench.junk.push(0);
     assert_eq!(bench.put(&never_reached, 15, 1000, &[]).answer, 0);
     bench.array.pop();
-    assert_eq!(bench.put(&bad, 16, 0, &recipe).answer, answer::PART);
+    assert_eq!(bench.put(&bad, 16, 0, recipe).answer, answer::PART);
 }

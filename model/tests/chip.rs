@@ -5,25 +5,9 @@ use at45db081d_model::command::decode;
 use at45db081d_model::part::{sector_bits, sector_of};
 use at45db081d_model::{answer, record, Buffer, Chip, Operation, Part, Record, RECORD_LEN};
 
-const FACTORY: [u8; 64] = [0x5A; 64];
+mod bench;
 
-/// A fresh chip and its array.
-fn fresh(part: Part) -> (Chip, Vec<u8>) {
-    let mut array = vec![0; part.array_len()];
-    let chip = Chip::fresh(&FACTORY, &mut array).expect("a known part");
-    (chip, array)
-}
-
-/// Sends a frame that must be accepted; hands back the reply.
-fn send(chip: &mut Chip, array: &[u8], frame: &[u8]) -> Vec<u8> {
-    let mut reply = vec![0xEE; frame.len()];
-    assert_eq!(chip.send(array, frame, &mut reply), answer::ACCEPTED);
-    reply
-}
-
-fn status(chip: &mut Chip, array: &[u8]) -> u8 {
-    send(chip, array, &[0xD7, 0x00])[1]
-}
+use bench::{fresh, send, status, FACTORY};
 
 fn page_named(frame: &[u8], part: Part) -> u16 {
     part.page_of(decode(frame).expect("a known frame").address)
@@ -41,15 +25,30 @@ fn program(chip: &mut Chip, array: &mut [u8], page: u16, byte: u8) {
 
 #[test]
 fn parts_have_their_lengths() {
-    assert_eq!(Part::FULL.array_len(), 1_081_344);
-    assert_eq!(Part::SHORT.array_len(), 33_792);
-    assert_eq!(Part::from_array_len(1_081_344), Some(Part::FULL));
-    assert_eq!(Part::from_array_len(33_792), Some(Part::SHORT));
-    for len in [0, 1, 33_791, 33_793, 1_048_576, 1_081_343, 1_081_345] {
+    // Array, junk, junk's place for the array, slot, recipe, blocks.
+    for (part, lengths) in [
+        (Part::FULL, [1_081_344, 1_081_872, 528, 2112, 2109, 512]),
+        (Part::SHORT, [33_792, 34_320, 528, 2112, 2109, 16]),
+        (Part::FULL_256, [1_048_576, 1_049_088, 512, 2048, 2045, 512]),
+        (Part::SHORT_256, [32_768, 33_280, 512, 2048, 2045, 16]),
+    ] {
+        let found = [
+            part.array_len(),
+            part.junk_len(),
+            part.array_junk(),
+            part.slot_size(),
+            part.max_recipe(),
+            part.blocks(),
+        ];
+        assert_eq!(found, lengths);
+        let len = part.array_len();
+        assert_eq!(Part::from_array_len(len), Some(part));
+        assert_eq!(Part::from_array_len(len - 1), None);
+        assert_eq!(Part::from_array_len(len + 1), None);
+    }
+    for len in [0, 1, 256, 264, 2048, 2112, 33_280, 34_320] {
         assert_eq!(Part::from_array_len(len), None);
     }
-    assert_eq!(Part::FULL.junk_len(), 1_081_872);
-    assert_eq!(Part::SHORT.junk_len(), 34_320);
 }
 
 #[test]
@@ -58,22 +57,43 @@ fn addresses_name_pages_and_bytes() {
     assert_eq!(page_named(&[0x83, 0x1F, 0xFE, 0x00], Part::FULL), 4095);
     assert_eq!(page_named(&[0x83, 0xFF, 0xFE, 0x00], Part::FULL), 4095);
     assert_eq!(page_named(&[0x83, 0xFF, 0xFE, 0x00], Part::SHORT), 127);
-    assert_eq!(Part::FULL.byte_of(263), 263);
-    assert_eq!(Part::FULL.byte_of(264), 0);
-    assert_eq!(Part::FULL.byte_of(511), 247);
-    assert_eq!(Part::FULL.byte_of(512), 0);
+    assert_eq!(page_named(&[0x83, 0x00, 0x05, 0xFF], Part::FULL_256), 5);
+    assert_eq!(page_named(&[0x83, 0x0F, 0xFF, 0x00], Part::FULL_256), 4095);
+    assert_eq!(page_named(&[0x83, 0xFF, 0xFF, 0x00], Part::FULL_256), 4095);
+    assert_eq!(page_named(&[0x83, 0x10, 0x00, 0x00], Part::FULL_256), 0);
+    assert_eq!(page_named(&[0x83, 0xFF, 0xFF, 0x00], Part::SHORT_256), 127);
+    assert_eq!(page_named(&[0x83, 0x00, 0x80, 0x00], Part::SHORT_256), 0);
+    // Page and byte of N, with pages of 264 and of 256 bytes.
+    for (n, long, short) in [
+        (0, (0, 0), (0, 0)),
+        (1, (0, 1), (0, 1)),
+        (254, (0, 254), (0, 254)),
+        (255, (0, 255), (0, 255)),
+        (256, (0, 256), (1, 0)),
+        (257, (0, 257), (1, 1)),
+        (263, (0, 263), (1, 7)),
+        (264, (0, 0), (1, 8)),
+        (511, (0, 247), (1, 255)),
+        (512, (1, 0), (2, 0)),
+    ] {
+        for (part, place) in [(Part::SHORT, long), (Part::SHORT_256, short)] {
+            assert_eq!((part.page_of(n), part.byte_of(n)), place, "{n}");
+        }
+    }
 }
 
 #[test]
 fn pages_lie_in_their_sectors() {
     assert_eq!([7, 8, 255, 256].map(sector_of), [0, 1, 1, 2]);
     assert_eq!(sector_of(4095), 16);
-    assert_eq!(Part::FULL.sectors(), 17);
-    assert_eq!(Part::SHORT.sectors(), 2);
+    assert_eq!(Part::ALL.map(Part::sectors), [17, 2, 17, 2]);
     assert_eq!(Part::FULL.sector_range(0), 0..8 * 264);
     assert_eq!(Part::FULL.sector_range(1), 8 * 264..256 * 264);
     assert_eq!(Part::SHORT.sector_range(1), 8 * 264..128 * 264);
     assert_eq!(Part::FULL.sector_range(16), 3840 * 264..4096 * 264);
+    assert_eq!(Part::FULL_256.sector_range(1), 2_048..65_536);
+    assert_eq!(Part::SHORT_256.sector_range(1), 2_048..32_768);
+    assert_eq!(Part::FULL_256.sector_range(16), 983_040..1_048_576);
     assert_eq!(sector_bits(0), (0, 0xC0));
     assert_eq!(sector_bits(1), (0, 0x30));
     assert_eq!(sector_bits(16), (15, 0xFF));
@@ -81,28 +101,40 @@ fn pages_lie_in_their_sectors() {
 
 #[test]
 fn fresh_chip_is_as_listed() {
-    let (chip, array) = fresh(Part::SHORT);
-    assert!(array.iter().all(|&byte| byte == 0xFF));
-    assert_eq!(chip.user, [0xFF; 64]);
-    assert_eq!(chip.factory, FACTORY);
-    assert_eq!(chip.buffers, [[0; 264]; 2]);
-    assert_eq!((chip.protection, chip.lockdown), ([0; 16], [0; 16]));
-    assert!(chip.wp_high && chip.operation == Operation::Idle && !chip.compare);
-    assert!(!chip.security_programmed && !chip.protection_enabled && !chip.deep_power_down);
+    for part in Part::ALL {
+        let (chip, array) = fresh(part);
+        assert!(array.iter().all(|&byte| byte == 0xFF));
+        assert_eq!(chip.user, [0xFF; 64]);
+        assert_eq!(chip.factory, FACTORY);
+        assert_eq!(chip.buffers, [[0; 264]; 2]);
+        assert_eq!((chip.protection, chip.lockdown), ([0; 16], [0; 16]));
+        assert!(chip.wp_high && chip.operation == Operation::Idle && !chip.compare);
+        assert!(!chip.security_programmed && !chip.protection_enabled && !chip.deep_power_down);
+    }
 }
 
 #[test]
-fn status_is_a4_a6_24() {
-    let (mut chip, array) = fresh(Part::FULL);
-    assert_eq!(status(&mut chip, &array), 0xA4);
-    send(&mut chip, &array, &[0x3D, 0x2A, 0x7F, 0xA9]);
-    assert_eq!(status(&mut chip, &array), 0xA6);
-    send(&mut chip, &array, &[0x3D, 0x2A, 0x7F, 0x9A]);
-    send(&mut chip, &array, &[0x83, 0x00, 0x0A, 0x00]);
-    assert_eq!(status(&mut chip, &array), 0x24);
-    chip.move_pin(false);
-    assert_eq!(status(&mut chip, &array), 0x26);
-    assert_eq!(send(&mut chip, &array, &[0xD7]), [0xFF]);
+fn status_tells_mark_busy_pin_and_page_size() {
+    for (part, expected) in [
+        (Part::FULL, [0xA4, 0xA6, 0x24, 0x26, 0xE4]),
+        (Part::SHORT, [0xA4, 0xA6, 0x24, 0x26, 0xE4]),
+        (Part::FULL_256, [0xA5, 0xA7, 0x25, 0x27, 0xE5]),
+        (Part::SHORT_256, [0xA5, 0xA7, 0x25, 0x27, 0xE5]),
+    ] {
+        let (mut chip, array) = fresh(part);
+        assert_eq!(status(&mut chip, &array), expected[0]);
+        send(&mut chip, &array, &[0x3D, 0x2A, 0x7F, 0xA9]);
+        assert_eq!(status(&mut chip, &array), expected[1]);
+        send(&mut chip, &array, &[0x3D, 0x2A, 0x7F, 0x9A]);
+        send(&mut chip, &array, &[0x83, 0x00, 0x0A, 0x00]);
+        assert_eq!(status(&mut chip, &array), expected[2]);
+        chip.move_pin(false);
+        assert_eq!(status(&mut chip, &array), expected[3]);
+        assert_eq!(send(&mut chip, &array, &[0xD7]), [0xFF]);
+        chip.move_pin(true);
+        (chip.operation, chip.compare) = (Operation::Idle, true);
+        assert_eq!(status(&mut chip, &array), expected[4]);
+    }
 }
 
 #[test]
@@ -131,21 +163,26 @@ fn frame_88_ands_f0_with_3c_to_30() {
 
 #[test]
 fn reads_wrap_where_listed() {
-    let (mut chip, mut array) = fresh(Part::SHORT);
-    for (i, byte) in array.iter_mut().enumerate() {
-        *byte = (i / 264 + i % 264) as u8;
+    // The last byte of pages 127 and 2: its address, and what it holds.
+    for (part, page, [last, third], [at_last, at_third]) in [
+        (Part::SHORT, 264, [[0xFF, 0x07], [0x05, 0x07]], [134, 9]),
+        (Part::SHORT_256, 256, [[0x7F, 0xFF], [0x02, 0xFF]], [126, 1]),
+    ] {
+        let (mut chip, mut array) = fresh(part);
+        for (i, byte) in array.iter_mut().enumerate() {
+            *byte = (i / page + i % page) as u8;
+        }
+        let mut read = |opcode, [middle, low]: [u8; 2], lead: usize| {
+            let mut frame = vec![0; lead + 2];
+            frame[..4].copy_from_slice(&[opcode, 0, middle, low]);
+            send(&mut chip, &array, &frame)[lead..].to_vec()
+        };
+        // Behind page 127 the page's byte 0 follows, or the array's.
+        assert_eq!(read(0xD2, last, 8), [at_last, 127]);
+        assert_eq!(read(0x03, last, 4), [at_last, 0]);
+        assert_eq!(read(0x0B, last, 5), [at_last, 0]);
+        assert_eq!(read(0x0B, third, 5), [at_third, 3]);
     }
-    // Page 127, byte 263: the page's byte 0 follows, or the array's.
-    let page = send(
-        &mut chip,
-        &array,
-        &[0xD2, 0x00, 0xFF, 0x07, 0, 0, 0, 0, 0, 0],
-    );
-    assert_eq!(page[8..], [134, 127]);
-    let on = send(&mut chip, &array, &[0x03, 0x00, 0xFF, 0x07, 0, 0]);
-    assert_eq!(on[4..], [134, 0]);
-    let on = send(&mut chip, &array, &[0x0B, 0x00, 0xFF, 0x07, 0, 0, 0]);
-    assert_eq!(on[5..], [134, 0]);
 }
 
 #[test]

@@ -1,5 +1,6 @@
 /*
- * Calls every function of slipknoll.h and checks what the header says of it. It
+ * Calls every function of slipknoll.h and checks what the header says of it, on
+ * the short part of 264-byte pages, or with PAGES_256 defined on that of 256. It
  * is C99 and C++ at once. Prints each check that fails, and how many there were.
  */
 #include <stdio.h>
@@ -22,13 +23,22 @@ static void check(int holds, const char *fact, int line)
 
 /* ---- The chip, and a copy of it from before a call. */
 
+/* What the header's table has of the part; and the middle bytes of the addresses
+   of pages 5 and 24. */
+#ifdef PAGES_256
+#define ARRAY SLIPKNOLL_SHORT_ARRAY_256_LEN
+enum { PAGE = 256, SLOT = 2048, MOST = 2045, JUNK = 33280, READY = 0xA5, BUSY = 0x25 };
+enum { PAGE_5 = 0x05, PAGE_24 = 0x18 };
+#else
 #define ARRAY SLIPKNOLL_SHORT_ARRAY_LEN
-#define JUNK SLIPKNOLL_JUNK_LEN(ARRAY)
+enum { PAGE = 264, SLOT = 2112, MOST = 2109, JUNK = 34320, READY = 0xA4, BUSY = 0x24 };
+enum { PAGE_5 = 0x0A, PAGE_24 = 0x30 };
+#endif
 
 static uint8_t record[SLIPKNOLL_RECORD_LEN], record_before[SLIPKNOLL_RECORD_LEN];
 static uint8_t array[ARRAY], array_before[ARRAY];
 static uint8_t factory[SLIPKNOLL_FACTORY_LEN];
-static uint8_t junk[JUNK];
+static uint8_t junk[34320]; /* room for either part's */
 static const uint8_t none[1] = {0};
 
 static void remember(void)
@@ -72,17 +82,20 @@ static uint8_t status(void)
 
 static void check_lengths(void)
 {
-    CHECK(SLIPKNOLL_ARRAY_LEN == 4096 * SLIPKNOLL_PAGE_LEN);
-    CHECK(SLIPKNOLL_SHORT_ARRAY_LEN == 128 * SLIPKNOLL_PAGE_LEN);
-    CHECK(SLIPKNOLL_SLOT_LEN == 8 * SLIPKNOLL_PAGE_LEN);
+    CHECK(SLIPKNOLL_ARRAY_LEN == 4096 * 264 && SLIPKNOLL_SHORT_ARRAY_LEN == 128 * 264);
+    CHECK(SLIPKNOLL_ARRAY_256_LEN == 4096 * 256 && SLIPKNOLL_SHORT_ARRAY_256_LEN == 128 * 256);
+    CHECK(SLIPKNOLL_PAGE_LEN(ARRAY) == PAGE && SLIPKNOLL_SLOT_LEN(ARRAY) == SLOT);
+    CHECK(SLIPKNOLL_RECIPE_MAX(ARRAY) == MOST && SLIPKNOLL_JUNK_LEN(ARRAY) == JUNK);
+    CHECK(SLIPKNOLL_PAGE_LEN(SLIPKNOLL_ARRAY_LEN) == 264);
+    CHECK(SLIPKNOLL_PAGE_LEN(SLIPKNOLL_ARRAY_256_LEN) == 256);
     CHECK(SLIPKNOLL_SLOTS(SLIPKNOLL_ARRAY_LEN) == 512 && SLIPKNOLL_SLOTS(ARRAY) == 16);
-    CHECK(SLIPKNOLL_RECIPE_MAX == SLIPKNOLL_SLOT_LEN - 3);
-    CHECK(JUNK == 264 + 264 + 33792);
+    CHECK(SLIPKNOLL_SLOTS(SLIPKNOLL_ARRAY_256_LEN) == 512);
+    CHECK(SLIPKNOLL_SLOT_ROOM == 2112 && SLIPKNOLL_SLOT_ROOM >= SLOT);
     /* Frames of an undisturbed call, one poll a wait: 27, 35, 9 and 5. */
     CHECK(SLIPKNOLL_PUT_LOG_LEN(1) == 6 * 27 && SLIPKNOLL_PATCH_LOG_LEN(1) == 6 * 35);
     CHECK(SLIPKNOLL_GET_LOG_LEN(1) == 6 * 9 && SLIPKNOLL_WIPE_LOG_LEN(1) == 6 * 5);
     CHECK(SLIPKNOLL_AT_COMPARE + 1 == SLIPKNOLL_RECORD_LEN);
-    CHECK(SLIPKNOLL_DRIVER_FRAME_LEN == 8 + SLIPKNOLL_PAGE_LEN);
+    CHECK(SLIPKNOLL_DRIVER_FRAME_LEN == 8 + 264);
 }
 
 /* ---- The chip. */
@@ -108,7 +121,7 @@ static void check_fresh(void)
 static void program_page_5(void)
 {
     const uint8_t load[6] = {0x84, 0, 0, 0, 'h', 'i'};
-    const uint8_t program[4] = {0x83, 0x00, 0x0A, 0x00};
+    const uint8_t program[4] = {0x83, 0x00, PAGE_5, 0x00};
     uint8_t reply[6];
     CHECK(slipknoll_send(record, array, sizeof array, load, 6, reply, 6) == SLIPKNOLL_ACCEPTED);
     CHECK(all(reply, 6, 0xFF));
@@ -122,7 +135,7 @@ static void check_send(void)
 {
     static uint8_t frame[SLIPKNOLL_FRAME_MAX + 1], reply[SLIPKNOLL_FRAME_MAX + 1];
     fresh();
-    CHECK(status() == 0xA4);
+    CHECK(status() == READY);
     remember();
     memset(reply, 0x33, sizeof reply);
     CHECK(slipknoll_send(record, array, sizeof array - 1, frame, 2, reply, 2) == SLIPKNOLL_PART);
@@ -143,15 +156,15 @@ static void check_end_busy(void)
     remember();
     CHECK(slipknoll_end_busy(record, array, sizeof array) == SLIPKNOLL_ACCEPTED && kept());
     program_page_5();
-    CHECK(status() == 0x24);
+    CHECK(status() == BUSY);
     CHECK(all(array, sizeof array, 0xFF));
     remember();
     CHECK(slipknoll_end_busy(record, array, 0) == SLIPKNOLL_PART && kept());
     CHECK(slipknoll_end_busy(record, array, sizeof array) == SLIPKNOLL_ACCEPTED);
-    CHECK(array[5 * 264] == 'h' && array[5 * 264 + 1] == 'i');
-    CHECK(all(array + 5 * 264 + 2, 262, 0));
-    CHECK(all(array, 5 * 264, 0xFF) && all(array + 6 * 264, sizeof array - 6 * 264, 0xFF));
-    CHECK(status() == 0xA4 && record[SLIPKNOLL_AT_TAG] == SLIPKNOLL_TAG_IDLE);
+    CHECK(array[5 * PAGE] == 'h' && array[5 * PAGE + 1] == 'i');
+    CHECK(all(array + 5 * PAGE + 2, PAGE - 2, 0));
+    CHECK(all(array, 5 * PAGE, 0xFF) && all(array + 6 * PAGE, sizeof array - 6 * PAGE, 0xFF));
+    CHECK(status() == READY && record[SLIPKNOLL_AT_TAG] == SLIPKNOLL_TAG_IDLE);
 }
 
 static void check_move_pin(void)
@@ -171,23 +184,30 @@ static void check_cut(void)
     fresh();
     program_page_5();
     slipknoll_move_pin(record, false);
+    /* Behind the page's bytes; with 264-byte pages there are none. */
+    memset(record + SLIPKNOLL_AT_BUFFER_1 + PAGE, 0x66, 264 - PAGE);
+    memset(record + SLIPKNOLL_AT_BUFFER_2 + PAGE, 0x66, 264 - PAGE);
     remember();
     CHECK(slipknoll_cut(record, array, 7, junk, JUNK) == SLIPKNOLL_PART);
     CHECK(slipknoll_cut(record, array, sizeof array, junk, JUNK - 1) == SLIPKNOLL_SCRIPT);
+    CHECK(slipknoll_cut(record, array, sizeof array, junk, sizeof junk + 33280 - JUNK)
+          == SLIPKNOLL_SCRIPT);
     CHECK(kept());
     CHECK(slipknoll_cut(record, array, sizeof array, junk, JUNK) == SLIPKNOLL_ACCEPTED);
-    CHECK(memcmp(record + SLIPKNOLL_AT_BUFFER_1, junk, 264) == 0);
-    CHECK(memcmp(record + SLIPKNOLL_AT_BUFFER_2, junk + 264, 264) == 0);
+    CHECK(memcmp(record + SLIPKNOLL_AT_BUFFER_1, junk, PAGE) == 0);
+    CHECK(memcmp(record + SLIPKNOLL_AT_BUFFER_2, junk + PAGE, PAGE) == 0);
+    CHECK(all(record + SLIPKNOLL_AT_BUFFER_1 + PAGE, 264 - PAGE, 0x66));
+    CHECK(all(record + SLIPKNOLL_AT_BUFFER_2 + PAGE, 264 - PAGE, 0x66));
     CHECK(record[SLIPKNOLL_AT_TAG] == SLIPKNOLL_TAG_IDLE && record[SLIPKNOLL_AT_WP] == 0);
-    CHECK(memcmp(array + 5 * 264, junk + 528 + 5 * 264, 264) == 0);
-    CHECK(all(array, 5 * 264, 0xFF) && all(array + 6 * 264, sizeof array - 6 * 264, 0xFF));
+    CHECK(memcmp(array + 5 * PAGE, junk + 2 * PAGE + 5 * PAGE, PAGE) == 0);
+    CHECK(all(array, 5 * PAGE, 0xFF) && all(array + 6 * PAGE, sizeof array - 6 * PAGE, 0xFF));
 }
 
 /* ---- The slot calls, with poll limit 1. */
 
 static uint8_t lines[SLIPKNOLL_PATCH_LOG_LEN(1)];
 static uint64_t counts[3];
-static uint8_t buffer[SLIPKNOLL_RECIPE_MAX];
+static uint8_t buffer[MOST];
 
 static int counted(uint64_t frames, uint64_t polls, uint64_t n)
 {
@@ -236,8 +256,8 @@ static void check_put(void)
 {
     const uint8_t poll[6] = {0, 2, 0xD7, 0, 0xFF, 0xFF};
     const uint8_t seal[6] = {0, 20, 0x32, 0, 0, 0};
-    const uint8_t load[6] = {1, 12, 0x84, 0, 0, 0};
-    const uint8_t program[6] = {0, 4, 0x83, 0, 0x30, 0}; /* page 24: 512 * 24 is 3000h */
+    const uint8_t load[6] = {1, PAGE + 4 - 256, 0x84, 0, 0, 0};
+    const uint8_t program[6] = {0, 4, 0x83, 0, PAGE_24, 0};
     const uint8_t head[5] = {1, 0, 2, 'A', 'B'};
     fresh();
     memset(lines, 0x99, sizeof lines);
@@ -245,15 +265,15 @@ static void check_put(void)
     CHECK(memcmp(lines, poll, 6) == 0 && memcmp(lines + 6, seal, 6) == 0);
     CHECK(memcmp(lines + 18, load, 6) == 0 && memcmp(lines + 24, program, 6) == 0);
     CHECK(memcmp(lines + 6 * 26, poll, 6) == 0 && lines[6 * 27] == 0x99);
-    CHECK(memcmp(array + 3 * SLIPKNOLL_SLOT_LEN, head, 5) == 0);
-    CHECK(all(array + 3 * SLIPKNOLL_SLOT_LEN + 5, SLIPKNOLL_SLOT_LEN - 5, 0));
-    CHECK(all(array, 3 * SLIPKNOLL_SLOT_LEN, 0xFF) && array[4 * SLIPKNOLL_SLOT_LEN] == 0xFF);
+    CHECK(memcmp(array + 3 * SLOT, head, 5) == 0);
+    CHECK(all(array + 3 * SLOT + 5, SLOT - 5, 0));
+    CHECK(all(array, 3 * SLOT, 0xFF) && array[4 * SLOT] == 0xFF);
 }
 
 static void check_put_refused(void)
 {
     const uint8_t three[1] = {3}, cut[2] = {0, 2};
-    static uint8_t recipe[SLIPKNOLL_RECIPE_MAX + 1];
+    static uint8_t recipe[MOST + 1];
     fresh();
     remember();
     memset(lines, 0x99, sizeof lines);
@@ -269,7 +289,8 @@ static void check_put_refused(void)
     CHECK(kept() && all(lines, sizeof lines, 0x99));
     /* The supply goes after the second frame; the buffers become junk. */
     CHECK(put(0, "AB", cut, 2) == SLIPKNOLL_CUT && counted(2, 1, 0));
-    CHECK(memcmp(record + SLIPKNOLL_AT_BUFFER_1, junk, 528) == 0);
+    CHECK(memcmp(record + SLIPKNOLL_AT_BUFFER_1, junk, PAGE) == 0);
+    CHECK(memcmp(record + SLIPKNOLL_AT_BUFFER_2, junk + PAGE, PAGE) == 0);
     CHECK(memcmp(array, array_before, sizeof array) == 0);
 }
 
@@ -280,7 +301,7 @@ static void check_get(void)
     put(3, "AB", none, 0);
     CHECK(get(3) == SLIPKNOLL_ACCEPTED && counted(9, 1, 2));
     CHECK(buffer[0] == 'A' && buffer[1] == 'B' && all(buffer + 2, sizeof buffer - 2, 0x55));
-    CHECK(slipknoll_get(record, array, sizeof array, 3, 1, buffer, SLIPKNOLL_RECIPE_MAX - 1, none, 0,
+    CHECK(slipknoll_get(record, array, sizeof array, 3, 1, buffer, MOST - 1, none, 0,
                         none, 0, lines, sizeof lines, counts) == SLIPKNOLL_SIZE);
     CHECK(get(16) == SLIPKNOLL_SLOT && counted(0, 0, 0));
 }
@@ -296,7 +317,7 @@ static void check_patch(void)
     remember();
     CHECK(patch(3, 3, "ol") == SLIPKNOLL_END && counted(35, 9, 0));
     CHECK(memcmp(array, array_before, sizeof array) == 0);
-    CHECK(patch(3, 2108, "ol") == SLIPKNOLL_SIZE && counted(0, 0, 0));
+    CHECK(patch(3, MOST - 1, "ol") == SLIPKNOLL_SIZE && counted(0, 0, 0));
 }
 
 static void check_wipe(void)
@@ -305,7 +326,7 @@ static void check_wipe(void)
     put(3, "AB", none, 0);
     put(4, "CD", none, 0);
     CHECK(wipe(3, 1, SLIPKNOLL_WIPE_LOG_LEN(1)) == SLIPKNOLL_ACCEPTED && counted(5, 2, 0));
-    CHECK(all(array + 3 * SLIPKNOLL_SLOT_LEN, SLIPKNOLL_SLOT_LEN, 0xFF));
+    CHECK(all(array + 3 * SLOT, SLOT, 0xFF));
     CHECK(get(4) == SLIPKNOLL_ACCEPTED && counted(9, 1, 2));
     CHECK(wipe(3, 1, SLIPKNOLL_WIPE_LOG_LEN(1) - 1) == SLIPKNOLL_LOG);
     CHECK(wipe(3, 0, sizeof lines) == SLIPKNOLL_LIMIT);
@@ -318,7 +339,7 @@ static void check_raw(void)
     uint8_t reply[4];
     fresh();
     CHECK(raw(0xD7, 0, 0, 0, 2, reply) == SLIPKNOLL_ACCEPTED && counted(1, 0, 0));
-    CHECK(reply[1] == 0xA4 && memcmp(lines, poll, 6) == 0);
+    CHECK(reply[1] == READY && memcmp(lines, poll, 6) == 0);
     CHECK(raw(0, 0, 0, 0, 0, reply) == SLIPKNOLL_FRAME && counted(0, 0, 0));
     CHECK(slipknoll_raw(record, array, sizeof array, poll + 2, 2, reply, 2, none, 0, none, 0, lines,
                         SLIPKNOLL_RAW_LOG_LEN - 1, counts) == SLIPKNOLL_LOG);
@@ -343,7 +364,7 @@ static void check_busy(void)
 
 /* ---- The driver alone, in front of the same chip. */
 
-static uint8_t state[SLIPKNOLL_DRIVER_LEN], staged[SLIPKNOLL_SLOT_LEN];
+static uint8_t state[SLIPKNOLL_DRIVER_LEN], staged[SLIPKNOLL_SLOT_ROOM];
 static uint8_t frame[SLIPKNOLL_DRIVER_FRAME_LEN], reply[SLIPKNOLL_DRIVER_FRAME_LEN];
 
 /* Carries a call's frames to the chip; how many there were, and their bytes. */
@@ -371,14 +392,14 @@ static void check_driver(void)
     size_t bytes;
     fresh();
     slipknoll_driver_start_put(state, sizeof array, 3, 1, (const uint8_t *)"salt", 4);
-    CHECK(carry("salt", &bytes) == 27 && bytes == 2 + 20 + 20 + 8 * (268 + 4 + 2));
+    CHECK(carry("salt", &bytes) == 27 && bytes == 2 + 20 + 20 + 8 * (4 + PAGE + 4 + 2));
     CHECK(slipknoll_driver_answer(state) == SLIPKNOLL_ACCEPTED);
     CHECK(slipknoll_driver_count(state, staged) == 0);
     slipknoll_driver_start_patch(state, sizeof array, 3, 1, 1, (const uint8_t *)"ol", 2);
-    CHECK(carry("ol", &bytes) == 35 && bytes == 2 + 20 + 20 + 8 * (272 + 268 + 4 + 2));
+    CHECK(carry("ol", &bytes) == 35 && bytes == 2 + 20 + 20 + 8 * (8 + PAGE + 4 + PAGE + 4 + 2));
     CHECK(slipknoll_driver_answer(state) == SLIPKNOLL_ACCEPTED);
-    slipknoll_driver_start_get(state, sizeof array, 3, 1, SLIPKNOLL_RECIPE_MAX);
-    CHECK(carry("", &bytes) == 9 && bytes == 2 + 8 * 272);
+    slipknoll_driver_start_get(state, sizeof array, 3, 1, MOST);
+    CHECK(carry("", &bytes) == 9 && bytes == 2 + 8 * (8 + PAGE));
     CHECK(slipknoll_driver_answer(state) == SLIPKNOLL_ACCEPTED);
     CHECK(slipknoll_driver_count(state, staged) == 4 && memcmp(staged + 3, "solt", 4) == 0);
     slipknoll_driver_start_wipe(state, sizeof array, 3, 1);
@@ -397,15 +418,15 @@ static int refused(uint8_t answer)
 
 static void check_driver_refused(void)
 {
-    slipknoll_driver_start_put(state, 33793, 3, 1, none, 0);
+    slipknoll_driver_start_put(state, sizeof array + 1, 3, 1, none, 0);
     CHECK(refused(SLIPKNOLL_PART));
-    slipknoll_driver_start_put(state, SLIPKNOLL_ARRAY_LEN, 512, 1, none, 0);
+    slipknoll_driver_start_put(state, 32 * sizeof array, 512, 1, none, 0);
     CHECK(refused(SLIPKNOLL_SLOT));
-    slipknoll_driver_start_wipe(state, SLIPKNOLL_ARRAY_LEN, 511, 1001);
+    slipknoll_driver_start_wipe(state, 32 * sizeof array, 511, 1001);
     CHECK(refused(SLIPKNOLL_LIMIT));
-    slipknoll_driver_start_patch(state, sizeof array, 3, 1, 2109, none, 1);
+    slipknoll_driver_start_patch(state, sizeof array, 3, 1, MOST, none, 1);
     CHECK(refused(SLIPKNOLL_SIZE));
-    slipknoll_driver_start_get(state, sizeof array, 3, 1, 2108);
+    slipknoll_driver_start_get(state, sizeof array, 3, 1, MOST - 1);
     CHECK(refused(SLIPKNOLL_SIZE));
 }
 

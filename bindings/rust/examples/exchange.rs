@@ -6,9 +6,8 @@
 //! cargo run --example exchange
 //! ```
 
-use slipknoll::{Chip, Driver, Error, Part, FACTORY_LEN, RECIPE_MAX};
+use slipknoll::{Chip, Driver, Error, Part, FACTORY_LEN};
 
-const PART: Part = Part::Full;
 const SLOT: usize = 7;
 const POLL_LIMIT: usize = 10;
 
@@ -25,8 +24,8 @@ struct Bench {
 }
 
 impl Bench {
-    fn new() -> Result<Bench, Error> {
-        let mut array = vec![0; PART.array_len()];
+    fn new(part: Part) -> Result<Bench, Error> {
+        let mut array = vec![0; part.array_len()];
         Ok(Bench {
             chip: Chip::fresh(&[0; FACTORY_LEN], &mut array)?,
             array,
@@ -51,15 +50,28 @@ impl Bench {
     }
 }
 
-fn main() -> Result<(), Box<dyn std::error::Error>> {
-    let mut bench = Bench::new()?;
+/// Which part a chip is, by bit 0 of its status.
+fn part_of(status: u8) -> Part {
+    match status & 1 {
+        0 => Part::Full,
+        _ => Part::Full256,
+    }
+}
+
+fn keep_recipes(mut bench: Bench) -> Result<(), Box<dyn std::error::Error>> {
+    let mut status = [0; 2];
+    bench.exchange(&[0xD7, 0x00], &mut status)?;
+    let part = part_of(status[1]);
+    println!("pages of {} bytes", part.page_len());
+    bench.seen.clear();
+
     let mut seen = Vec::new();
-    for recipe in [&b"salt"[..], &[0x5A; RECIPE_MAX]] {
-        let mut put = Driver::put(PART, SLOT, POLL_LIMIT, recipe)?;
+    for recipe in [&b"salt"[..], &vec![0x5A; part.recipe_max()]] {
+        let mut put = Driver::put(part, SLOT, POLL_LIMIT, recipe)?;
         put.run(|frame, reply| bench.exchange(frame, reply))?;
         seen.push(std::mem::take(&mut bench.seen));
 
-        let mut get = Driver::get(PART, SLOT, POLL_LIMIT)?;
+        let mut get = Driver::get(part, SLOT, POLL_LIMIT)?;
         get.run(|frame, reply| bench.exchange(frame, reply))?;
         assert_eq!(get.recipe(), Some(recipe));
         seen.push(std::mem::take(&mut bench.seen));
@@ -69,6 +81,13 @@ fn main() -> Result<(), Box<dyn std::error::Error>> {
     assert_eq!(seen[1], seen[3]);
     println!("frames of each put: {:?}", seen[0]);
     println!("frames of each get: {:?}", seen[1]);
+    Ok(())
+}
+
+fn main() -> Result<(), Box<dyn std::error::Error>> {
+    for part in [Part::Full, Part::Full256] {
+        keep_recipes(Bench::new(part)?)?;
+    }
     Ok(())
 }
 

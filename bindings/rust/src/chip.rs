@@ -3,8 +3,8 @@ use crate::{ffi, Error, Level, Record, Run, FACTORY_LEN};
 
 /// A chip: registers, operation under way, buffers and compare bit.
 ///
-/// Its array is the caller's, and every call must be lent the same one. A copy
-/// of both is a copy of the chip.
+/// Its array is the caller's, and every call must be lent the same one, whose
+/// length tells the [`Part`](crate::Part). A copy of both is a copy of the chip.
 ///
 /// ```
 /// use slipknoll::{Chip, Part, FACTORY_LEN};
@@ -20,6 +20,24 @@ use crate::{ffi, Error, Level, Record, Run, FACTORY_LEN};
 ///
 /// chip.end_busy(&mut array)?;
 /// assert_eq!(array[5 * 264..][..2], *b"hi");
+/// # Ok::<(), slipknoll::Error>(())
+/// ```
+///
+/// With pages of 256 bytes an address has the page above eight bits, and the
+/// status a 1 in bit 0:
+///
+/// ```
+/// # use slipknoll::{Chip, Part, FACTORY_LEN};
+/// let mut array = vec![0; Part::Full256.array_len()];
+/// let mut chip = Chip::fresh(&[0; FACTORY_LEN], &mut array)?;
+///
+/// let mut reply = [0; 5];
+/// chip.send(&array, &[0x82, 0x00, 0x05, 0xFF, b'!'], &mut reply)?; // page 5, byte 255
+/// chip.send(&array, &[0xD7, 0x00], &mut reply[..2])?;
+/// assert_eq!(reply[1], 0x25);
+///
+/// chip.end_busy(&mut array)?;
+/// assert_eq!(array[5 * 256 + 255], b'!');
 /// # Ok::<(), slipknoll::Error>(())
 /// ```
 #[derive(Clone, Debug, PartialEq, Eq)]
@@ -118,7 +136,7 @@ impl Chip {
     /// and the slot keeps its bytes.
     ///
     /// ```
-    /// # use slipknoll::{log_len, Chip, Error, Part, Run, FACTORY_LEN, RECIPE_MAX};
+    /// # use slipknoll::{log_len, Chip, Error, Part, Run, FACTORY_LEN};
     /// # let mut array = vec![0; Part::Short.array_len()];
     /// # let mut chip = Chip::fresh(&[0; FACTORY_LEN], &mut array)?;
     /// let mut log = [0; log_len::patch(1)];
@@ -128,7 +146,7 @@ impl Chip {
     /// let beyond = chip.patch(&mut array, 3, 1, 3, b"ed", &mut run);
     /// assert_eq!((beyond, run.frames()), (Err(Error::End), 35));
     ///
-    /// let mut buffer = [0; RECIPE_MAX];
+    /// let mut buffer = [0; Part::Short.recipe_max()];
     /// assert_eq!(chip.get(&mut array, 3, 1, &mut buffer, &mut run)?, b"malt");
     /// # Ok::<(), slipknoll::Error>(())
     /// ```
@@ -153,7 +171,7 @@ impl Chip {
     }
 
     /// Reads a slot's recipe into the beginning of `buffer`, which has room for
-    /// [`RECIPE_MAX`](crate::RECIPE_MAX) bytes; the rest of it keeps.
+    /// [`recipe_max`](crate::Part::recipe_max) bytes; the rest of it keeps.
     ///
     /// Errors: all but `Frame`, `Sealed` and `End`; the buffer keeps whole.
     pub fn get<'b>(

@@ -2,7 +2,7 @@ use std::fmt;
 
 use crate::error::accepted;
 use crate::ffi::driver;
-use crate::{Error, Part, DRIVER_FRAME_LEN, RECIPE_MAX, SLOT_LEN};
+use crate::{Error, Part, DRIVER_FRAME_LEN, SLOT_ROOM};
 
 /// A slot call on a chip elsewhere: it yields frames, is given the replies and
 /// comes to an end.
@@ -46,14 +46,15 @@ use crate::{Error, Part, DRIVER_FRAME_LEN, RECIPE_MAX, SLOT_LEN};
 /// A busy chip is asked again at once, as often as the poll limit allows: let
 /// the exchange pause before a frame that begins with D7, or choose a limit
 /// that outlasts 35 ms (put and patch) or 75 ms (wipe). Wake the chip with AB
-/// if it may be in deep power-down.
+/// if it may be in deep power-down. Bit 0 of its status tells the part: 0 for
+/// [`Part::Full`], 1 for [`Part::Full256`].
 #[derive(Clone)]
 pub struct Driver<'a> {
     state: driver::State,
     /// The recipe of a put or the bytes of a patch; else nothing.
     payload: &'a [u8],
     /// What has been read of the slot.
-    staged: [u8; SLOT_LEN],
+    staged: [u8; SLOT_ROOM],
     frame: [u8; DRIVER_FRAME_LEN],
     /// The length of the frame to send; 0 at the end.
     frame_len: usize,
@@ -91,7 +92,7 @@ impl<'a> Driver<'a> {
     /// Starts to read a slot's recipe.
     pub fn get(part: Part, slot: usize, poll_limit: usize) -> Result<Driver<'static>, Error> {
         Driver::start(&[], true, |state| {
-            driver::start_get(state, part.array_len(), slot, poll_limit, RECIPE_MAX)
+            driver::start_get(state, part.array_len(), slot, poll_limit, part.recipe_max())
         })
     }
 
@@ -110,7 +111,7 @@ impl<'a> Driver<'a> {
         let mut it = Driver {
             state: [0; driver::STATE_LEN],
             payload,
-            staged: [0; SLOT_LEN],
+            staged: [0; SLOT_ROOM],
             frame: [0; DRIVER_FRAME_LEN],
             frame_len: 0,
             is_get,

@@ -28,8 +28,8 @@ pub enum Error {
     Slot = 3,
     /// The poll limit is 0, or over 1,000.
     Limit = 4,
-    /// A recipe of more than 2,109 bytes, a patch that ends behind 2,109, or a
-    /// get buffer of less than 2,109 bytes.
+    /// A recipe of more than the part's longest, 2,109 or 2,045 bytes, a patch
+    /// that ends behind it, or a get buffer that is too short for it.
     Size = 5,
     /// Log shorter than the call's frames may need; see [`crate::log_len`].
     Log = 6,
@@ -45,7 +45,7 @@ pub enum Error {
     /// The script cut the supply.
     Cut = 11,
     /// The slot holds no record: its first byte is not 1, or the length behind
-    /// it is over 2,109.
+    /// it is over the part's longest recipe.
     Blank = 12,
     /// The patch would end behind the recipe that is there.
     End = 13,

@@ -11,9 +11,10 @@
 //! Every input is answered: the answers 1 to 13 are an [`Error`].
 //!
 //! ```
-//! use slipknoll::{log_len, Chip, Part, Run, FACTORY_LEN, RECIPE_MAX};
+//! use slipknoll::{log_len, Chip, Part, Run, FACTORY_LEN};
 //!
-//! let mut array = vec![0; Part::Short.array_len()];
+//! let part = Part::Short256; // 128 pages of 256 bytes
+//! let mut array = vec![0; part.array_len()];
 //! let mut chip = Chip::fresh(&[0; FACTORY_LEN], &mut array)?;
 //!
 //! let mut log = [0; log_len::put(1)];
@@ -21,7 +22,7 @@
 //! chip.put(&mut array, 3, 1, b"AB", &mut run)?;
 //! assert_eq!((run.frames(), run.polls()), (27, 9));
 //!
-//! let mut buffer = [0; RECIPE_MAX];
+//! let mut buffer = vec![0; part.recipe_max()];
 //! assert_eq!(chip.get(&mut array, 3, 1, &mut buffer, &mut run)?, b"AB");
 //! # Ok::<(), slipknoll::Error>(())
 //! ```
@@ -49,19 +50,13 @@ pub const RECORD_LEN: usize = 765;
 /// Length of the factory bytes.
 pub const FACTORY_LEN: usize = 64;
 
-/// Length of a page.
-pub const PAGE_LEN: usize = 264;
-
-/// Length of a slot: eight pages.
-pub const SLOT_LEN: usize = 8 * PAGE_LEN;
-
-/// The longest recipe.
-pub const RECIPE_MAX: usize = 2109;
+/// Room for a slot of any part; [`Part::slot_len`] is a part's own.
+pub const SLOT_ROOM: usize = Part::Full.slot_len();
 
 /// The longest frame that a chip takes.
 pub const FRAME_MAX: usize = 1100;
 
-/// The longest frame of the driver.
+/// Room for the driver's longest frame, on any part.
 pub const DRIVER_FRAME_LEN: usize = 272;
 
 /// The highest poll limit; the lowest is 1.

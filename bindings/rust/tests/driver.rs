@@ -1,8 +1,6 @@
 //! The driver over an exchange function does what the calls on the chip do.
 
-use slipknoll::{
-    log_len, Chip, DriveError, Driver, Error, Level, Line, Part, Run, FACTORY_LEN, RECIPE_MAX,
-};
+use slipknoll::{log_len, Chip, DriveError, Driver, Error, Level, Line, Part, Run, FACTORY_LEN};
 
 const SLOT: usize = 15;
 const POLL_LIMIT: usize = 3;
@@ -66,7 +64,7 @@ impl Bench {
 fn compare(bench: &Bench, recipe: &[u8], place: usize, bytes: &[u8]) {
     let part = Part::from_array_len(bench.array.len()).expect("a part");
     let (mut driven, mut called) = (bench.clone(), bench.clone());
-    let mut buffer = [0; RECIPE_MAX];
+    let mut buffer = vec![0; part.recipe_max()];
 
     let put = driven.drive(Driver::put(part, SLOT, POLL_LIMIT, recipe).expect("a put"));
     let expected = called.call(|chip, array, run| {
@@ -104,11 +102,12 @@ fn compare(bench: &Bench, recipe: &[u8], place: usize, bytes: &[u8]) {
 
 #[test]
 fn driven_as_called() {
-    for part in [Part::Short, Part::Full] {
+    for part in Part::ALL {
         let bench = Bench::new(part);
+        let most = part.recipe_max();
         compare(&bench, b"salt", 0, b"m");
         compare(&bench, b"", 0, b"");
-        compare(&bench, &[0x5A; RECIPE_MAX], 2000, &[0xA5; 109]);
+        compare(&bench, &vec![0x5A; most], most - 109, &[0xA5; 109]);
         // A patch beyond the end.
         compare(&bench, b"salt", 3, b"ed");
     }
@@ -117,32 +116,38 @@ fn driven_as_called() {
 /// What stands against a call is met alike: a sealed sector, a deep chip.
 #[test]
 fn errors_as_called() {
-    let mut sealed = Bench::new(Part::Short);
+    for part in [Part::Short, Part::Short256] {
+        errors_on(part);
+    }
+}
+
+fn errors_on(part: Part) {
+    let mut sealed = Bench::new(part);
     let mut reply = [0; 4];
     for frame in [[0x3D, 0x2A, 0x7F, 0xCF], [0x3D, 0x2A, 0x7F, 0xA9]] {
         sealed.exchange(&frame, &mut reply).expect("a frame");
     }
     compare(&sealed, b"salt", 0, b"m");
-    let put = Driver::put(Part::Short, SLOT, POLL_LIMIT, b"salt").expect("a put");
+    let put = Driver::put(part, SLOT, POLL_LIMIT, b"salt").expect("a put");
     assert_eq!(sealed.drive(put).0, Err(Error::Sealed));
     assert_eq!(sealed.outline.len(), 3);
 
     // The mark off, the pin low: sealed as before.
     let unmark = [0x3D, 0x2A, 0x7F, 0x9A];
     sealed.exchange(&unmark, &mut reply).expect("a frame");
-    let wipe = Driver::wipe(Part::Short, SLOT, POLL_LIMIT).expect("a wipe");
+    let wipe = Driver::wipe(part, SLOT, POLL_LIMIT).expect("a wipe");
     assert_eq!(sealed.drive(wipe.clone()).0, Ok(()));
     sealed.chip.move_pin(Level::Low);
     assert_eq!(sealed.drive(wipe).0, Err(Error::Sealed));
 
-    let mut deep = Bench::new(Part::Short);
+    let mut deep = Bench::new(part);
     deep.exchange(&[0xB9], &mut [0]).expect("a frame");
     compare(&deep, b"salt", 0, b"m");
-    let get = Driver::get(Part::Short, SLOT, POLL_LIMIT).expect("a get");
+    let get = Driver::get(part, SLOT, POLL_LIMIT).expect("a get");
     assert_eq!(deep.drive(get).0, Err(Error::Chip));
 
-    let mut fresh = Bench::new(Part::Short);
-    let get = Driver::get(Part::Short, SLOT, POLL_LIMIT).expect("a get");
+    let mut fresh = Bench::new(part);
+    let get = Driver::get(part, SLOT, POLL_LIMIT).expect("a get");
     assert_eq!(fresh.drive(get), (Err(Error::Blank), Vec::new()));
 }
 
@@ -175,14 +180,17 @@ fn lost_link() {
 
 #[test]
 fn refused_starts() {
-    let part = Part::Short;
     let error = |driver: Result<Driver, Error>| driver.err();
-    assert_eq!(error(Driver::wipe(part, 16, 1)), Some(Error::Slot));
-    assert_eq!(error(Driver::get(part, 0, 0)), Some(Error::Limit));
-    assert_eq!(error(Driver::get(part, 0, 1001)), Some(Error::Limit));
-    let long = [0; RECIPE_MAX + 1];
-    assert_eq!(error(Driver::put(part, 0, 1, &long)), Some(Error::Size));
-    let patch = Driver::patch(part, 0, 1, usize::MAX, &[1]);
-    assert_eq!(error(patch), Some(Error::Size));
-    assert_eq!(error(Driver::put(part, 0, 1, &long[1..])), None);
+    for (part, slots, most) in [(Part::Short, 16, 2109), (Part::Full256, 512, 2045)] {
+        assert_eq!(error(Driver::wipe(part, slots, 1)), Some(Error::Slot));
+        assert_eq!(error(Driver::get(part, 0, 0)), Some(Error::Limit));
+        assert_eq!(error(Driver::get(part, 0, 1001)), Some(Error::Limit));
+        let long = vec![0; most + 1];
+        assert_eq!(error(Driver::put(part, 0, 1, &long)), Some(Error::Size));
+        let patch = Driver::patch(part, 0, 1, usize::MAX, &[1]);
+        assert_eq!(error(patch), Some(Error::Size));
+        let patch = Driver::patch(part, 0, 1, most, &[1]);
+        assert_eq!(error(patch), Some(Error::Size));
+        assert_eq!(error(Driver::put(part, 0, 1, &long[1..])), None);
+    }
 }

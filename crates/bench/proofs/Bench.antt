@@ -3,7 +3,7 @@
 use mathlib.Core.Path.{refl}
 use Rattle.slices.specs.Lists.{tabulate, over, splice, andOver, same, ringRead, ringWrite}
 use Rattle.slices.specs.Words.{wordAt, wordBytes}
-use Rattle.geometry.specs.Parts.{partOf, addressAt, pageAt, byteAt, pageStart, pageOf, inRun}
+use Rattle.geometry.specs.Parts.{parts, partAmong, partOf, addressAt, pageAt, byteAt, pageStart, pageOf, inRun}
 use Rattle.geometry.specs.Sectors.{sectorOf, firstPage, endPage, sectorRun, sectorCount}
 use Rattle.commands.specs.Table.{commands, sequences, rowAt, sequenceAt}
 use Rattle.commands.specs.Decode.{lookupIn, lookupOf, begins, sequenceIn, opened, complete, decodeOf, placeIn, placeOf}
@@ -31,11 +31,11 @@ use Rattle.slots.specs.Driver.{opcodeOf, shapeOf, frameByte, storedBy, loaded, 
 use Rattle.slots.specs.Refusals.{isOver, isShort, hasOverTwo, hasCut, badScript, lateRefusal, earlyRefusal, orElse, callRefusal, rawRefusal}
 use Rattle.slots.specs.Calls.{outline, registersAfter, memoryAfter, stateAfter, openAfter, closedAfter, stepOpen, stepClosed, run, firstCourse, startOpen, startClosed, ran, countBy, countOf, outFrom, answerIn, callOut, callNext, rawSent, rawOut, rawNext}
 use Rattle.slots.specs.Lists.{callBy, rawBy, outOf, calledBy, rawLeft, nextOf, runList, leftBy, boundOf, lentTo, logOf}
-use Rattle.bench.specs.Start.{freshShort, log}
+use Rattle.bench.specs.Start.{freshShort, freshShort256, log}
 use Rattle.bench.specs.Table.{Bench}
 
 pub bench : Bench
-unfolding tabulate over splice andOver same ringRead ringWrite wordAt wordBytes partOf addressAt pageAt byteAt pageStart pageOf inRun sectorOf firstPage endPage sectorRun sectorCount commands sequences rowAt sequenceAt lookupIn lookupOf begins sequenceIn opened complete decodeOf placeIn placeOf room takes padded pack16 bytes16 pack64 bytes64 bitsOf hasBits sealed unsealedFrom unsealedSet maskOf lockedBytes within placedIn placed runOf sectorsOf inSet writes bufferUsed classOf allowed obeyed startedOn programmedThrough protectOff protectionErased protectionData protectionProgrammed sectorLocked securityData securityProgrammed rowDecided decodedControl control completedBy completed reaching lostBy lost Names changed applied programmed programmedOver transferred differing erased junked eachSector inSectors junkBuffer replied numberOf isIdle statusOf dataOf replyOf bufferWritten written acted sentMemory inTarget completedMemory arrayLost lostMemory freshRegisters freshState freshBy freshOutcome framed sentState sentBy sendOutcome endedState endedBy endOutcome pinnedState pinOutcome cutState cutFits cutBy cutOutcome actedOn isAsking pageSteps runBy pages planBy stepAt isEnd isWait framesMost waitsIn stated framesOf pollsOf slotSize limitOf lengthIn isRecord image patched getVerdict patchVerdict opcodeOf shapeOf frameByte storedBy loaded registerIn heard courseBy judged readIn takenBy isEnded verdictAnswer weighed toldBy isOver isShort hasOverTwo hasCut badScript lateRefusal earlyRefusal orElse callRefusal rawRefusal outline registersAfter memoryAfter stateAfter openAfter closedAfter stepOpen stepClosed run firstCourse startOpen startClosed ran countBy countOf outFrom answerIn callOut callNext rawSent rawOut rawNext callBy rawBy outOf calledBy rawLeft nextOf runList leftBy boundOf lentTo logOf freshShort log
+unfolding tabulate over splice andOver same ringRead ringWrite wordAt wordBytes parts partAmong partOf addressAt pageAt byteAt pageStart pageOf inRun sectorOf firstPage endPage sectorRun sectorCount commands sequences rowAt sequenceAt lookupIn lookupOf begins sequenceIn opened complete decodeOf placeIn placeOf room takes padded pack16 bytes16 pack64 bytes64 bitsOf hasBits sealed unsealedFrom unsealedSet maskOf lockedBytes within placedIn placed runOf sectorsOf inSet writes bufferUsed classOf allowed obeyed startedOn programmedThrough protectOff protectionErased protectionData protectionProgrammed sectorLocked securityData securityProgrammed rowDecided decodedControl control completedBy completed reaching lostBy lost Names changed applied programmed programmedOver transferred differing erased junked eachSector inSectors junkBuffer replied numberOf isIdle statusOf dataOf replyOf bufferWritten written acted sentMemory inTarget completedMemory arrayLost lostMemory freshRegisters freshState freshBy freshOutcome framed sentState sentBy sendOutcome endedState endedBy endOutcome pinnedState pinOutcome cutState cutFits cutBy cutOutcome actedOn isAsking pageSteps runBy pages planBy stepAt isEnd isWait framesMost waitsIn stated framesOf pollsOf slotSize limitOf lengthIn isRecord image patched getVerdict patchVerdict opcodeOf shapeOf frameByte storedBy loaded registerIn heard courseBy judged readIn takenBy isEnded verdictAnswer weighed toldBy isOver isShort hasOverTwo hasCut badScript lateRefusal earlyRefusal orElse callRefusal rawRefusal outline registersAfter memoryAfter stateAfter openAfter closedAfter stepOpen stepClosed run firstCourse startOpen startClosed ran countBy countOf outFrom answerIn callOut callNext rawSent rawOut rawNext callBy rawBy outOf calledBy rawLeft nextOf runList leftBy boundOf lentTo logOf freshShort freshShort256 log
 bench =
     record {
       page-5 = refl;
@@ -65,4 +65,26 @@ bench =
       wipe-lines = refl;
       wipe-polls = refl;
       wipe-answer = refl;
+      page-5-of-256 = refl;
+      part-full-256 = refl;
+      page-last-256 = refl;
+      page-high-256 = refl;
+      byte-255 = refl;
+      page-of-255 = refl;
+      page-of-256 = refl;
+      sector-255-of-256 = refl;
+      sector-256-of-256 = refl;
+      status-fresh-256 = refl;
+      status-guarded-256 = refl;
+      status-busy-256 = refl;
+      preset = refl;
+      no-byte-256 = refl;
+      longest-256 = refl;
+      too-long-256 = refl;
+      short-buffer-256 = refl;
+      blank-256 = refl;
+      put-frames-256 = refl;
+      load-256 = refl;
+      read-256 = refl;
+      erase-256 = refl;
     }

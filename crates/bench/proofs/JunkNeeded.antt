@@ -8,7 +8,7 @@ use mathlib.Core.List.{List, [], _∷_}
 use lib.ListN.{replicate}
 use Rattle.slices.specs.Lists.{tabulate, over, splice, andOver, same, ringRead, ringWrite}
 use Rattle.slices.specs.Words.{wordAt, wordBytes}
-use Rattle.geometry.specs.Parts.{partOf, addressAt, pageAt, byteAt, pageStart, pageOf, inRun}
+use Rattle.geometry.specs.Parts.{parts, partAmong, partOf, addressAt, pageAt, byteAt, pageStart, pageOf, inRun}
 use Rattle.geometry.specs.Sectors.{sectorOf, firstPage, endPage, sectorRun, sectorCount}
 use Rattle.commands.specs.Table.{commands, sequences, rowAt, sequenceAt}
 use Rattle.commands.specs.Decode.{lookupIn, lookupOf, begins, sequenceIn, opened, complete, decodeOf, placeIn, placeOf}
@@ -43,5 +43,5 @@ abbrev calls : List ℕ → List Op
 calls junk = raw (0x3D ∷ 0x2A ∷ 0x7F ∷ 0xFC ∷ []) (2 ∷ []) junk log (0 ∷ 0 ∷ 0 ∷ 0 ∷ []) ∷ pin false ∷ put 1 1 [] (65 ∷ []) [] log ∷ []
 
 pub junk-needed : (answers (calls (replicate 34320 255)) freshShort ≡ 11 ∷ 0 ∷ 10 ∷ []) × (answers (calls (replicate 34320 0)) freshShort ≡ 11 ∷ 0 ∷ 0 ∷ [])
-unfolding tabulate over splice andOver same ringRead ringWrite wordAt wordBytes partOf addressAt pageAt byteAt pageStart pageOf inRun sectorOf firstPage endPage sectorRun sectorCount commands sequences rowAt sequenceAt lookupIn lookupOf begins sequenceIn opened complete decodeOf placeIn placeOf room takes padded pack16 bytes16 pack64 bytes64 bitsOf hasBits sealed unsealedFrom unsealedSet maskOf lockedBytes within placedIn placed runOf sectorsOf inSet writes bufferUsed classOf allowed obeyed startedOn programmedThrough protectOff protectionErased protectionData protectionProgrammed sectorLocked securityData securityProgrammed rowDecided decodedControl control completedBy completed reaching lostBy lost Names changed applied programmed programmedOver transferred differing erased junked eachSector inSectors junkBuffer replied numberOf isIdle statusOf dataOf replyOf bufferWritten written acted sentMemory inTarget completedMemory arrayLost lostMemory freshRegisters freshState freshBy freshOutcome framed sentState sentBy sendOutcome endedState endedBy endOutcome pinnedState pinOutcome cutState cutFits cutBy cutOutcome actedOn isAsking pageSteps runBy pages planBy stepAt isEnd isWait framesMost waitsIn stated framesOf pollsOf slotSize limitOf lengthIn isRecord image patched getVerdict patchVerdict opcodeOf shapeOf frameByte storedBy loaded registerIn heard courseBy judged readIn takenBy isEnded verdictAnswer weighed toldBy isOver isShort hasOverTwo hasCut badScript lateRefusal earlyRefusal orElse callRefusal rawRefusal outline registersAfter memoryAfter stateAfter openAfter closedAfter stepOpen stepClosed run firstCourse startOpen startClosed ran countBy countOf outFrom answerIn callOut callNext rawSent rawOut rawNext callBy rawBy outOf calledBy rawLeft nextOf runList leftBy boundOf lentTo logOf freshShort log
+unfolding tabulate over splice andOver same ringRead ringWrite wordAt wordBytes parts partAmong partOf addressAt pageAt byteAt pageStart pageOf inRun sectorOf firstPage endPage sectorRun sectorCount commands sequences rowAt sequenceAt lookupIn lookupOf begins sequenceIn opened complete decodeOf placeIn placeOf room takes padded pack16 bytes16 pack64 bytes64 bitsOf hasBits sealed unsealedFrom unsealedSet maskOf lockedBytes within placedIn placed runOf sectorsOf inSet writes bufferUsed classOf allowed obeyed startedOn programmedThrough protectOff protectionErased protectionData protectionProgrammed sectorLocked securityData securityProgrammed rowDecided decodedControl control completedBy completed reaching lostBy lost Names changed applied programmed programmedOver transferred differing erased junked eachSector inSectors junkBuffer replied numberOf isIdle statusOf dataOf replyOf bufferWritten written acted sentMemory inTarget completedMemory arrayLost lostMemory freshRegisters freshState freshBy freshOutcome framed sentState sentBy sendOutcome endedState endedBy endOutcome pinnedState pinOutcome cutState cutFits cutBy cutOutcome actedOn isAsking pageSteps runBy pages planBy stepAt isEnd isWait framesMost waitsIn stated framesOf pollsOf slotSize limitOf lengthIn isRecord image patched getVerdict patchVerdict opcodeOf shapeOf frameByte storedBy loaded registerIn heard courseBy judged readIn takenBy isEnded verdictAnswer weighed toldBy isOver isShort hasOverTwo hasCut badScript lateRefusal earlyRefusal orElse callRefusal rawRefusal outline registersAfter memoryAfter stateAfter openAfter closedAfter stepOpen stepClosed run firstCourse startOpen startClosed ran countBy countOf outFrom answerIn callOut callNext rawSent rawOut rawNext callBy rawBy outOf calledBy rawLeft nextOf runList leftBy boundOf lentTo logOf freshShort log
 junk-needed = (refl, refl)

@@ -1,18 +1,19 @@
--- The bench table: addresses, sectors, status, pages, records, answers, frames, and the program's example.
+-- The bench table: addresses, sectors, status, pages, records, answers, frames, and the program's example; then the same of pages of 256 bytes.
 -- Assumes nothing.
 use Prim.Native.Nat.{ℕ, _+_}
 use mathlib.Core.Path.{_≡_}
+use mathlib.Core.Bool.{true, false}
 use mathlib.Core.List.{List, [], _∷_, _++_}
-use lib.ListN.{length, take, replicate}
+use lib.ListN.{length, take, drop, replicate}
 use Rattle.geometry.specs.declared.Geometry.{Geometry}
 use Rattle.geometry.specs.declared.Part.the-variants.{Known}
-use Rattle.geometry.specs.Parts.{partOf, addressAt, pageAt, byteAt}
+use Rattle.geometry.specs.Parts.{row, partOf, addressAt, pageAt, byteAt}
 use Rattle.geometry.specs.Sectors.{sectorOf}
 use Rattle.commands.specs.declared.Buffer.the-variants.{One}
-use Rattle.registers.specs.declared.Operation.the-variants.{Program}
+use Rattle.registers.specs.declared.Operation.the-variants.{Idle, Program}
 use Rattle.state.specs.Memory.{State}
 use Rattle.slots.specs.Lists.{Op, put, patch, get, wipe, straight, busyEnd, outOf, nextOf, leftBy}
-use Rattle.bench.specs.Start.{freshShort, log, answers}
+use Rattle.bench.specs.Start.{freshShort, freshShort256, log, answers}
 
 -- the reply to a frame sent straight
 abbrev pub replyTo : List ℕ → State → List ℕ
@@ -29,9 +30,13 @@ status = 0xD7 ∷ 0x00 ∷ []
 abbrev pub putFresh : List ℕ → Op
 putFresh recipe = put 0 1 [] recipe [] log
 
--- the slot's bytes afterwards
+-- the first n bytes of the array afterwards
+abbrev pub storedOn : State → ℕ → List ℕ → List ℕ
+storedOn s n recipe = take n (nextOf (putFresh recipe) s .memory .array)
+
+-- slot 0 of a fresh part with pages of 264 bytes
 abbrev pub stored : List ℕ → List ℕ
-stored recipe = take 2112 (nextOf (putFresh recipe) freshShort .memory .array)
+stored recipe = storedOn freshShort 2112 recipe
 
 abbrev pub lentBuffer : List ℕ
 lentBuffer = replicate 2109 0
@@ -46,9 +51,12 @@ overF0 =
     sending (0x84 ∷ 0x00 ∷ 0x00 ∷ 0x00 ∷ 0xF0 ∷ []) ∷ sending (0x83 ∷ 0x00 ∷ 0x00 ∷ 0x00 ∷ []) ∷ busyEnd
     ∷ sending (0x84 ∷ 0x00 ∷ 0x00 ∷ 0x00 ∷ 0x3C ∷ []) ∷ sending (0x88 ∷ 0x00 ∷ 0x00 ∷ 0x00 ∷ []) ∷ busyEnd ∷ []
 
--- the part of 4,096 pages
+-- the parts of 4,096 pages
 abbrev pub full : Geometry
-full = record { size = 264; pages = 4096; field = 512 }
+full = row 264 4096 512 false
+
+abbrev pub full256 : Geometry
+full256 = row 256 4096 256 true
 
 -- the address behind an opcode
 abbrev pub addressIn : List ℕ → ℕ
@@ -68,10 +76,10 @@ pub record Bench : Type 0 where
   pub byte-263 : byteAt full (addressIn (0x84 ∷ 0x00 ∷ 0x01 ∷ 0x07 ∷ [])) ≡ 263
   pub byte-264 : byteAt full (addressIn (0x84 ∷ 0x00 ∷ 0x01 ∷ 0x08 ∷ [])) ≡ 0
   -- pages 7, 8, 255, 256 lie in 0a, 0b, 0b, 1, which are numbered 0, 1, 1, 2
-  pub sector-7 : sectorOf 7 ≡ 0
-  pub sector-8 : sectorOf 8 ≡ 1
-  pub sector-255 : sectorOf 255 ≡ 1
-  pub sector-256 : sectorOf 256 ≡ 2
+  pub sector-7 : sectorOf full 7 ≡ 0
+  pub sector-8 : sectorOf full 8 ≡ 1
+  pub sector-255 : sectorOf full 255 ≡ 1
+  pub sector-256 : sectorOf full 256 ≡ 2
   -- status: fresh, mark set, busy
   pub status-fresh : replyTo status freshShort ≡ 0xFF ∷ 0xA4 ∷ []
   pub status-guarded : replyTo status (sent (0x3D ∷ 0x2A ∷ 0x7F ∷ 0xA9 ∷ []) freshShort) ≡ 0xFF ∷ 0xA6 ∷ []
@@ -97,3 +105,32 @@ pub record Bench : Type 0 where
       ∷ 0 ∷ 4 ∷ 0x50 ∷ 0x00 ∷ 0x20 ∷ 0x00 ∷ 0 ∷ 2 ∷ 0xD7 ∷ 0x00 ∷ 0xFF ∷ 0xFF ∷ []
   pub wipe-polls : outOf wipeTwo freshShort .polls ≡ 2
   pub wipe-answer : answers (wipeTwo ∷ []) freshShort ≡ 0 ∷ []
+  -- pages of 256 bytes: 83 00 05 00 names page 5; 0F FF 00 and FF FF 00 name 4,095 of 4,096
+  pub page-5-of-256 : sent (0x83 ∷ 0x00 ∷ 0x05 ∷ 0x00 ∷ []) freshShort256 .registers .operation ≡ Program One 5
+  pub part-full-256 : partOf 1048576 ≡ Known full256
+  pub page-last-256 : pageAt full256 (addressIn (0x83 ∷ 0x0F ∷ 0xFF ∷ 0x00 ∷ [])) ≡ 4095
+  pub page-high-256 : pageAt full256 (addressIn (0x83 ∷ 0xFF ∷ 0xFF ∷ 0x00 ∷ [])) ≡ 4095
+  -- byte field 255 is byte 255 of page 0; the next number names page 1
+  pub byte-255 : byteAt full256 (addressIn (0x84 ∷ 0x00 ∷ 0x00 ∷ 0xFF ∷ [])) ≡ 255
+  pub page-of-255 : pageAt full256 (addressIn (0x84 ∷ 0x00 ∷ 0x00 ∷ 0xFF ∷ [])) ≡ 0
+  pub page-of-256 : pageAt full256 (addressIn (0x84 ∷ 0x00 ∷ 0x01 ∷ 0x00 ∷ [])) ≡ 1
+  pub sector-255-of-256 : sectorOf full256 255 ≡ 1
+  pub sector-256-of-256 : sectorOf full256 256 ≡ 2
+  -- status: fresh, mark set, busy
+  pub status-fresh-256 : replyTo status freshShort256 ≡ 0xFF ∷ 0xA5 ∷ []
+  pub status-guarded-256 : replyTo status (sent (0x3D ∷ 0x2A ∷ 0x7F ∷ 0xA9 ∷ []) freshShort256) ≡ 0xFF ∷ 0xA7 ∷ []
+  pub status-busy-256 : replyTo status (sent (0x83 ∷ 0x00 ∷ 0x05 ∷ 0x00 ∷ []) freshShort256) ≡ 0xFF ∷ 0x25 ∷ []
+  -- the command that would set the page size is ignored
+  pub preset : sent (0x3D ∷ 0x2A ∷ 0x80 ∷ 0xA6 ∷ []) freshShort256 .registers .operation ≡ Idle
+  -- records: of none, of the longest; 2,046 bytes meet 5
+  pub no-byte-256 : storedOn freshShort256 2048 [] ≡ 0x01 ∷ 0x00 ∷ 0x00 ∷ replicate 2045 0
+  pub longest-256 : storedOn freshShort256 3 (replicate 2045 7) ≡ 0x01 ∷ 0x07 ∷ 0xFD ∷ []
+  pub too-long-256 : answers (putFresh (replicate 2046 7) ∷ []) freshShort256 ≡ 5 ∷ []
+  -- a get buffer of 2,044 bytes meets 5; one of 2,045 does not, and the fresh slot meets 12
+  pub short-buffer-256 : answers (get 0 1 [] [] log (replicate 2044 0) ∷ []) freshShort256 ≡ 5 ∷ []
+  pub blank-256 : answers (get 0 1 [] [] log (replicate 2045 0) ∷ []) freshShort256 ≡ 12 ∷ []
+  -- frames with an empty script: as many, an 84 of 260 bytes, a D2 of 264 at the slot's address, 2,048 times its number
+  pub put-frames-256 : outOf (putFresh (0x41 ∷ [])) freshShort256 .frames ≡ 27
+  pub load-256 : take 6 (drop 18 (outOf (putFresh (0x41 ∷ [])) freshShort256 .lines)) ≡ 1 ∷ 4 ∷ 0x84 ∷ 0x00 ∷ 0x00 ∷ 0x00 ∷ []
+  pub read-256 : take 6 (drop 6 (outOf (get 2 1 [] [] log (replicate 2045 0)) freshShort256 .lines)) ≡ 1 ∷ 8 ∷ 0xD2 ∷ 0x00 ∷ 0x10 ∷ 0x00 ∷ []
+  pub erase-256 : take 6 (drop 18 (outOf wipeTwo freshShort256 .lines)) ≡ 0 ∷ 4 ∷ 0x50 ∷ 0x00 ∷ 0x10 ∷ 0x00 ∷ []

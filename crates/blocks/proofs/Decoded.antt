@@ -15,7 +15,7 @@ use Rattle.commands.specs.declared.Buffer.{Buffer}
 use Rattle.commands.specs.declared.Buffer.the-variants.{One, Two}
 use Rattle.geometry.specs.declared.Part.{Part}
 use Rattle.geometry.specs.declared.Part.the-variants.{Known, Unknown}
-use Rattle.geometry.specs.Parts.{partOf}
+use Rattle.geometry.specs.Parts.{pageRoom, partOf}
 use Rattle.geometry.proofs.Pages.{sized}
 use Rattle.registers.specs.declared.Operation.{Operation}
 use Rattle.registers.specs.Data.{pack16, pack64}
@@ -41,8 +41,8 @@ whole-decode block l =
             user = length-field 32 64 block (omega arith);
             factory = length-field 96 64 block (omega arith);
           };
-      buffer1 = length-field 236 264 block (omega arith);
-      buffer2 = length-field 500 264 block (omega arith);
+      buffer1 = length-field 236 pageRoom block (omega arith);
+      buffer2 = length-field 500 pageRoom block (omega arith);
     }
 
 -- ---- bytes: a part of a list of bytes is one

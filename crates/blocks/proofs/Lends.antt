@@ -4,12 +4,13 @@
 use mathlib.Core.Path.{_≡_, refl, sym, ap, _∙_}
 use mathlib.Core.Bool.{Bool}
 use mathlib.Core.List.{List, [], _∷_, _++_, append-assoc}
-use Prim.Native.Nat.{ℕ, _+_, _≤_}
+use Prim.Native.Nat.{ℕ, _+_, _*_, _≤_}
 use native.Mathlib.Omega.{arith}
 use lib.ListN.{length, set, take, drop, getD, length-append, length-drop, take-append-drop}
 use lib.Seq.{take-at, drop-at, drop-drop, take-take, take-all, take-append-add, length-take-le}
 use lib.Dec.{lit≤}
 use Rattle.slices.proofs.Laws.{over-append, over-whole}
+use Rattle.geometry.specs.Parts.{pageRoom}
 use Rattle.state.specs.declared.Chip.{Chip}
 use Rattle.state.specs.Lent.{memoryIn}
 use Rattle.state.specs.Memory.{memoryOf, chipOf}
@@ -32,19 +33,19 @@ unfolding decodeRegisters
 security-lent b l =
     twice 64 (drop 32 b) (omega (arith, length-drop 32 b)) ∙ ap (λ (t : List ℕ). field 32 64 b ++ take 64 t) (drop-drop 64 32 b)
 
-pub buffers-lent : (b xs : List ℕ) → length b ≡ 765 → memoryIn xs (take 528 (drop 236 b)) (flag (getD b 764 0)) ≡ memoryOf (decodeChip b) xs
+pub buffers-lent : (b xs : List ℕ) → length b ≡ 765 → memoryIn xs (take (2 * pageRoom) (drop 236 b)) (flag (getD b 764 0)) ≡ memoryOf (decodeChip b) xs
 unfolding decodeChip
 buffers-lent b xs l =
     let ys = drop 236 b in
-    let h : 264 ≤ length (drop 236 b) = omega (arith, length-drop 236 b) in
+    let h : pageRoom ≤ length (drop 236 b) = omega (arith, length-drop 236 b) in
     λ i.
     record {
       array = xs;
-      buffer1 = take-take 264 528 ys (lit≤ tt) i;
+      buffer1 = take-take pageRoom (2 * pageRoom) ys (lit≤ tt) i;
       buffer2 =
-          (ap (λ (t : List ℕ). take 264 (drop 264 t)) (twice 264 ys h)
-          ∙ ap (λ (t : List ℕ). take 264 t) (drop-at (take 264 ys) (take 264 (drop 264 ys)) 264 (length-take-le 264 ys h))
-          ∙ take-take 264 264 (drop 264 ys) (lit≤ tt) ∙ ap (λ (t : List ℕ). take 264 t) (drop-drop 264 236 b)) i;
+          (ap (λ (t : List ℕ). take pageRoom (drop pageRoom t)) (twice pageRoom ys h)
+          ∙ ap (λ (t : List ℕ). take pageRoom t) (drop-at (take pageRoom ys) (take pageRoom (drop pageRoom ys)) pageRoom (length-take-le pageRoom ys h))
+          ∙ take-take pageRoom pageRoom (drop pageRoom ys) (lit≤ tt) ∙ ap (λ (t : List ℕ). take pageRoom t) (drop-drop pageRoom 236 b)) i;
       compare = flag (getD b 764 0);
     }
 
@@ -57,23 +58,23 @@ module _ (c : Chip) (s : Whole c) where
       drop-at (encodeRegisters (c .registers)) (c .buffer1 ++ (c .buffer2 ++ (flagByte (c .compare) ∷ []))) 236 (length-encodeRegisters (c .registers) (s .registers))
       ∙ sym (append-assoc (c .buffer1) (c .buffer2) (flagByte (c .compare) ∷ []))
 
-  both : length (c .buffer1 ++ c .buffer2) ≡ 528
+  both : length (c .buffer1 ++ c .buffer2) ≡ 2 * pageRoom
   both = length-append (c .buffer1) (c .buffer2) ∙ omega (arith, s .buffer1, s .buffer2)
 
-  pub stored-buffers : take 528 (drop 236 (encodeChip c)) ≡ c .buffer1 ++ c .buffer2
-  stored-buffers = ap (λ (t : List ℕ). take 528 t) behind ∙ take-at (c .buffer1 ++ c .buffer2) (flagByte (c .compare) ∷ []) 528 both
+  pub stored-buffers : take (2 * pageRoom) (drop 236 (encodeChip c)) ≡ c .buffer1 ++ c .buffer2
+  stored-buffers = ap (λ (t : List ℕ). take (2 * pageRoom) t) behind ∙ take-at (c .buffer1 ++ c .buffer2) (flagByte (c .compare) ∷ []) (2 * pageRoom) both
 
-  pub stored-back : (zs : List ℕ) → length zs ≡ 528 → take 236 (encodeChip c) ++ (zs ++ drop 528 (drop 236 (encodeChip c))) ≡ encodeChip (chipOf (c .registers) (memoryIn [] zs (c .compare)))
+  pub stored-back : (zs : List ℕ) → length zs ≡ 2 * pageRoom → take 236 (encodeChip c) ++ (zs ++ drop (2 * pageRoom) (drop 236 (encodeChip c))) ≡ encodeChip (chipOf (c .registers) (memoryIn [] zs (c .compare)))
   unfolding encodeChip
   stored-back zs l =
       let r = encodeRegisters (c .registers) in
       let x = flagByte (c .compare) ∷ [] in
-      let w : take 264 (drop 264 zs) ≡ drop 264 zs = take-all 264 (drop 264 zs) (omega (arith, length-drop 264 zs)) in
+      let w : take pageRoom (drop pageRoom zs) ≡ drop pageRoom zs = take-all pageRoom (drop pageRoom zs) (omega (arith, length-drop pageRoom zs)) in
       (λ i. take-at r (c .buffer1 ++ (c .buffer2 ++ x)) 236 (length-encodeRegisters (c .registers) (s .registers)) i
-      ++ (zs ++ (ap (λ (t : List ℕ). drop 528 t) behind ∙ drop-at (c .buffer1 ++ c .buffer2) x 528 both) i))
-      ∙ ap (λ (t : List ℕ). r ++ (t ++ x)) (sym (take-append-drop 264 zs))
-      ∙ ap (λ (t : List ℕ). r ++ t) (append-assoc (take 264 zs) (drop 264 zs) x)
-      ∙ ap (λ (t : List ℕ). r ++ (take 264 zs ++ (t ++ x))) (sym w)
+      ++ (zs ++ (ap (λ (t : List ℕ). drop (2 * pageRoom) t) behind ∙ drop-at (c .buffer1 ++ c .buffer2) x (2 * pageRoom) both) i))
+      ∙ ap (λ (t : List ℕ). r ++ (t ++ x)) (sym (take-append-drop pageRoom zs))
+      ∙ ap (λ (t : List ℕ). r ++ t) (append-assoc (take pageRoom zs) (drop pageRoom zs) x)
+      ∙ ap (λ (t : List ℕ). r ++ (take pageRoom zs ++ (t ++ x))) (sym w)
 
   -- the last byte stored anew
   pub stored-bit : (bit : Bool) → set (encodeChip c) 764 (flagByte bit) ≡ encodeChip (record { registers = c .registers; buffer1 = c .buffer1; buffer2 = c .buffer2; compare = bit })

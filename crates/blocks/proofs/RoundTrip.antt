@@ -11,6 +11,7 @@ use lib.ListN.{length, take, drop, getD, replicate, List·getD-append}
 use lib.Seq.{take-at, drop-at, drop-drop, getD-drop}
 use lib.Dec.{lit<}
 use lib.Pow.{mod-pow-add}
+use Rattle.geometry.specs.Parts.{pageRoom}
 use Rattle.commands.specs.declared.Buffer.the-variants.{One, Two}
 use Rattle.registers.specs.declared.Operation.{Operation}
 use Rattle.registers.specs.declared.Operation.the-variants.{Idle, Program, ProgramOver, Transfer, Compare, Rewrite, ErasePage, EraseBlock, EraseSector, EraseChip, EraseProtection, ProgramProtection, LockSector, ProgramSecurity}
@@ -107,8 +108,8 @@ decode-encode c h =
     let z4 = past 64 (s .registers .factory) z3 in
     let z5 = past 12 (length-headBytes r (headOf o)) z4 in
     let z6 = past 64 (length-dataBytes o) z5 in
-    let z7 = past 264 (s .buffer1) z6 in
-    let z8 = past 264 (s .buffer2) z7 in
+    let z7 = past pageRoom (s .buffer1) z6 in
+    let z8 = past pageRoom (s .buffer2) z7 in
     let e : decodeOperation (encodeChip c) ≡ o =
     (λ i.
     operationOf (byte 4 (lit< tt) z4 i) (byte 5 (lit< tt) z4 i) (byte 6 (lit< tt) z4 i * 256 + byte 7 (lit< tt) z4 i)
@@ -130,8 +131,8 @@ decode-encode c h =
             deep = (ap flag (byte 3 (lit< tt) z4) ∙ flag-back (r .deep)) i;
             operation = e i;
           };
-      buffer1 = here 264 (s .buffer1) z6 i;
-      buffer2 = here 264 (s .buffer2) z7 i;
+      buffer1 = here pageRoom (s .buffer1) z6 i;
+      buffer2 = here pageRoom (s .buffer2) z7 i;
       compare = (ap flag (byte 0 (lit< tt) z8) ∙ flag-back (c .compare)) i;
     }
 

@@ -9,6 +9,7 @@ use lib.ListN.{length, set, take, drop, getD, length-set, length-append}
 use lib.Dec.{lit≤}
 use Rattle.slices.specs.Lists.{splice}
 use Rattle.slices.proofs.Laws.{over-whole, length-splice, splice-part, drop-splice}
+use Rattle.geometry.specs.Parts.{pageRoom}
 use Rattle.registers.specs.declared.Operation.{Operation}
 use Rattle.state.specs.declared.Chip.{Chip}
 use Rattle.blocks.specs.Block.{field, flag, flagByte, headOf, headBytes, flagged, dataBytes, encodeRegisters, encodeChip}
@@ -32,8 +33,8 @@ settledChip b used protect wp deep o =
             deep = deep;
             operation = o;
           };
-      buffer1 = field 236 264 b;
-      buffer2 = field 500 264 b;
+      buffer1 = field 236 pageRoom b;
+      buffer2 = field 500 pageRoom b;
       compare = flag (getD b 764 0);
     }
 
@@ -64,9 +65,9 @@ settled b p e w d o z l h =
     in
     let s8 =
     stored-there (x ∷ []) 1 (omega arith) (ap (λ (t : List ℕ). take 1 (drop 764 t)) h ∙ ap (λ (t : List ℕ). take 1 t) (drop-splice 764 160 mid y (omega arith)) ∙ last b x l)
-    (stored-there (field 500 264 b) 264 (omega arith) (after 500 264 0 refl (lit≤ tt))
-    (stored-there (field 236 264 b) 264 (omega arith) (after 236 264 264 refl (lit≤ tt))
+    (stored-there (field 500 pageRoom b) pageRoom (omega arith) (after 500 pageRoom 0 refl (lit≤ tt))
+    (stored-there (field 236 pageRoom b) pageRoom (omega arith) (after 236 pageRoom pageRoom refl (lit≤ tt))
     (stored-more mid 76 lm s4 h)))
     in
     s8 .same ∙ over-whole _ _ (s8 .long ∙ sym ly)
-    ∙ eight (field 0 16 b) (field 16 16 b) (field 32 64 b) (field 96 64 b) (headBytes (flagged p e w d) (headOf o)) (dataBytes o) (field 236 264 b) (field 500 264 b) (x ∷ [])
+    ∙ eight (field 0 16 b) (field 16 16 b) (field 32 64 b) (field 96 64 b) (headBytes (flagged p e w d) (headOf o)) (dataBytes o) (field 236 pageRoom b) (field 500 pageRoom b) (x ∷ [])

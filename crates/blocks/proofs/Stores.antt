@@ -10,6 +10,7 @@ use lib.ListN.{length, set, take, drop, getD}
 use lib.Seq.{getD-set-same, getD-set-other, take-set-le, drop-set-lt, drop-set-add}
 use lib.Dec.{eqb, lit<, lit≤}
 use borrow.Author.Tests.{eqb-false}
+use Rattle.geometry.specs.Parts.{pageRoom}
 use Rattle.registers.specs.Fields.{withWp}
 use Rattle.state.specs.declared.Answer.{Answer}
 use Rattle.state.specs.declared.Answer.the-variants as Answers
@@ -69,7 +70,7 @@ pin-moved block high l =
                 (other 168 block x refl i * 16777216 + other 169 block x refl i * 65536 + other 170 block x refl i * 256 + other 171 block x refl i)
                 (part-after 172 64 162 block x (lit< tt) i);
           };
-      buffer1 = part-after 236 264 162 block x (lit< tt) i;
-      buffer2 = part-after 500 264 162 block x (lit< tt) i;
+      buffer1 = part-after 236 pageRoom 162 block x (lit< tt) i;
+      buffer2 = part-after 500 pageRoom 162 block x (lit< tt) i;
       compare = flag (other 764 block x refl i);
     }

@@ -2,6 +2,7 @@
 ghost use mathlib.Core.Path.{_≡_};
 ghost use Prim.Native.Nat.{_+_, _≤_, _<_};
 ghost use lib.ListN.{length, take};
+ghost use Rattle.geometry.specs.Parts.{pageRoom};
 ghost use Rattle.registers.specs.Data.{pack16, pack64};
 ghost use Rattle.control.specs.Rulings.{marksOf};
 ghost use Rattle.blocks.specs.Block.{field, flag, beyond, numberIn, sectorsIn, bufferedOf, plainOf, decodeOperation, decodeRegisters, decodeChip};
@@ -44,8 +45,8 @@ fn part64(block: &[u8], at: usize) -> [u8; 64]
 }
 
 fn part264(block: &[u8], at: usize) -> [u8; 264]
-    requires { ⌜ at + 264 ≤ length (now block) ⌝ }
-    ensures { λ r. ⌜ r ≡ field at 264 (now (block .entry)) ⌝ }
+    requires { ⌜ at + pageRoom ≤ length (now block) ⌝ }
+    ensures { λ r. ⌜ r ≡ field at pageRoom (now (block .entry)) ⌝ }
 {
     let e = at + 264;
     let mut bytes = [0u8; 264];

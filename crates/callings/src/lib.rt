@@ -2,6 +2,7 @@
 // The function named to others has no `requires`: bad input is refused, and a refusal changes nothing. The entry points are in crate calls.
 ghost use mathlib.Core.Path.{_≡_};
 ghost use lib.ListN.{replicate};
+ghost use Rattle.geometry.specs.Parts.{slotRoom};
 ghost use Rattle.state.specs.Outcomes.{partIn};
 ghost use Rattle.slots.specs.Lists.{Op, asking};
 ghost use Rattle.blocks.specs.Promises.{heldIn};
@@ -135,7 +136,7 @@ fn run(
 
 // A slot's bytes before any is read.
 fn blank_slot() -> [u8; 2112]
-    ensures { λ r. ⌜ r ≡ replicate 2112 0 ⌝ }
+    ensures { λ r. ⌜ r ≡ replicate slotRoom 0 ⌝ }
 {
     [0; 2112]
 }

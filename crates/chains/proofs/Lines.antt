@@ -47,7 +47,7 @@ run-six (suc n) g v p q e = run-six n g v (stepOpen g v p q) (stepClosed g v p q
 
 ran-six : (g : Geometry) (v : Request) (x : Secret) (s : State) → Six (ran g v x s .0)
 unfolding ran startOpen
-ran-six g v x s = run-six (bound g (v .asked)) g v (startOpen g (length (s .memory .array)) v (s .registers)) (startClosed g x (s .memory)) refl
+ran-six g v x s = run-six (bound g (v .asked)) g v (startOpen g (length (s .memory .array)) v (s .registers)) (startClosed x (s .memory)) refl
 
 -- ---- an outcome
 

@@ -4,12 +4,13 @@
 use mathlib.Core.Path.{_≡_, refl, sym, ap, _∙_}
 use mathlib.Core.Bool.{Bool, true, false}
 use mathlib.Core.List.{List, [], _∷_}
-use Prim.Native.Nat.{ℕ}
+use Prim.Native.Nat.{ℕ, _*_}
 use lib.ListN.{length}
 use types.Run.{OneOf, miss}
 use denote.Enum.Declared.{tagOf}
 use Rattle.slices.specs.Lists.{splice}
 use Rattle.geometry.specs.declared.Geometry.{Geometry}
+use Rattle.geometry.specs.Parts.{pageRoom}
 use Rattle.commands.specs.declared.Buffer.{Buffer}
 use Rattle.registers.specs.declared.Operation.{Operation}
 use Rattle.registers.specs.declared.Work.{Work}
@@ -54,7 +55,7 @@ module _ (g : Geometry) (o : Operation) (b : Buffer) (page : ℕ) (u : b ≡ buf
   pub erases : {zs : List ℕ} → factsOf o .work ≡ Erase → zs ≡ inTarget (erased g) g o xs → memoryIn zs bs bit ≡ completedMemory g o (memoryIn xs bs bit)
   erases e h = ap (λ (z : List ℕ). memoryIn z bs bit) h ∙ does Erase e
 
-  module _ (long : length bs ≡ 528) where
+  module _ (long : length bs ≡ 2 * pageRoom) where
     made : (w : Work) → OneOf onPages (tagOf the-type w)
         → memoryIn (arrayBy g page (lent b bs) xs w) (splice (bufferStart b) (bufferBy g page xs (lent b bs) w) bs) (bitBy g page xs (lent b bs) bit w) ≡ worked g o (memoryIn xs bs bit) w
     made Rest h = ap (λ (l : List ℕ). memoryIn xs l bit) (lent-same bs long b)

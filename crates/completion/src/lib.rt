@@ -1,10 +1,10 @@
-// A busy end on a chip whose part is known. The buffers are lent as one slice of 528 bytes.
+// A busy end on a chip whose part is known. The buffers are lent as one slice.
 ghost use mathlib.Core.Path.{_≡_};
 ghost use mathlib.Core.Bool.{true};
 ghost use mathlib.Core.List.{[]};
-ghost use Prim.Native.Nat.{_<_};
+ghost use Prim.Native.Nat.{_*_, _<_};
 ghost use lib.ListN.{length};
-ghost use Rattle.geometry.specs.Parts.{Sized};
+ghost use Rattle.geometry.specs.Parts.{Sized, pageRoom};
 ghost use Rattle.registers.specs.Operations.{within};
 ghost use Rattle.memory.specs.Pages.{erased};
 ghost use Rattle.state.specs.Lent.{memoryIn};
@@ -22,7 +22,7 @@ use state::Outcome;
 
 // What a work on a page does to the array, to the buffer that it uses, and to the compare bit, which it returns.
 fn work(g: Geometry, w: Work, bit: bool, page: usize, array: &mut [u8], buffer: &mut [u8]) -> bool
-    requires { ⌜ (Sized g (length (now array))) × (page < g .pages) × (length (now buffer) ≡ 264) ⌝ }
+    requires { ⌜ (Sized g (length (now array))) × (page < g .pages) × (length (now buffer) ≡ pageRoom) ⌝ }
     ensures { λ r. ⌜ (now (array .exit) ≡ arrayBy g page (now (buffer .entry)) (now (array .entry)) w) × (now (buffer .exit) ≡ bufferBy g page (now (array .entry)) (now (buffer .entry)) w) × (r ≡ bitBy g page (now (array .entry)) (now (buffer .entry)) bit w) ⌝ }
 {
     match w {
@@ -65,7 +65,7 @@ pub fn complete_memory(
     array: &mut [u8],
     o: Operation,
 ) -> bool
-    requires { ⌜ (Sized g (length (now array))) × (within g o ≡ true) × (length (now buffers) ≡ 528) ⌝ }
+    requires { ⌜ (Sized g (length (now array))) × (within g o ≡ true) × (length (now buffers) ≡ 2 * pageRoom) ⌝ }
     ensures { λ r. ⌜ memoryIn (now (array .exit)) (now (buffers .exit)) r ≡ completedMemory g o (memoryIn (now (array .entry)) (now (buffers .entry)) bit) ⌝ }
 {
     let f = registers::facts_of(o);

@@ -47,14 +47,14 @@ ready-row : (g : Geometry) (r : Registers) (f : List ℕ) (lead : ℕ) (e : Effe
 ready-row g r f lead e h y = ready-obeys g r f y ∙ ap (λ (d : Decoded). rowOf g r f (d .lead) (d .effect)) h
 
 -- a program or erase starts where the page's sector is not sealed
-pub started-open : (r : Registers) (page : ℕ) (o : Operation) → sealed r (sectorOf page) ≡ false → startedOn r page o ≡ started r o
+pub started-open : (g : Geometry) (r : Registers) (page : ℕ) (o : Operation) → sealed g r (sectorOf g page) ≡ false → startedOn g r page o ≡ started r o
 unfolding startedOn
-started-open r page o h = λ i. cond (h i) (ignored r) (started r o)
+started-open g r page o h = λ i. cond (h i) (ignored r) (started r o)
 
 -- .. and is ignored where it is
-pub started-sealed : (r : Registers) (page : ℕ) (o : Operation) → sealed r (sectorOf page) ≡ true → startedOn r page o ≡ ignored r
+pub started-sealed : (g : Geometry) (r : Registers) (page : ℕ) (o : Operation) → sealed g r (sectorOf g page) ≡ true → startedOn g r page o ≡ ignored r
 unfolding startedOn
-started-sealed r page o h = λ i. cond (h i) (ignored r) (started r o)
+started-sealed g r page o h = λ i. cond (h i) (ignored r) (started r o)
 
 -- ---- D7: obeyed under every operation, ignored in deep power-down
 
@@ -101,13 +101,13 @@ load-obeyed g r a b c t y = ready-row g r (0x84 ∷ a ∷ b ∷ c ∷ t) 4 (E.Wr
 
 pub program-obeyed : (g : Geometry) (r : Registers) (a b c : ℕ) (t : List ℕ) → Ready r
     → control g r (0x83 ∷ a ∷ b ∷ c ∷ t)
-    ≡ startedOn r (pageAt g (addressAt (0x83 ∷ a ∷ b ∷ c ∷ t) 1)) (O.Program One (pageAt g (addressAt (0x83 ∷ a ∷ b ∷ c ∷ t) 1)))
+    ≡ startedOn g r (pageAt g (addressAt (0x83 ∷ a ∷ b ∷ c ∷ t) 1)) (O.Program One (pageAt g (addressAt (0x83 ∷ a ∷ b ∷ c ∷ t) 1)))
 unfolding rowDecided
 program-obeyed g r a b c t y = ready-row g r (0x83 ∷ a ∷ b ∷ c ∷ t) 4 (E.Program One) (decode-program a b c t) y
 
 pub erase-obeyed : (g : Geometry) (r : Registers) (a b c : ℕ) (t : List ℕ) → Ready r
     → control g r (0x50 ∷ a ∷ b ∷ c ∷ t)
-    ≡ startedOn r (pageAt g (addressAt (0x50 ∷ a ∷ b ∷ c ∷ t) 1)) (O.EraseBlock (pageAt g (addressAt (0x50 ∷ a ∷ b ∷ c ∷ t) 1) / 8))
+    ≡ startedOn g r (pageAt g (addressAt (0x50 ∷ a ∷ b ∷ c ∷ t) 1)) (O.EraseBlock (pageAt g (addressAt (0x50 ∷ a ∷ b ∷ c ∷ t) 1) / 8))
 unfolding rowDecided
 erase-obeyed g r a b c t y = ready-row g r (0x50 ∷ a ∷ b ∷ c ∷ t) 4 E.EraseBlock (decode-erase a b c t) y
 

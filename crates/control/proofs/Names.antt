@@ -37,9 +37,9 @@ module _ (g : Geometry) (r : Registers) (f : List ℕ) where
   unfolding Names
   quiet = (λ p s. tt, zero-le)
 
-  at-page : (page : ℕ) (o : Operation) → Good (startedOn r page o)
+  at-page : (page : ℕ) (o : Operation) → Good (startedOn g r page o)
   unfolding Good Names startedOn
-  at-page page o = either Good (sealed r (sectorOf page)) (ignored r) (started r o) quiet quiet
+  at-page page o = either Good (sealed g r (sectorOf g page)) (ignored r) (started r o) quiet quiet
 
   row-good : (lead : ℕ) (e : Effect) → lead ≤ length f → Good (rowOf g r f lead e)
   unfolding Good Names rowDecided programmedThrough protectOff protectionErased protectionProgrammed sectorLocked securityProgrammed
@@ -51,12 +51,12 @@ module _ (g : Geometry) (r : Registers) (f : List ℕ) where
   row-good lead (E.ProgramOver b) l = at-page (pageAt g (addressAt f 1)) (O.ProgramOver b (pageAt g (addressAt f 1)))
   row-good lead (E.ProgramThrough b) l =
       let page = pageAt g (addressAt f 1) in
-      either Good (sealed r (sectorOf page)) (ignored r)
+      either Good (sealed g r (sectorOf g page)) (ignored r)
       (decided (withOperation r (O.Program b page)) (A.WriteBuffer b (byteAt g (addressAt f 1))) lead)
       quiet (λ p s. byte-named g (addressAt f 1) s, l)
   row-good lead E.ErasePage l = at-page (pageAt g (addressAt f 1)) (O.ErasePage (pageAt g (addressAt f 1)))
   row-good lead E.EraseBlock l = at-page (pageAt g (addressAt f 1)) (O.EraseBlock (pageAt g (addressAt f 1) / 8))
-  row-good lead E.EraseSector l = at-page (pageAt g (addressAt f 1)) (O.EraseSector (sectorOf (pageAt g (addressAt f 1))))
+  row-good lead E.EraseSector l = at-page (pageAt g (addressAt f 1)) (O.EraseSector (sectorOf g (pageAt g (addressAt f 1))))
   row-good lead E.EraseChip l = quiet
   row-good lead (E.Transfer b) l = quiet
   row-good lead (E.Compare b) l = quiet
@@ -66,7 +66,7 @@ module _ (g : Geometry) (r : Registers) (f : List ℕ) where
       either Good (r .wp) (decided (withProtect r false) A.Silent 0) (ignored r) quiet quiet
   row-good lead E.EraseProtection l = either Good (r .wp) (started r O.EraseProtection) (ignored r) quiet quiet
   row-good lead E.ProgramProtection l =
-      let d = protectionData f in
+      let d = protectionData g f in
       either Good (r .wp) (decided (withOperation r (O.ProgramProtection d)) (A.LoadProtection d) 0) (ignored r) quiet quiet
   row-good lead E.LockSector l = quiet
   row-good lead E.ProgramSecurity l =

@@ -110,10 +110,10 @@ module _ (g : Geometry) (r : Registers) (f : List ℕ) (Q : Registers → Type 0
     (starts : (o : Operation) → Ready r → Starts g r f o → Q (withOperation r o))
     (marks : (on : Bool) → Ready r → Q (withProtect r on))
     (sleeps : (on : Bool) → r .operation ≡ O.Idle → Q (withDeep r on)) where
-  on-page : (n : ℕ) (o : Operation) → Ready r → (Open g r n → Starts g r f o) → Q (startedOn r (pageAt g n) o .registers)
+  on-page : (n : ℕ) (o : Operation) → Ready r → (Open g r n → Starts g r f o) → Q (startedOn g r (pageAt g n) o .registers)
   unfolding startedOn
   on-page n o y s =
-      either Q (sealed r (sectorOf (pageAt g n))) (ignored r) (started r o) (λ e. same) (λ e. starts o y (s e))
+      either Q (sealed g r (sectorOf g (pageAt g n))) (ignored r) (started r o) (λ e. same) (λ e. starts o y (s e))
 
   row-registers : (lead : ℕ) (e : Effect) → obeyed r e ≡ true → Q (rowOf g r f lead e .registers)
   unfolding rowDecided classOf programmedThrough protectOff protectionErased protectionProgrammed sectorLocked securityProgrammed
@@ -127,7 +127,7 @@ module _ (g : Geometry) (r : Registers) (f : List ℕ) (Q : Registers → Type 0
       on-page (addressAt f 1) (O.ProgramOver b (pageAt g (addressAt f 1))) (other-ready r (E.ProgramOver b) refl h) (programs-over b (addressAt f 1))
   row-registers lead (E.ProgramThrough b) h =
       let page = pageAt g (addressAt f 1) in
-      either Q (sealed r (sectorOf page)) (ignored r)
+      either Q (sealed g r (sectorOf g page)) (ignored r)
       (decided (withOperation r (O.Program b page)) (A.WriteBuffer b (byteAt g (addressAt f 1))) lead)
       (λ e. same) (λ e. starts (O.Program b page) (other-ready r (E.ProgramThrough b) refl h) (programs b (addressAt f 1) e))
   row-registers lead E.ErasePage h =
@@ -135,7 +135,7 @@ module _ (g : Geometry) (r : Registers) (f : List ℕ) (Q : Registers → Type 0
   row-registers lead E.EraseBlock h =
       on-page (addressAt f 1) (O.EraseBlock (pageAt g (addressAt f 1) / 8)) (other-ready r E.EraseBlock refl h) (erases-block (addressAt f 1))
   row-registers lead E.EraseSector h =
-      on-page (addressAt f 1) (O.EraseSector (sectorOf (pageAt g (addressAt f 1)))) (other-ready r E.EraseSector refl h) (erases-sector (addressAt f 1))
+      on-page (addressAt f 1) (O.EraseSector (sectorOf g (pageAt g (addressAt f 1)))) (other-ready r E.EraseSector refl h) (erases-sector (addressAt f 1))
   row-registers lead E.EraseChip h = starts (O.EraseChip (unsealedSet g r)) (other-ready r E.EraseChip refl h) erases-chip
   row-registers lead (E.Transfer b) h =
       starts (O.Transfer b (pageAt g (addressAt f 1))) (other-ready r (E.Transfer b) refl h) (transfers b (addressAt f 1))
@@ -151,11 +151,11 @@ module _ (g : Geometry) (r : Registers) (f : List ℕ) (Q : Registers → Type 0
       either Q (r .wp) (started r O.EraseProtection) (ignored r)
       (λ e. starts O.EraseProtection (other-ready r E.EraseProtection refl h) (erases-protection e)) (λ e. same)
   row-registers lead E.ProgramProtection h =
-      let d = protectionData f in
+      let d = protectionData g f in
       either Q (r .wp) (decided (withOperation r (O.ProgramProtection d)) (A.LoadProtection d) 0) (ignored r)
       (λ e. starts (O.ProgramProtection d) (other-ready r E.ProgramProtection refl h) (programs-protection e)) (λ e. same)
   row-registers lead E.LockSector h =
-      starts (O.LockSector (sectorOf (pageAt g (addressAt f 4)))) (other-ready r E.LockSector refl h) (locks-sector (addressAt f 4))
+      starts (O.LockSector (sectorOf g (pageAt g (addressAt f 4)))) (other-ready r E.LockSector refl h) (locks-sector (addressAt f 4))
   row-registers lead E.ProgramSecurity h =
       let d = securityData f in
       either Q (r .used) (ignored r) (decided (withOperation r (O.ProgramSecurity d)) (A.LoadSecurity d) 0)
@@ -222,11 +222,11 @@ starts-within g n r f o z (compares b a) = lt-ltb (pageAt g a) (g .pages) (page-
 starts-within g n r f o z (rewrites b a u) = lt-ltb (pageAt g a) (g .pages) (page-few g n a z)
 starts-within g n r f o z (erases-page a u) = lt-ltb (pageAt g a) (g .pages) (page-few g n a z)
 starts-within g n r f o z (erases-block a u) = lt-ltb (pageAt g a / 8) (g .pages / 8) (block-few g n (pageAt g a) z (page-few g n a z))
-starts-within g n r f o z (erases-sector a u) = lt-ltb (sectorOf (pageAt g a)) (sectorCount g) (sector-few g (pageAt g a) (page-few g n a z))
+starts-within g n r f o z (erases-sector a u) = lt-ltb (sectorOf g (pageAt g a)) (sectorCount g) (sector-few g (z .wide) (pageAt g a) (page-few g n a z))
 starts-within g n r f o z erases-chip = lt-ltb (unsealedSet g r) (2 ^ sectorCount g) (unsealed-small g r)
 starts-within g n r f o z (erases-protection u) = refl
 starts-within g n r f o z (programs-protection u) = refl
-starts-within g n r f o z (locks-sector a) = lt-ltb (sectorOf (pageAt g a)) (sectorCount g) (sector-few g (pageAt g a) (page-few g n a z))
+starts-within g n r f o z (locks-sector a) = lt-ltb (sectorOf g (pageAt g a)) (sectorCount g) (sector-few g (z .wide) (pageAt g a) (page-few g n a z))
 starts-within g n r f o z (programs-security u) = refl
 
 -- an operation within the part is followed by one within the part, whatever the frame

@@ -12,9 +12,9 @@ use borrow.Author.Tests.{le-leb, lt-leb}
 use Rattle.slices.specs.Lists.{over}
 use Rattle.slices.proofs.Laws.{over-whole}
 use Rattle.geometry.specs.declared.Geometry.{Geometry}
-use Rattle.geometry.specs.Parts.{Sized}
+use Rattle.geometry.specs.Parts.{registerRoom, Sized}
 use Rattle.geometry.specs.Sectors.{sectorOf}
-use Rattle.geometry.proofs.Sectors.{sector-most}
+use Rattle.geometry.proofs.Sectors.{sectors-few}
 use Rattle.commands.specs.declared.Buffer.{Buffer}
 use Rattle.commands.specs.declared.Effect.{Effect}
 use Rattle.commands.specs.declared.Decoded.{Decoded}
@@ -65,13 +65,13 @@ woken-allows r e h =
 -- ---- sealed sectors
 
 -- the test that the code makes of a page's sector
-pub tested : (r : Registers) (page : ℕ) {s : ℕ} {b v : Bool} → s ≡ sectorOf page → b ≡ sealed r s → b ≡ v → sealed r (sectorOf page) ≡ v
-tested r page e h k = ap (sealed r) (sym e) ∙ sym h ∙ k
+pub tested : (g : Geometry) (r : Registers) (page : ℕ) {s : ℕ} {b v : Bool} → s ≡ sectorOf g page → b ≡ sealed g r s → b ≡ v → sealed g r (sectorOf g page) ≡ v
+tested g r page e h k = ap (sealed g r) (sym e) ∙ sym h ∙ k
 
--- a lock under way names one of the 17 sectors
-pub lock-small : (g : Geometry) (n s : ℕ) (o : Operation) {u : Update} → Sized g n → within g o ≡ true → u ≡ updateOf o → u ≡ Lock s → s < 17
+-- a lock under way names a sector that the registers serve
+pub lock-small : (g : Geometry) (n s : ℕ) (o : Operation) {u : Update} → Sized g n → within g o ≡ true → u ≡ updateOf o → u ≡ Lock s → s < registerRoom + 1
 unfolding within
-lock-small g n s o z h e k = omega (arith, named-sector g (factsOf o .names) h s (lock-names o s (sym e ∙ k)), sector-most g (z .few))
+lock-small g n s o z h e k = omega (arith, named-sector g (factsOf o .names) h s (lock-names o s (sym e ∙ k)), sectors-few g n z)
 
 -- ---- what WP, the used mark and sealed-ness decide
 
@@ -94,14 +94,14 @@ erased-low r h = ap (λ (b : Bool). cond b (started r O.EraseProtection) (ignore
 listing : Registers → Data16 → Decision
 listing r d = decided (withOperation r (O.ProgramProtection d)) (A.LoadProtection d) 0
 
-pub listed-high : (r : Registers) (f : List ℕ) → r .wp ≡ true
-    → decided (withOperation r (O.ProgramProtection (protectionData f))) (A.LoadProtection (protectionData f)) 0 ≡ protectionProgrammed r f
+pub listed-high : (g : Geometry) (r : Registers) (f : List ℕ) → r .wp ≡ true
+    → decided (withOperation r (O.ProgramProtection (protectionData g f))) (A.LoadProtection (protectionData g f)) 0 ≡ protectionProgrammed g r f
 unfolding protectionProgrammed listing
-listed-high r f h = ap (λ (b : Bool). cond b (listing r (protectionData f)) (ignored r)) (sym h)
+listed-high g r f h = ap (λ (b : Bool). cond b (listing r (protectionData g f)) (ignored r)) (sym h)
 
-pub listed-low : (r : Registers) (f : List ℕ) → r .wp ≡ false → ignored r ≡ protectionProgrammed r f
+pub listed-low : (g : Geometry) (r : Registers) (f : List ℕ) → r .wp ≡ false → ignored r ≡ protectionProgrammed g r f
 unfolding protectionProgrammed listing
-listed-low r f h = ap (λ (b : Bool). cond b (listing r (protectionData f)) (ignored r)) (sym h)
+listed-low g r f h = ap (λ (b : Bool). cond b (listing r (protectionData g f)) (ignored r)) (sym h)
 
 writing : Registers → Data64 → Decision
 writing r d = decided (withOperation r (O.ProgramSecurity d)) (A.LoadSecurity d) 0
@@ -118,15 +118,15 @@ security-used r f h = ap (λ (b : Bool). cond b (ignored r) (writing r (security
 through : Registers → Buffer → ℕ → ℕ → ℕ → Decision
 through r b page start lead = decided (withOperation r (O.Program b page)) (A.WriteBuffer b start) lead
 
-pub through-open : (r : Registers) (b : Buffer) (page start lead : ℕ) → sealed r (sectorOf page) ≡ false
-    → decided (withOperation r (O.Program b page)) (A.WriteBuffer b start) lead ≡ programmedThrough r b page start lead
+pub through-open : (g : Geometry) (r : Registers) (b : Buffer) (page start lead : ℕ) → sealed g r (sectorOf g page) ≡ false
+    → decided (withOperation r (O.Program b page)) (A.WriteBuffer b start) lead ≡ programmedThrough g r b page start lead
 unfolding programmedThrough through
-through-open r b page start lead h = ap (λ (x : Bool). cond x (ignored r) (through r b page start lead)) (sym h)
+through-open g r b page start lead h = ap (λ (x : Bool). cond x (ignored r) (through r b page start lead)) (sym h)
 
-pub through-sealed : (r : Registers) (b : Buffer) (page start lead : ℕ) → sealed r (sectorOf page) ≡ true
-    → ignored r ≡ programmedThrough r b page start lead
+pub through-sealed : (g : Geometry) (r : Registers) (b : Buffer) (page start lead : ℕ) → sealed g r (sectorOf g page) ≡ true
+    → ignored r ≡ programmedThrough g r b page start lead
 unfolding programmedThrough through
-through-sealed r b page start lead h = ap (λ (x : Bool). cond x (ignored r) (through r b page start lead)) (sym h)
+through-sealed g r b page start lead h = ap (λ (x : Bool). cond x (ignored r) (through r b page start lead)) (sym h)
 
 -- ---- rows
 
@@ -163,19 +163,19 @@ decoded-data f d e =
 first-after : (g : Geometry) (junk : List ℕ) → getD (afterBuffers g junk) 0 0 ≡ getD junk (2 * g .size) 0
 first-after g junk = getD-drop (2 * g .size) junk 0 0 ∙ ap (λ (n : ℕ). getD junk n 0) (add-zero (2 * g .size))
 
-lost-lock : Registers → ℕ → Bool → Registers
-lost-lock r s b = spoilt (Lock s) (cond b (1 ∷ []) (0 ∷ [])) r
+lost-lock : Geometry → Registers → ℕ → Bool → Registers
+lost-lock g r s b = spoilt g (Lock s) (cond b (1 ∷ []) (0 ∷ [])) r
 
 -- a lock cut short locks its sector if the first junk byte after the buffers' is at least 80h
 pub lock-cut : (g : Geometry) (r : Registers) (s : ℕ) (junk : List ℕ) → 128 ≤ getD junk (2 * g .size) 0
-    → withLockdown r (lockedBytes (r .lockdown) s) ≡ spoilt (Lock s) (reached (Lock s) (afterBuffers g junk)) r
+    → withLockdown r (lockedBytes g (r .lockdown) s) ≡ spoilt g (Lock s) (reached g (Lock s) (afterBuffers g junk)) r
 unfolding lost-lock
-lock-cut g r s junk h = ap (lost-lock r s) (sym (le-leb 128 (getD (afterBuffers g junk) 0 0) (rw (first-after g junk) h)))
+lock-cut g r s junk h = ap (lost-lock g r s) (sym (le-leb 128 (getD (afterBuffers g junk) 0 0) (rw (first-after g junk) h)))
 
 pub lock-kept : (g : Geometry) (r : Registers) (s : ℕ) (junk : List ℕ) → getD junk (2 * g .size) 0 < 128
-    → r ≡ spoilt (Lock s) (reached (Lock s) (afterBuffers g junk)) r
+    → r ≡ spoilt g (Lock s) (reached g (Lock s) (afterBuffers g junk)) r
 unfolding lost-lock
-lock-kept g r s junk h = ap (lost-lock r s) (sym (lt-leb 128 (getD (afterBuffers g junk) 0 0) (rw (first-after g junk) h)))
+lock-kept g r s junk h = ap (lost-lock g r s) (sym (lt-leb 128 (getD (afterBuffers g junk) 0 0) (rw (first-after g junk) h)))
 
 -- junk as long as the register takes the register's place
 pub junk-over : (junk bytes : List ℕ) (a k : ℕ) → a + k ≤ length junk → length bytes ≡ k
@@ -187,11 +187,11 @@ junk-over junk bytes a k l n =
 
 -- ---- an arm of a busy end or a cut, by the operation's update
 
-pub update-ends : (o : Operation) (r : Registers) {u v : Update} {n : Registers} → u ≡ updateOf o → u ≡ v → n ≡ updated v r → n ≡ completedBy o r
+pub update-ends : (g : Geometry) (o : Operation) (r : Registers) {u v : Update} {n : Registers} → u ≡ updateOf o → u ≡ v → n ≡ updated g v r → n ≡ completedBy g o r
 unfolding completedBy
-update-ends o r e k h = h ∙ ap (λ (x : Update). updated x r) (sym k ∙ e)
+update-ends g o r e k h = h ∙ ap (λ (x : Update). updated g x r) (sym k ∙ e)
 
 pub update-lost : (g : Geometry) (o : Operation) (r : Registers) (junk : List ℕ) {u v : Update} {n : Registers} → u ≡ updateOf o → u ≡ v
-    → n ≡ spoilt v (reached v (afterBuffers g junk)) r → n ≡ lostBy o (reaching g o junk) r
+    → n ≡ spoilt g v (reached g v (afterBuffers g junk)) r → n ≡ lostBy g o (reaching g o junk) r
 unfolding lostBy reaching
-update-lost g o r junk e k h = h ∙ ap (λ (x : Update). spoilt x (reached x (afterBuffers g junk)) r) (sym k ∙ e)
+update-lost g o r junk e k h = h ∙ ap (λ (x : Update). spoilt g x (reached g x (afterBuffers g junk)) r) (sym k ∙ e)

@@ -39,14 +39,14 @@ abbrev pub started : Registers → Operation → Decision
 started r o = decided (withOperation r o) A.Silent 0
 
 -- (5.9) ignored on a page of a sealed sector
-unfoldable pub startedOn : Registers → ℕ → Operation → Decision
-startedOn r page o = cond (sealed r (sectorOf page)) (ignored r) (started r o)
+unfoldable pub startedOn : Geometry → Registers → ℕ → Operation → Decision
+startedOn g r page o = cond (sealed g r (sectorOf g page)) (ignored r) (started r o)
 
 -- (5.10) 82/85 do nothing on a page of a sealed sector, and write no buffer
 -- (6.5) else they write the buffer at once, and start what 83/86 start
-unfoldable pub programmedThrough : Registers → Buffer → ℕ → ℕ → ℕ → Decision
-programmedThrough r b page start lead =
-    cond (sealed r (sectorOf page)) (ignored r) (decided (withOperation r (O.Program b page)) (A.WriteBuffer b start) lead)
+unfoldable pub programmedThrough : Geometry → Registers → Buffer → ℕ → ℕ → ℕ → Decision
+programmedThrough g r b page start lead =
+    cond (sealed g r (sectorOf g page)) (ignored r) (decided (withOperation r (O.Program b page)) (A.WriteBuffer b start) lead)
 
 -- (5.11) 9A does nothing with WP low
 -- (6.3) else it clears the protect mark at once
@@ -58,17 +58,17 @@ unfoldable pub protectionErased : Registers → Decision
 protectionErased r = cond (r .wp) (started r O.EraseProtection) (ignored r)
 
 -- (6.9) an FC's data
-unfoldable pub protectionData : List ℕ → Data16
-protectionData f = pack16 (padded 16 (drop 4 f))
+unfoldable pub protectionData : Geometry → List ℕ → Data16
+protectionData g f = pack16 (padded (g .register) (drop 4 f))
 
 -- (5.13) FC does nothing with WP low, to buffer 1 neither
-unfoldable pub protectionProgrammed : Registers → List ℕ → Decision
-protectionProgrammed r f =
-    cond (r .wp) (decided (withOperation r (O.ProgramProtection (protectionData f))) (A.LoadProtection (protectionData f)) 0) (ignored r)
+unfoldable pub protectionProgrammed : Geometry → Registers → List ℕ → Decision
+protectionProgrammed g r f =
+    cond (r .wp) (decided (withOperation r (O.ProgramProtection (protectionData g f))) (A.LoadProtection (protectionData g f)) 0) (ignored r)
 
 -- (6.8) 30 has its address in bytes 4 to 6
 unfoldable pub sectorLocked : Geometry → Registers → List ℕ → Decision
-sectorLocked g r f = started r (O.LockSector (sectorOf (pageAt g (addressAt f 4))))
+sectorLocked g r f = started r (O.LockSector (sectorOf g (pageAt g (addressAt f 4))))
 
 -- (6.9) a 9B's data
 unfoldable pub securityData : List ℕ → Data64
@@ -88,20 +88,20 @@ rowDecided g r f page start lead E.ReadPage = decided r (A.ReadPage page start) 
 rowDecided g r f page start lead E.ReadArray = decided r (A.ReadArray (pageStart g page + start)) lead
 rowDecided g r f page start lead (E.ReadBuffer b) = decided r (A.ReadBuffer b start) lead
 rowDecided g r f page start lead (E.WriteBuffer b) = decided r (A.WriteBuffer b start) lead
-rowDecided g r f page start lead (E.Program b) = startedOn r page (O.Program b page)
-rowDecided g r f page start lead (E.ProgramOver b) = startedOn r page (O.ProgramOver b page)
-rowDecided g r f page start lead (E.ProgramThrough b) = programmedThrough r b page start lead
-rowDecided g r f page start lead E.ErasePage = startedOn r page (O.ErasePage page)
-rowDecided g r f page start lead E.EraseBlock = startedOn r page (O.EraseBlock (page / 8))
-rowDecided g r f page start lead E.EraseSector = startedOn r page (O.EraseSector (sectorOf page))
+rowDecided g r f page start lead (E.Program b) = startedOn g r page (O.Program b page)
+rowDecided g r f page start lead (E.ProgramOver b) = startedOn g r page (O.ProgramOver b page)
+rowDecided g r f page start lead (E.ProgramThrough b) = programmedThrough g r b page start lead
+rowDecided g r f page start lead E.ErasePage = startedOn g r page (O.ErasePage page)
+rowDecided g r f page start lead E.EraseBlock = startedOn g r page (O.EraseBlock (page / 8))
+rowDecided g r f page start lead E.EraseSector = startedOn g r page (O.EraseSector (sectorOf g page))
 rowDecided g r f page start lead E.EraseChip = started r (O.EraseChip (unsealedSet g r))
 rowDecided g r f page start lead (E.Transfer b) = started r (O.Transfer b page)
 rowDecided g r f page start lead (E.Compare b) = started r (O.Compare b page)
-rowDecided g r f page start lead (E.Rewrite b) = startedOn r page (O.Rewrite b page)
+rowDecided g r f page start lead (E.Rewrite b) = startedOn g r page (O.Rewrite b page)
 rowDecided g r f page start lead E.ProtectOn = decided (withProtect r true) A.Silent 0
 rowDecided g r f page start lead E.ProtectOff = protectOff r
 rowDecided g r f page start lead E.EraseProtection = protectionErased r
-rowDecided g r f page start lead E.ProgramProtection = protectionProgrammed r f
+rowDecided g r f page start lead E.ProgramProtection = protectionProgrammed g r f
 rowDecided g r f page start lead E.LockSector = sectorLocked g r f
 rowDecided g r f page start lead E.ProgramSecurity = securityProgrammed r f
 rowDecided g r f page start lead E.ReadProtection = decided r A.ReadProtection lead

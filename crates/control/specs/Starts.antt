@@ -7,7 +7,7 @@ use mathlib.Core.Bool.{true, false}
 use mathlib.Core.List.{List}
 use lib.ListN.{length}
 use Rattle.geometry.specs.declared.Geometry.{Geometry}
-use Rattle.geometry.specs.Parts.{pageAt}
+use Rattle.geometry.specs.Parts.{pageAt, registerRoom}
 use Rattle.geometry.specs.Sectors.{sectorOf}
 use Rattle.commands.specs.declared.Buffer.{Buffer}
 use Rattle.registers.specs.declared.Operation.{Operation}
@@ -22,7 +22,7 @@ Ready r = (r .operation ≡ O.Idle) × (r .deep ≡ false)
 
 -- the sector of the page that the address names is not sealed
 abbrev pub Open : Geometry → Registers → ℕ → Type 0
-Open g r address = sealed r (sectorOf (pageAt g address)) ≡ false
+Open g r address = sealed g r (sectorOf g (pageAt g address)) ≡ false
 
 -- the operations that a frame f may start on these registers
 pub data Starts (g : Geometry) (r : Registers) (f : List ℕ) : Operation → Type 0 where
@@ -33,11 +33,11 @@ pub data Starts (g : Geometry) (r : Registers) (f : List ℕ) : Operation → Ty
   rewrites : (b : Buffer) (address : ℕ) → Open g r address → Starts g r f (O.Rewrite b (pageAt g address))
   erases-page : (address : ℕ) → Open g r address → Starts g r f (O.ErasePage (pageAt g address))
   erases-block : (address : ℕ) → Open g r address → Starts g r f (O.EraseBlock (pageAt g address / 8))
-  erases-sector : (address : ℕ) → Open g r address → Starts g r f (O.EraseSector (sectorOf (pageAt g address)))
+  erases-sector : (address : ℕ) → Open g r address → Starts g r f (O.EraseSector (sectorOf g (pageAt g address)))
   erases-chip : Starts g r f (O.EraseChip (unsealedSet g r))
   erases-protection : r .wp ≡ true → Starts g r f O.EraseProtection
-  programs-protection : r .wp ≡ true → Starts g r f (O.ProgramProtection (protectionData f))
-  locks-sector : (address : ℕ) → Starts g r f (O.LockSector (sectorOf (pageAt g address)))
+  programs-protection : r .wp ≡ true → Starts g r f (O.ProgramProtection (protectionData g f))
+  locks-sector : (address : ℕ) → Starts g r f (O.LockSector (sectorOf g (pageAt g address)))
   programs-security : r .used ≡ false → Starts g r f (O.ProgramSecurity (securityData f))
 
 -- what every frame leaves as it is: the registers n after it have of r what only a busy end, a cut or a pin move changes
@@ -51,7 +51,7 @@ pub record Fixed (r n : Registers) : Type 0 where
 
 -- (2.3) how many bytes each register has
 pub record Lengths (r : Registers) : Type 0 where
-  pub protection : length (r .protection) ≡ 16
-  pub lockdown : length (r .lockdown) ≡ 16
+  pub protection : length (r .protection) ≡ registerRoom
+  pub lockdown : length (r .lockdown) ≡ registerRoom
   pub user : length (r .user) ≡ 64
   pub factory : length (r .factory) ≡ 64

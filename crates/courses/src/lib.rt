@@ -2,8 +2,10 @@
 // Internal to this repository: a caller here meets each `requires`; no entry point is in this crate.
 ghost use mathlib.Core.Path.{_≡_};
 ghost use mathlib.Core.Bool.{cond, _&&_, _||_};
-ghost use Prim.Native.Nat.{_<_};
-ghost use Rattle.registers.specs.Protection.{hasBits};
+ghost use Prim.Native.Nat.{_<_, _+_};
+ghost use Rattle.geometry.specs.declared.Geometry.{Geometry};
+ghost use Rattle.geometry.specs.Parts.{registerRoom};
+ghost use Rattle.registers.specs.Protection.{hasBits, Roomed};
 ghost use Rattle.state.specs.declared.Answer.{Answer};
 ghost use Rattle.slots.specs.declared.Stage.{Stage};
 ghost use Rattle.slots.specs.declared.Step.{Step};
@@ -83,8 +85,8 @@ fn poll(c: Course, last: bool, limit: usize, status: u8) -> Course
 
 // Whether the sector's bits in a reply to 32 or 35 are not all 0.
 fn has_bits(reply: &[u8], sector: usize) -> bool
-    requires { ⌜ sector < 17 ⌝ }
-    ensures { λ r. ⌜ r ≡ hasBits (registerIn (now (reply .entry))) sector ⌝ }
+    requires { ⌜ sector < registerRoom + 1 ⌝ }
+    ensures { λ r. ⌜ ((g : Geometry) → Roomed g → r ≡ hasBits g (registerIn g (now (reply .entry))) sector) ⌝ }
 {
     match sector {
         0 => slices::byte_or(reply, 4, 255) / 64 != 0,
@@ -126,8 +128,8 @@ pub fn take_course(
     sector: usize,
     reply: &[u8],
 ) -> Course
-    requires { ⌜ (c .place < 1000) × (sector < 17) ⌝ }
-    ensures { λ r. ⌜ ((next : Step) → isEnd next ≡ last → r ≡ courseBy x next limit c (heard x sector (now (reply .entry)))) ⌝ }
+    requires { ⌜ (c .place < 1000) × (sector < registerRoom + 1) ⌝ }
+    ensures { λ r. ⌜ ((g : Geometry) → Roomed g → (next : Step) → isEnd next ≡ last → r ≡ courseBy x next limit c (heard g x sector (now (reply .entry)))) ⌝ }
 {
     match x {
         Step::Wait => poll(c, last, limit, slices::byte_or(reply, 1, 255)),

@@ -14,7 +14,7 @@ use Rattle.geometry.specs.declared.Part.the-variants.{Known}
 use Rattle.geometry.specs.Parts.{partOf}
 use Rattle.slots.specs.declared.Driver.{Driver}
 use Rattle.slots.specs.declared.Step.{Step}
-use Rattle.slots.specs.Driver.{shapeOf, frameOf, isEnded}
+use Rattle.slots.specs.Driver.{shapeOf, frameOf, isEnded, frameRoom}
 use Rattle.slots.proofs.Accepted.{picked}
 use Rattle.slots.proofs.Driven.{other}
 use Rattle.records.proofs.Parts.{part-pages}
@@ -49,13 +49,13 @@ module _ (d : Driver) (payload staged : List ℕ) where
 
   -- ---- the frame's length
 
-  pub frame-fits : (g : Geometry) → partOf (d .array) ≡ Known g → length (frameBy (Known g) d payload staged) ≤ 272
+  pub frame-fits : (g : Geometry) → partOf (d .array) ≡ Known g → length (frameBy (Known g) d payload staged) ≤ frameRoom
   frame-fits g p = go (isEnded (stageBy (Known g) d)) refl
     where
-      go : (b : Bool) → isEnded (stageBy (Known g) d) ≡ b → length (frameBy (Known g) d payload staged) ≤ 272
+      go : (b : Bool) → isEnded (stageBy (Known g) d) ≡ b → length (frameBy (Known g) d payload staged) ≤ frameRoom
       go true e = omega (arith, ap (λ (l : List ℕ). length l) (ended-frame g e))
       go false e =
-          omega (arith, ap (λ (l : List ℕ). length l) (going-frame g e), frame-length g (d .kind) (holdingOf d payload staged) (stepIn g d), shape-fits g (stepIn g d) (part-pages (d .array) g p .most))
+          omega (arith, ap (λ (l : List ℕ). length l) (going-frame g e), frame-length g (d .kind) (holdingOf d payload staged) (stepIn g d), shape-fits g (stepIn g d) (part-pages (d .array) g p .most) (omega (arith, part-pages (d .array) g p .full)))
 
   -- the buffer after a frame by the array's part
   pub framed : (xs : List ℕ) {p : Part} {n : ℕ} {ys : List ℕ} → p ≡ partOf (d .array) → length (frameBy p d payload staged) ≤ length xs

@@ -4,9 +4,10 @@
 // None has a `requires`: any state, any reply and any lengths are taken. A state that no call comes to counts as ended.
 ghost use mathlib.Core.Path.{_≡_};
 ghost use lib.ListN.{length, take};
+ghost use Rattle.slots.specs.Driver.{frameRoom};
 ghost use Rattle.slices.specs.Lists.{over};
 ghost use Rattle.geometry.specs.declared.Geometry.{Geometry};
-ghost use Rattle.geometry.specs.Parts.{partOf};
+ghost use Rattle.geometry.specs.Parts.{partOf, slotRoom};
 ghost use Rattle.worlds.specs.Step.{frameBy, frameIn, pollBy, pollIn, tookBy, tookIn, stagedBy, stagedIn, nextIn};
 use geometry::Geometry;
 use geometry::Part;
@@ -30,7 +31,7 @@ pub struct Next {
 
 // The frame of a state on a known part, at the beginning of a buffer.
 fn write_on(g: Geometry, d: Driver, payload: &[u8], staged: &[u8], frame: &mut [u8]) -> usize
-    requires { ⌜ (partOf (d .array) ≡ Part.Known g) × (length (now staged) ≡ 2112) × (length (now frame) ≡ 272) ⌝ }
+    requires { ⌜ (partOf (d .array) ≡ Part.Known g) × (length (now staged) ≡ slotRoom) × (length (now frame) ≡ frameRoom) ⌝ }
     ensures { λ r. ⌜ (r ≡ length (frameBy (Part.Known g) d (now (payload .entry)) (now (staged .entry)))) × (now (frame .exit) ≡ over (frameBy (Part.Known g) d (now (payload .entry)) (now (staged .entry))) (now (frame .entry))) ⌝ }
 {
     if states::is_over_on(g, d) {
@@ -81,7 +82,7 @@ pub fn is_poll(d: Driver) -> bool
 // ---- replies
 
 fn take_on(g: Geometry, d: Driver, payload: &[u8], reply: &[u8], staged: &mut [u8]) -> Driver
-    requires { ⌜ (partOf (d .array) ≡ Part.Known g) × (length (now staged) ≡ 2112) ⌝ }
+    requires { ⌜ (partOf (d .array) ≡ Part.Known g) × (length (now staged) ≡ slotRoom) ⌝ }
     ensures { λ r. ⌜ (r ≡ tookBy (Part.Known g) d (now (payload .entry)) (now (staged .entry)) (now (reply .entry))) × (now (staged .exit) ≡ stagedBy (Part.Known g) d (now (payload .entry)) (now (staged .entry)) (now (reply .entry))) ⌝ }
 {
     let s = states::stage(Part::Known(g), d);

@@ -74,7 +74,7 @@ fits-took d payload staged reply h = go (partOf (d .array)) refl
         subst Fits (sym (took-ended g d payload staged reply p e))
         (record { array = h .array; slot = h .slot; limit = h .limit; place = h .place; left = h .left; step = h .step })
     on g p false e =
-        let c = after-short g d (heard (stepIn g d) _ reply) (going-facts g d e .1) h in
+        let c = after-short g d (heard g (stepIn g d) _ reply) (going-facts g d e .1) h in
         subst Fits (sym (took-going g d payload staged reply p e))
         (record { array = h .array; slot = h .slot; limit = h .limit; place = h .place; left = c .1; step = c .0 })
 

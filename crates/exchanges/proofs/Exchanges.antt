@@ -39,7 +39,7 @@ form {held} {o} w e =
 module _ (g : Geometry) (b : ℕ) (s : State) where
   -- as the byte is tested
   abbrev by : Bool → State
-  by d = record { registers = cond d (completed (s .registers)) (s .registers); memory = cond d (completedMemory g (s .registers .operation) (s .memory)) (s .memory) }
+  by d = record { registers = cond d (completed g (s .registers)) (s .registers); memory = cond d (completedMemory g (s .registers .operation) (s .memory)) (s .memory) }
 
   -- any but 0
   pub other-byte : (b ≡ 0 → ⊥) → s ≡ stateAfter g b s
@@ -50,7 +50,7 @@ module _ (g : Geometry) (b : ℕ) (s : State) where
   pub zero-idle : b ≡ 0 → s .registers .operation ≡ Idle → s ≡ stateAfter g b s
   unfolding stateAfter registersAfter memoryAfter
   zero-idle z e =
-      (λ i. record { registers = sym (completed-idle (s .registers) e) i; memory = sym (idle-memory g (s .registers .operation) (s .memory) e) i })
+      (λ i. record { registers = sym (completed-idle g (s .registers) e) i; memory = sym (idle-memory g (s .registers .operation) (s .memory) e) i })
       ∙ ap (λ (d : Bool). by d) (sym (eq-eqb b 0 z))
 
   zero-ends : b ≡ 0 → endedState g s ≡ stateAfter g b s

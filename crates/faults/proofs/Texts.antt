@@ -11,8 +11,8 @@ use Rattle.slices.proofs.Laws.{splice-append, length-splice}
 use Rattle.words.specs.Letters.{bytes}
 use Rattle.words.specs.Words.{partOf}
 use Rattle.words.specs.declared.Span.{Span}
-use Rattle.faults.specs.Parts.{texts, starts, partAt, partText, keyPart, namePart, subjectPart, missingPart, overPart, saidPart}
-use Rattle.faults.specs.Messages.{Put, keyText, nameText, missingText, overText, textOf}
+use Rattle.faults.specs.Parts.{texts, starts, partAt, partText, keyPart, namePart, subjectPart, overPart, saidPart}
+use Rattle.faults.specs.Messages.{Put, keyText, nameText, overText, textOf}
 use Rattle.words.specs.declared.Key.{Key}
 use Rattle.words.specs.declared.Key.the-variants as Key
 use Rattle.faults.specs.declared.Name.{Name}
@@ -37,18 +37,8 @@ name-short Name.Place = omega arith
 name-short Name.Hex = omega arith
 name-short Name.Seed = omega arith
 name-short Name.Level = omega arith
-name-short Name.Pages = omega arith
+name-short Name.Part = omega arith
 name-short (Name.Option k) = key-short k
-
-missing-short : (n : Name) → length (missingText n) ≤ 48
-unfolding missingText
-missing-short Name.Slot = omega arith
-missing-short Name.Place = omega arith
-missing-short Name.Hex = omega arith
-missing-short Name.Seed = omega arith
-missing-short Name.Level = omega arith
-missing-short Name.Pages = omega arith
-missing-short (Name.Option k) = omega arith
 
 over-short : (k : Key) → length (overText k) ≤ 48
 unfolding overText
@@ -68,14 +58,14 @@ unfolding textOf
 text-short Fault.TooLong = omega arith
 text-short Fault.NoCommand = omega arith
 text-short Fault.UnknownCommand = omega arith
-text-short (Fault.Missing n) = two-short (nameText n) (missingText n) (name-short n) (missing-short n)
+text-short (Fault.Missing n) = two-short (nameText n) (bytes " is missing") (name-short n) (omega arith)
 text-short (Fault.NotNumber n) = two-short (nameText n) (bytes " is not a number") (name-short n) (omega arith)
 text-short (Fault.TooLarge n) = two-short (nameText n) (bytes " is too large") (name-short n) (omega arith)
 text-short (Fault.NotHex n) =
     two-short (nameText n) (bytes " has a character that is not a hexadecimal digit") (name-short n) (omega arith)
 text-short (Fault.Odd n) = two-short (nameText n) (bytes " has an odd number of digits") (name-short n) (omega arith)
 text-short Fault.NotLevel = omega arith
-text-short Fault.NotPages = omega arith
+text-short Fault.NotPart = omega arith
 text-short Fault.UnknownOption = omega arith
 text-short Fault.TooManyWords = omega arith
 text-short Fault.Twice = omega arith
@@ -108,18 +98,8 @@ name-told Name.Place = refl
 name-told Name.Hex = refl
 name-told Name.Seed = refl
 name-told Name.Level = refl
-name-told Name.Pages = refl
+name-told Name.Part = refl
 name-told (Name.Option k) = key-told k
-
-missing-told : (n : Name) → partText (missingPart n) ≡ missingText n
-unfolding missingText partText partAt texts starts
-missing-told Name.Slot = refl
-missing-told Name.Place = refl
-missing-told Name.Hex = refl
-missing-told Name.Seed = refl
-missing-told Name.Level = refl
-missing-told Name.Pages = refl
-missing-told (Name.Option k) = refl
 
 over-told : (k : Key) → partText (overPart k) ≡ overText k
 unfolding overText partText partAt texts starts
@@ -136,13 +116,13 @@ unfolding textOf partText partAt texts starts
 told Fault.TooLong = refl
 told Fault.NoCommand = refl
 told Fault.UnknownCommand = refl
-told (Fault.Missing n) = ap₂ _++_ (name-told n) (missing-told n)
+told (Fault.Missing n) = ap (λ (l : List ℕ). l ++ partText (saidPart (Fault.Missing n))) (name-told n)
 told (Fault.NotNumber n) = ap (λ (l : List ℕ). l ++ partText (saidPart (Fault.NotNumber n))) (name-told n)
 told (Fault.TooLarge n) = ap (λ (l : List ℕ). l ++ partText (saidPart (Fault.TooLarge n))) (name-told n)
 told (Fault.NotHex n) = ap (λ (l : List ℕ). l ++ partText (saidPart (Fault.NotHex n))) (name-told n)
 told (Fault.Odd n) = ap (λ (l : List ℕ). l ++ partText (saidPart (Fault.Odd n))) (name-told n)
 told Fault.NotLevel = refl
-told Fault.NotPages = refl
+told Fault.NotPart = refl
 told Fault.UnknownOption = refl
 told Fault.TooManyWords = refl
 told Fault.Twice = refl

@@ -30,18 +30,8 @@ nameText Name.Place = bytes "PLACE"
 nameText Name.Hex = bytes "HEX"
 nameText Name.Seed = bytes "SEED"
 nameText Name.Level = bytes "level"
-nameText Name.Pages = bytes "pages"
+nameText Name.Part = bytes "part"
 nameText (Name.Option k) = keyText k
-
--- ` is missing`; of pages ` are missing`
-unfoldable pub missingText : Name → List ℕ
-missingText Name.Slot = bytes " is missing"
-missingText Name.Place = bytes " is missing"
-missingText Name.Hex = bytes " is missing"
-missingText Name.Seed = bytes " is missing"
-missingText Name.Level = bytes " is missing"
-missingText Name.Pages = bytes " are missing"
-missingText (Name.Option k) = bytes " is missing"
 
 -- ` is over 65536`; of junklen ` is over 1114112`
 unfoldable pub overText : Key → List ℕ
@@ -58,13 +48,13 @@ unfoldable pub textOf : Fault → List ℕ
 textOf Fault.TooLong = bytes "longer than 8192 characters"
 textOf Fault.NoCommand = bytes "no command"
 textOf Fault.UnknownCommand = bytes "unknown command"
-textOf (Fault.Missing n) = nameText n ++ missingText n
+textOf (Fault.Missing n) = nameText n ++ bytes " is missing"
 textOf (Fault.NotNumber n) = nameText n ++ bytes " is not a number"
 textOf (Fault.TooLarge n) = nameText n ++ bytes " is too large"
 textOf (Fault.NotHex n) = nameText n ++ bytes " has a character that is not a hexadecimal digit"
 textOf (Fault.Odd n) = nameText n ++ bytes " has an odd number of digits"
 textOf Fault.NotLevel = bytes "level is not 0 or 1"
-textOf Fault.NotPages = bytes "pages are not 128 or 4096"
+textOf Fault.NotPart = bytes "part is not 128, 4096, 128x256 or 4096x256"
 textOf Fault.UnknownOption = bytes "unknown option"
 textOf Fault.TooManyWords = bytes "too many words"
 textOf Fault.Twice = bytes "option given twice"

@@ -15,15 +15,15 @@ use Rattle.faults.specs.declared.Fault.the-variants as Fault
 
 -- the texts, one after the other
 unfoldable pub texts : List ℕ
-texts = bytes "SPLACEHEXSEEDlevelpagesbscriptjunkjunklenlogbufferreplylonger than 8192 charactersno commandunknown command is missing are missing is not a number is too large has a character that is not a hexadecimal digit has an odd number of digitslevel is not 0 or 1pages are not 128 or 4096unknown optiontoo many wordsoption given twice is over 65536 is over 1114112"
+texts = bytes "SPLACEHEXSEEDlevelpartbscriptjunkjunklenlogbufferreplylonger than 8192 charactersno commandunknown command is missing is not a number is too large has a character that is not a hexadecimal digit has an odd number of digitslevel is not 0 or 1part is not 128, 4096, 128x256 or 4096x256unknown optiontoo many wordsoption given twice is over 65536 is over 1114112"
 
 -- part i lies from entry i to entry i + 1
 unfoldable pub starts : List ℕ
-starts = 0 ∷ 0 ∷ 1 ∷ 6 ∷ 9 ∷ 13 ∷ 18 ∷ 23 ∷ 24 ∷ 30 ∷ 34 ∷ 41 ∷ 44 ∷ 50 ∷ 55 ∷ 82 ∷ 92 ∷ 107 ∷ 118 ∷ 130 ∷ 146 ∷ 159 ∷ 207 ∷ 235 ∷ 254 ∷ 279 ∷ 293 ∷ 307 ∷ 325 ∷ 339 ∷ 355 ∷ []
+starts = 0 ∷ 0 ∷ 1 ∷ 6 ∷ 9 ∷ 13 ∷ 18 ∷ 22 ∷ 23 ∷ 29 ∷ 33 ∷ 40 ∷ 43 ∷ 49 ∷ 54 ∷ 81 ∷ 91 ∷ 106 ∷ 117 ∷ 133 ∷ 146 ∷ 194 ∷ 222 ∷ 241 ∷ 283 ∷ 297 ∷ 311 ∷ 329 ∷ 343 ∷ 359 ∷ []
 
 -- where part i lies
 unfoldable pub partAt : ℕ → Span
-partAt i = record { start = min (getD starts i 0) (min (getD starts (i + 1) 0) 355); end = min (getD starts (i + 1) 0) 355 }
+partAt i = record { start = min (getD starts i 0) (min (getD starts (i + 1) 0) 359); end = min (getD starts (i + 1) 0) 359 }
 
 -- the name of an option
 abbrev pub keyPart : Key → ℕ
@@ -42,7 +42,7 @@ namePart Name.Place = 2
 namePart Name.Hex = 3
 namePart Name.Seed = 4
 namePart Name.Level = 5
-namePart Name.Pages = 6
+namePart Name.Part = 6
 namePart (Name.Option k) = keyPart k
 
 -- what the fault lies in; part 0 is empty
@@ -56,47 +56,37 @@ subjectPart (Fault.TooLarge n) = namePart n
 subjectPart (Fault.NotHex n) = namePart n
 subjectPart (Fault.Odd n) = namePart n
 subjectPart Fault.NotLevel = 0
-subjectPart Fault.NotPages = 0
+subjectPart Fault.NotPart = 0
 subjectPart Fault.UnknownOption = 0
 subjectPart Fault.TooManyWords = 0
 subjectPart Fault.Twice = 0
 subjectPart (Fault.Over k) = keyPart k
 
--- what is missing
-abbrev pub missingPart : Name → ℕ
-missingPart Name.Slot = 17
-missingPart Name.Place = 17
-missingPart Name.Hex = 17
-missingPart Name.Seed = 17
-missingPart Name.Level = 17
-missingPart Name.Pages = 18
-missingPart (Name.Option k) = 17
-
 -- which room a length is over
 abbrev pub overPart : Key → ℕ
-overPart Key.Limit = 28
-overPart Key.Script = 28
-overPart Key.Seed = 28
-overPart Key.Junk = 29
-overPart Key.Log = 28
-overPart Key.Buffer = 28
-overPart Key.Reply = 28
+overPart Key.Limit = 27
+overPart Key.Script = 27
+overPart Key.Seed = 27
+overPart Key.Junk = 28
+overPart Key.Log = 27
+overPart Key.Buffer = 27
+overPart Key.Reply = 27
 
 -- what is wrong
 abbrev pub saidPart : Fault → ℕ
 saidPart Fault.TooLong = 14
 saidPart Fault.NoCommand = 15
 saidPart Fault.UnknownCommand = 16
-saidPart (Fault.Missing n) = missingPart n
-saidPart (Fault.NotNumber n) = 19
-saidPart (Fault.TooLarge n) = 20
-saidPart (Fault.NotHex n) = 21
-saidPart (Fault.Odd n) = 22
-saidPart Fault.NotLevel = 23
-saidPart Fault.NotPages = 24
-saidPart Fault.UnknownOption = 25
-saidPart Fault.TooManyWords = 26
-saidPart Fault.Twice = 27
+saidPart (Fault.Missing n) = 17
+saidPart (Fault.NotNumber n) = 18
+saidPart (Fault.TooLarge n) = 19
+saidPart (Fault.NotHex n) = 20
+saidPart (Fault.Odd n) = 21
+saidPart Fault.NotLevel = 22
+saidPart Fault.NotPart = 23
+saidPart Fault.UnknownOption = 24
+saidPart Fault.TooManyWords = 25
+saidPart Fault.Twice = 26
 saidPart (Fault.Over k) = overPart k
 
 -- the bytes of part i

@@ -4,7 +4,7 @@ ghost use Prim.Native.Nat.{_+_, _≤_, _<_};
 ghost use lib.ListN.{length, getD};
 ghost use Rattle.words.specs.Bounds.{Within};
 ghost use Rattle.faults.specs.Messages.{Put, textOf};
-ghost use Rattle.faults.specs.Parts.{texts, starts, keyPart, namePart, subjectPart, missingPart, overPart, saidPart, partAt};
+ghost use Rattle.faults.specs.Parts.{texts, starts, keyPart, namePart, subjectPart, overPart, saidPart, partAt};
 use words::Key;
 use words::Span;
 
@@ -15,7 +15,7 @@ pub enum Name {
     Hex,
     Seed,
     Level,
-    Pages,
+    Part,
     Option(Key),
 }
 
@@ -30,7 +30,7 @@ pub enum Fault {
     NotHex(Name),
     Odd(Name),
     NotLevel,
-    NotPages,
+    NotPart,
     UnknownOption,
     TooManyWords,
     Twice,
@@ -38,46 +38,45 @@ pub enum Fault {
 }
 
 // What the messages are made of, one after the other: names, then what is said of them.
-const TEXTS: [u8; 355] =
-    *b"SPLACEHEXSEEDlevelpagesbscriptjunkjunklenlogbufferreplylonger than 8192 charactersno commandunknown command is missing are missing is not a number is too large has a character that is not a hexadecimal digit has an odd number of digitslevel is not 0 or 1pages are not 128 or 4096unknown optiontoo many wordsoption given twice is over 65536 is over 1114112";
+const TEXTS: [u8; 359] =
+    *b"SPLACEHEXSEEDlevelpartbscriptjunkjunklenlogbufferreplylonger than 8192 charactersno commandunknown command is missing is not a number is too large has a character that is not a hexadecimal digit has an odd number of digitslevel is not 0 or 1part is not 128, 4096, 128x256 or 4096x256unknown optiontoo many wordsoption given twice is over 65536 is over 1114112";
 
 // Part i lies from entry i to entry i + 1. Part 0 is empty.
-const STARTS: [usize; 31] = [
+const STARTS: [usize; 30] = [
     0,
     0, // 1: S
     1, // 2: PLACE
     6, // 3: HEX
     9, // 4: SEED
     13, // 5: level
-    18, // 6: pages
-    23, // 7: b
-    24, // 8: script
-    30, // 9: junk
-    34, // 10: junklen
-    41, // 11: log
-    44, // 12: buffer
-    50, // 13: reply
-    55, // 14: longer than 8192 characters
-    82, // 15: no command
-    92, // 16: unknown command
-    107, // 17: is missing
-    118, // 18: are missing
-    130, // 19: is not a number
-    146, // 20: is too large
-    159, // 21: has a character that is not a hexadecimal digit
-    207, // 22: has an odd number of digits
-    235, // 23: level is not 0 or 1
-    254, // 24: pages are not 128 or 4096
-    279, // 25: unknown option
-    293, // 26: too many words
-    307, // 27: option given twice
-    325, // 28: is over 65536
-    339, // 29: is over 1114112
-    355,
+    18, // 6: part
+    22, // 7: b
+    23, // 8: script
+    29, // 9: junk
+    33, // 10: junklen
+    40, // 11: log
+    43, // 12: buffer
+    49, // 13: reply
+    54, // 14: longer than 8192 characters
+    81, // 15: no command
+    91, // 16: unknown command
+    106, // 17: is missing
+    117, // 18: is not a number
+    133, // 19: is too large
+    146, // 20: has a character that is not a hexadecimal digit
+    194, // 21: has an odd number of digits
+    222, // 22: level is not 0 or 1
+    241, // 23: part is not 128, 4096, 128x256 or 4096x256
+    283, // 24: unknown option
+    297, // 25: too many words
+    311, // 26: option given twice
+    329, // 27: is over 65536
+    343, // 28: is over 1114112
+    359,
 ];
 
 fn key_part(k: Key) -> usize
-    ensures { λ r. ⌜ (r ≡ keyPart k) × (r < 30) ⌝ }
+    ensures { λ r. ⌜ (r ≡ keyPart k) × (r < 29) ⌝ }
 {
     match k {
         Key::Limit => 7,
@@ -91,7 +90,7 @@ fn key_part(k: Key) -> usize
 }
 
 fn name_part(n: Name) -> usize
-    ensures { λ r. ⌜ (r ≡ namePart n) × (r < 30) ⌝ }
+    ensures { λ r. ⌜ (r ≡ namePart n) × (r < 29) ⌝ }
 {
     match n {
         Name::Slot => 1,
@@ -99,14 +98,14 @@ fn name_part(n: Name) -> usize
         Name::Hex => 3,
         Name::Seed => 4,
         Name::Level => 5,
-        Name::Pages => 6,
+        Name::Part => 6,
         Name::Option(k) => key_part(k),
     }
 }
 
 // The part that names what the fault lies in.
 fn subject_part(f: Fault) -> usize
-    ensures { λ r. ⌜ (r ≡ subjectPart f) × (r < 30) ⌝ }
+    ensures { λ r. ⌜ (r ≡ subjectPart f) × (r < 29) ⌝ }
 {
     match f {
         Fault::TooLong => 0,
@@ -118,7 +117,7 @@ fn subject_part(f: Fault) -> usize
         Fault::NotHex(n) => name_part(n),
         Fault::Odd(n) => name_part(n),
         Fault::NotLevel => 0,
-        Fault::NotPages => 0,
+        Fault::NotPart => 0,
         Fault::UnknownOption => 0,
         Fault::TooManyWords => 0,
         Fault::Twice => 0,
@@ -126,58 +125,43 @@ fn subject_part(f: Fault) -> usize
     }
 }
 
-// ` are missing` of pages, ` is missing` of the others.
-fn missing_part(n: Name) -> usize
-    ensures { λ r. ⌜ (r ≡ missingPart n) × (r < 30) ⌝ }
-{
-    match n {
-        Name::Slot => 17,
-        Name::Place => 17,
-        Name::Hex => 17,
-        Name::Seed => 17,
-        Name::Level => 17,
-        Name::Pages => 18,
-        Name::Option(_) => 17,
-    }
-}
-
 fn over_part(k: Key) -> usize
-    ensures { λ r. ⌜ (r ≡ overPart k) × (r < 30) ⌝ }
+    ensures { λ r. ⌜ (r ≡ overPart k) × (r < 29) ⌝ }
 {
     match k {
-        Key::Limit => 28,
-        Key::Script => 28,
-        Key::Seed => 28,
-        Key::Junk => 29,
-        Key::Log => 28,
-        Key::Buffer => 28,
-        Key::Reply => 28,
+        Key::Limit => 27,
+        Key::Script => 27,
+        Key::Seed => 27,
+        Key::Junk => 28,
+        Key::Log => 27,
+        Key::Buffer => 27,
+        Key::Reply => 27,
     }
 }
 
 // The part that says what is wrong.
 fn said_part(f: Fault) -> usize
-    ensures { λ r. ⌜ (r ≡ saidPart f) × (r < 30) ⌝ }
+    ensures { λ r. ⌜ (r ≡ saidPart f) × (r < 29) ⌝ }
 {
     match f {
         Fault::TooLong => 14,
         Fault::NoCommand => 15,
         Fault::UnknownCommand => 16,
-        Fault::Missing(n) => missing_part(n),
-        Fault::NotNumber(_) => 19,
-        Fault::TooLarge(_) => 20,
-        Fault::NotHex(_) => 21,
-        Fault::Odd(_) => 22,
-        Fault::NotLevel => 23,
-        Fault::NotPages => 24,
-        Fault::UnknownOption => 25,
-        Fault::TooManyWords => 26,
-        Fault::Twice => 27,
+        Fault::Missing(_) => 17,
+        Fault::NotNumber(_) => 18,
+        Fault::TooLarge(_) => 19,
+        Fault::NotHex(_) => 20,
+        Fault::Odd(_) => 21,
+        Fault::NotLevel => 22,
+        Fault::NotPart => 23,
+        Fault::UnknownOption => 24,
+        Fault::TooManyWords => 25,
+        Fault::Twice => 26,
         Fault::Over(k) => over_part(k),
     }
 }
 
-fn text_table() -> [u8; 355]
+fn text_table() -> [u8; 359]
     ensures { λ r. ⌜ r ≡ texts ⌝ }
 {
     TEXTS
@@ -185,7 +169,7 @@ fn text_table() -> [u8; 355]
 
 // Where part `i` begins.
 fn start_of(i: usize) -> usize
-    requires { ⌜ i < 31 ⌝ }
+    requires { ⌜ i < 30 ⌝ }
     ensures { λ r. ⌜ r ≡ getD starts i 0 ⌝ }
 {
     STARTS[i]
@@ -193,10 +177,10 @@ fn start_of(i: usize) -> usize
 
 // Where part `i` lies in the table.
 fn part(i: usize) -> Span
-    requires { ⌜ i < 30 ⌝ }
-    ensures { λ r. ⌜ Within 355 r × (r ≡ partAt i) ⌝ }
+    requires { ⌜ i < 29 ⌝ }
+    ensures { λ r. ⌜ Within 359 r × (r ≡ partAt i) ⌝ }
 {
-    let end = numbers::lesser(start_of(i + 1), 355);
+    let end = numbers::lesser(start_of(i + 1), 359);
     let start = numbers::lesser(start_of(i), end);
     Span {
         start: start,

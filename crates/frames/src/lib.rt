@@ -1,12 +1,12 @@
-// A frame on a chip whose part is known: the reply, and what it does to the buffers. The buffers are lent as one slice of 528 bytes.
+// A frame on a chip whose part is known: the reply, and what it does to the buffers. The buffers are lent as one slice.
 ghost use mathlib.Core.Path.{_≡_};
 ghost use mathlib.Core.Bool.{cond};
 ghost use mathlib.Core.List.{_++_};
-ghost use Prim.Native.Nat.{_≤_, _<_};
+ghost use Prim.Native.Nat.{_*_, _≤_, _<_};
 ghost use lib.ListN.{length};
-ghost use Rattle.geometry.specs.Parts.{Sized};
+ghost use Rattle.geometry.specs.Parts.{Sized, pageRoom};
 ghost use Rattle.slices.specs.Lists.{over, splice, ringWrite};
-ghost use Rattle.registers.specs.Protection.{guarded};
+ghost use Rattle.registers.specs.Protection.{Roomed, registerOf, guarded};
 ghost use Rattle.control.specs.Names.{Names};
 ghost use Rattle.control.specs.Rulings.{WithMarks};
 ghost use Rattle.memory.specs.Replies.{replied, onceData, ringData};
@@ -41,10 +41,11 @@ fn bit(on: bool, value: u8) -> u8
     if on { value } else { 0 }
 }
 
-fn status(ready: bool, compare: bool, protect: bool) -> u8
-    ensures { λ r. ⌜ r ≡ statusOf ready compare protect ⌝ }
+fn status(g: Geometry, ready: bool, compare: bool, protect: bool) -> u8
+    ensures { λ r. ⌜ r ≡ statusOf g ready compare protect ⌝ }
 {
-    bit(ready, 0x80) + bit(compare, 0x40) + 0x24 + bit(protect, 0x02)
+    let binary = g.binary;
+    bit(ready, 0x80) + bit(compare, 0x40) + 0x24 + bit(protect, 0x02) + bit(binary, 0x01)
 }
 
 // ---- replies
@@ -57,7 +58,7 @@ fn reply_buffer(
     start: usize,
     reply: &mut [u8],
 )
-    requires { ⌜ (g .size ≤ 264) × (start < g .size) × (lead ≤ length (now reply)) × (length (now buffers) ≡ 528) ⌝ }
+    requires { ⌜ (g .size ≤ pageRoom) × (start < g .size) × (lead ≤ length (now reply)) × (length (now buffers) ≡ 2 * pageRoom) ⌝ }
     ensures { λ _. ⌜ now (reply .exit) ≡ replied (length (now (reply .entry))) lead (ringData (g .size) start (lent buffer (now (buffers .entry)))) ⌝ }
 {
     let a = state::buffer_start(buffer);
@@ -65,19 +66,19 @@ fn reply_buffer(
     memory::reply_ring(reply, lead, &buffers[a..e], g.size, start);
 }
 
-fn reply_status(m: Marks, compare: bool, lead: usize, reply: &mut [u8])
+fn reply_status(g: Geometry, m: Marks, compare: bool, lead: usize, reply: &mut [u8])
     requires { ⌜ lead ≤ length (now reply) ⌝ }
-    ensures { λ _. ⌜ WithMarks m (λ r. now (reply .exit) ≡ replied (length (now (reply .entry))) lead (λ _. statusOf (isIdle (r .operation)) compare (guarded r))) ⌝ }
+    ensures { λ _. ⌜ WithMarks m (λ r. now (reply .exit) ≡ replied (length (now (reply .entry))) lead (λ _. statusOf g (isIdle (r .operation)) compare (guarded r))) ⌝ }
 {
     let u = m.usage;
     let seals = m.seals;
-    let value = status(is_free(u), compare, registers::is_guarded(seals));
+    let value = status(g, is_free(u), compare, registers::is_guarded(seals));
     memory::reply_repeated(reply, lead, value);
 }
 
-fn reply_register(bytes: [u8; 16], lead: usize, reply: &mut [u8])
-    requires { ⌜ lead ≤ length (now reply) ⌝ }
-    ensures { λ _. ⌜ now (reply .exit) ≡ replied (length (now (reply .entry))) lead (onceData bytes) ⌝ }
+fn reply_register(g: Geometry, bytes: [u8; 16], lead: usize, reply: &mut [u8])
+    requires { ⌜ (Roomed g) × (lead ≤ length (now reply)) ⌝ }
+    ensures { λ _. ⌜ now (reply .exit) ≡ replied (length (now (reply .entry))) lead (onceData (registerOf g bytes)) ⌝ }
 {
     let b = bytes;
     memory::reply_once(reply, lead, &b);
@@ -103,7 +104,7 @@ pub fn respond(
     lead: usize,
     reply: &mut [u8],
 )
-    requires { ⌜ (Sized g (length (now array))) × (Names g a) × (lead ≤ length (now reply)) × (length (now buffers) ≡ 528) ⌝ }
+    requires { ⌜ (Sized g (length (now array))) × (Names g a) × (lead ≤ length (now reply)) × (length (now buffers) ≡ 2 * pageRoom) ⌝ }
     ensures { λ _. ⌜ WithMarks m (λ r. now (security .entry) ≡ r .user ++ r .factory → now (reply .exit) ≡ replied (length (now (reply .entry))) lead (dataOf g r (memoryIn (now (array .entry)) (now (buffers .entry)) compare) a)) ⌝ }
 {
     let seals = m.seals;
@@ -127,14 +128,14 @@ pub fn respond(
         Action::LoadSecurity { data: _ } => memory::reply_nothing(reply, lead),
         Action::ReadProtection => {
             let bytes = seals.protection;
-            reply_register(bytes, lead, reply)
+            reply_register(g, bytes, lead, reply)
         }
         Action::ReadLockdown => {
             let bytes = seals.lockdown;
-            reply_register(bytes, lead, reply)
+            reply_register(g, bytes, lead, reply)
         }
         Action::ReadSecurity => memory::reply_once(reply, lead, security),
-        Action::ReadStatus => reply_status(m, compare, lead, reply),
+        Action::ReadStatus => reply_status(g, m, compare, lead, reply),
         Action::ReadId => reply_identity(lead, reply),
     }
 }
@@ -142,7 +143,7 @@ pub fn respond(
 // ---- what a frame does to the buffers
 
 fn write_buffer(g: Geometry, buffers: &mut [u8], buffer: Buffer, start: usize, bytes: &[u8])
-    requires { ⌜ (g .size ≤ 264) × (start < g .size) × (length (now buffers) ≡ 528) ⌝ }
+    requires { ⌜ (g .size ≤ pageRoom) × (start < g .size) × (length (now buffers) ≡ 2 * pageRoom) ⌝ }
     ensures { λ _. ⌜ now (buffers .exit) ≡ splice (bufferStart buffer) (ringWrite (g .size) start (now (bytes .entry)) (lent buffer (now (buffers .entry)))) (now (buffers .entry)) ⌝ }
 {
     let a = state::buffer_start(buffer);
@@ -161,7 +162,7 @@ fn lay(buffers: &mut [u8], bytes: &[u8])
 
 // What a frame writes into a buffer; `bytes`: its data.
 pub fn act(g: Geometry, buffers: &mut [u8], a: Action, bytes: &[u8])
-    requires { ⌜ (g .size ≤ 264) × (Names g a) × (length (now buffers) ≡ 528) ⌝ }
+    requires { ⌜ (g .size ≤ pageRoom) × (Names g a) × (length (now buffers) ≡ 2 * pageRoom) ⌝ }
     ensures { λ _. ⌜ now (buffers .exit) ≡ actedOn g a (now (bytes .entry)) (now (buffers .entry)) ⌝ }
 {
     match a {

@@ -4,53 +4,76 @@ use Prim.Native.Nat.{ℕ, _+_, _*_, _/_, _%_, _≤_, _<_}
 use native.Mathlib.Nat.{zero-mul, add-mul, mul-le-mul, mul-le-mul-right, div-lt-iff-lt-mul}
 use native.Mathlib.Omega.{arith}
 use lib.Arith.{digits-div}
-use lib.Dec.{eqb, leb}
+use lib.Dec.{eqb, lit≤, lit<}
 use lib.ListN.{length, getD, length-take, length-drop}
 use lib.Seq.{getD-take, getD-drop}
 use mathlib.Core.Bool.{Bool, true, false, cond}
-use mathlib.Core.List.{List}
+use mathlib.Core.List.{List, [], _∷_}
 use mathlib.Core.Path.{_≡_, refl, subst, subst⁻¹}
-use borrow.Author.Tests.{eqb-true, leb-true}
+use borrow.Author.Tests.{eqb-true}
 use Rattle.geometry.specs.declared.Geometry.{Geometry}
+use Rattle.geometry.specs.declared.Part.{Part}
 use Rattle.geometry.specs.declared.Part.the-variants.{Known, Unknown}
-use Rattle.geometry.specs.Parts.{partOf, Sized, pageStart, pageOf}
+use Rattle.geometry.specs.Parts.{row, parts, partAmong, partOf, pageRoom, Sized, pageStart, pageOf}
 
--- what holds of each row of the table of parts holds of a known part
-pub known-case : (Q : ℕ → Geometry → Type 0) → Q 1081344 (record { size = 264; pages = 4096; field = 512 }) → Q 33792 (record { size = 264; pages = 128; field = 512 })
-    → (n : ℕ) (g : Geometry) → partOf n ≡ Known g → Q n g
-unfolding partOf
-known-case Q full short n g = go (eqb n 1081344) (eqb n 33792) refl refl
+-- what holds of each of a list of parts
+unfoldable pub Each : (Geometry → Type 0) → List Geometry → Type 0
+Each Q [] = Unit
+Each Q (g ∷ gs) = Q g × Each Q gs
+
+-- what holds of each row of the table of parts holds of a known part, whose array is its pages and nothing else
+pub known-case : (Q : Geometry → Type 0) → Each Q parts → (n : ℕ) (g : Geometry) → partOf n ≡ Known g → Q g × (n ≡ g .pages * g .size)
+unfolding partOf partAmong Each
+known-case Q each n g = go parts each
   where
-    of : ℕ → Geometry
-    of p = record { size = 264; pages = p; field = 512 }
+    at : (h : Geometry) (rest : Part) → Q h → (rest ≡ Known g → Q g × (n ≡ g .pages * g .size)) → (b : Bool) → eqb n (h .pages * h .size) ≡ b
+        → cond b (Known h) rest ≡ Known g → Q g × (n ≡ g .pages * g .size)
+    at h rest q others true e j =
+        let f : h ≡ g = cc in subst (λ (x : Geometry). Q x × (n ≡ x .pages * x .size)) f (q, eqb-true n (h .pages * h .size) e)
+    at h rest q others false e j = others j
 
-    at : (k p : ℕ) → n ≡ k → of p ≡ g → Q k (of p) → Q n g
-    at k p e f q = subst⁻¹ (λ (m : ℕ). Q m g) e (subst (Q k) f q)
+    go : (gs : List Geometry) → Each Q gs → partAmong gs n ≡ Known g → Q g × (n ≡ g .pages * g .size)
+    go [] q k = let z : _≡_ {A = ℕ} 0 1 = cc in absurd (omega arith)
+    go (h ∷ hs) q k = at h (partAmong hs n) (q .0) (go hs (q .1)) (eqb n (h .pages * h .size)) refl k
 
-    go : (b d : Bool) → eqb n 1081344 ≡ b → eqb n 33792 ≡ d → cond b (Known (of 4096)) (cond d (Known (of 128)) Unknown) ≡ Known g → Q n g
-    go true d e f k = at 1081344 4096 (eqb-true n 1081344 e) (cc) full
-    go false true e f k = at 33792 128 (eqb-true n 33792 f) (cc) short
-    go false false e f k = let z : _≡_ {A = ℕ} 0 1 = cc in absurd (omega arith)
+-- what the code and the laws go by holds of each row
+row-sized : (size pages field : ℕ) (binary : Bool) → 64 ≤ size → size ≤ pageRoom → 0 < field → field * pages ≤ 16777216 → 8 ≤ pages → pages % 8 ≡ 0 → pages ≤ 4096
+    → Sized (row size pages field binary) (pages * size)
+row-sized size pages field binary some most addressed named blocks eights few =
+    record {
+      some = some;
+      most = most;
+      addressed = addressed;
+      named = named;
+      blocks = blocks;
+      eights = eights;
+      few = few;
+      whole = refl;
+      wide = omega arith;
+      narrow = omega arith;
+      parted = refl;
+      held = omega arith;
+      short = omega arith;
+    }
 
--- a known part's array holds its pages and nothing else
+pub parts-sized : Each (λ g. Sized g (g .pages * g .size)) parts
+unfolding parts Each
+parts-sized = (
+  row-sized 264 4096 512 false (lit≤ tt) (lit≤ tt) (lit< tt) (lit≤ tt) (lit≤ tt) refl (lit≤ tt),
+  (
+    row-sized 264 128 512 false (lit≤ tt) (lit≤ tt) (lit< tt) (lit≤ tt) (lit≤ tt) refl (lit≤ tt),
+    (
+      row-sized 256 4096 256 true (lit≤ tt) (lit≤ tt) (lit< tt) (lit≤ tt) (lit≤ tt) refl (lit≤ tt),
+      (row-sized 256 128 256 true (lit≤ tt) (lit≤ tt) (lit< tt) (lit≤ tt) (lit≤ tt) refl (lit≤ tt), tt),
+    ),
+  ),
+)
+
 pub sized : (n : ℕ) (g : Geometry) → partOf n ≡ Known g → Sized g n
-sized = known-case (λ n g. Sized g n) (of 4096 refl refl refl) (of 128 refl refl refl)
-  where
-    of : (p : ℕ) → leb 8 p ≡ true → leb p 4096 ≡ true → p % 8 ≡ 0 → Sized (record { size = 264; pages = p; field = 512 }) (p * 264)
-    of p l m q =
-        record {
-          some = omega arith;
-          most = omega arith;
-          addressed = omega arith;
-          narrow = omega arith;
-          blocks = leb-true 8 p l;
-          eights = q;
-          few = leb-true p 4096 m;
-          whole = refl;
-        }
+sized n g e = let k = known-case (λ h. Sized h (h .pages * h .size)) parts-sized n g e in subst⁻¹ (Sized g) (k .1) (k .0)
 
 -- .. and is short enough for every index to fit
-pub sized-small : (g : Geometry) (n : ℕ) → Sized g n → g .pages * g .size ≤ 1081344
+pub sized-small : (g : Geometry) (n : ℕ) → Sized g n → g .pages * g .size ≤ 4096 * pageRoom
 sized-small g n z = mul-le-mul (z .few) (z .most)
 
 -- the geometry says this of the part itself

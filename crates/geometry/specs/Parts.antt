@@ -1,10 +1,9 @@
--- Parts, pages and addresses. Page size, page count and address field are parameters of every definition; a part is looked up from the array's
--- length. The numbers in parentheses are those of docs/SPECIFICATION.md, here and in every crate.
+-- Parts, pages and addresses. What differs from part to part is a parameter of every definition; a part is looked up from the array's length. The numbers in parentheses are those of docs/SPECIFICATION.md, here and in every crate.
 -- Assumes nothing.
 use Prim.Native.Nat.{ℕ, _+_, _*_, _/_, _%_, _<_, _≤_}
 use mathlib.Core.Path.{_≡_}
-use mathlib.Core.Bool.{Bool, cond, _&&_}
-use mathlib.Core.List.{List}
+use mathlib.Core.Bool.{Bool, true, false, cond, _&&_}
+use mathlib.Core.List.{List, [], _∷_}
 use lib.ListN.{getD, take, drop}
 use lib.Dec.{eqb, ltb, leb}
 use Rattle.geometry.specs.declared.Geometry.{Geometry}
@@ -12,11 +11,34 @@ use Rattle.geometry.specs.declared.Part.{Part}
 use Rattle.geometry.specs.declared.Part.the-variants.{Known, Unknown}
 use Rattle.geometry.specs.declared.Run.{Run}
 
--- (1.1) the part of an array of n bytes: bytes a page, pages, and how many address numbers fall to a page
+-- Aid: what the parts share: sectors of 256 pages, registers of 16 bytes
+abbrev pub row : ℕ → ℕ → ℕ → Bool → Geometry
+row size pages field binary = record { size = size; pages = pages; field = field; binary = binary; span = 256; register = 16 }
+
+-- (1.1) the parts: bytes a page, pages, how many address numbers fall to a page, and status bit 0
+unfoldable pub parts : List Geometry
+parts = row 264 4096 512 false ∷ row 264 128 512 false ∷ row 256 4096 256 true ∷ row 256 128 256 true ∷ []
+
+-- Aid: the first of them whose pages make n bytes
+unfoldable pub partAmong : List Geometry → ℕ → Part
+partAmong [] n = Unknown
+partAmong (g ∷ gs) n = cond (eqb n (g .pages * g .size)) (Known g) (partAmong gs n)
+
+-- (1.1) the part of an array of n bytes
 unfoldable pub partOf : ℕ → Part
-partOf n =
-    cond (eqb n 1081344) (Known (record { size = 264; pages = 4096; field = 512 }))
-    (cond (eqb n 33792) (Known (record { size = 264; pages = 128; field = 512 })) Unknown)
+partOf n = partAmong parts n
+
+-- Aid: the largest page among them: the room of each of the record's buffers
+abbrev pub pageRoom : ℕ
+pageRoom = 264
+
+-- Aid: the largest slot, of eight such pages
+abbrev pub slotRoom : ℕ
+slotRoom = 8 * pageRoom
+
+-- Aid: the room of the record's protection and lockdown registers
+abbrev pub registerRoom : ℕ
+registerRoom = 16
 
 -- (3.7) the address that three bytes of a frame from index a on make, the most significant first
 unfoldable pub addressAt : List ℕ → ℕ → ℕ
@@ -50,10 +72,15 @@ inRun r page = leb (r .first) page && ltb page (r .first + r .count)
 
 pub record Sized (g : Geometry) (n : ℕ) : Type 0 where
   pub some : 64 ≤ g .size
-  pub most : g .size ≤ 264
+  pub most : g .size ≤ pageRoom
   pub addressed : 0 < g .field
-  pub narrow : g .field ≤ 512
+  pub named : g .field * g .pages ≤ 16777216
   pub blocks : 8 ≤ g .pages
   pub eights : g .pages % 8 ≡ 0
   pub few : g .pages ≤ 4096
   pub whole : n ≡ g .pages * g .size
+  pub wide : 8 < g .span
+  pub narrow : g .span ≤ 4096
+  pub parted : g .span % 8 ≡ 0
+  pub held : g .pages ≤ g .register * g .span
+  pub short : g .register ≡ registerRoom

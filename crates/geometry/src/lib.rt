@@ -3,14 +3,18 @@
 ghost use mathlib.Core.Path.{_≡_};
 ghost use Prim.Native.Nat.{ℕ, _+_, _*_, _/_, _%_, _≤_, _<_, _^_};
 ghost use lib.ListN.{length};
-ghost use Rattle.geometry.specs.Parts.{partOf, Sized, addressAt, pageAt, byteAt, pageStart};
+ghost use Rattle.geometry.specs.Parts.{row, partOf, registerRoom, Sized, addressAt, pageAt, byteAt, pageStart};
 ghost use Rattle.geometry.specs.Sectors.{sectorOf, firstPage, endPage, sectorRun, sectorCount};
 
-// A part: bytes a page, pages, and how many numbers an address gives each page.
+// A part: bytes a page, pages, how many numbers an address gives each page, status bit 0, pages a sector, and bytes of the protection and
+// lockdown registers.
 pub struct Geometry {
     pub size: usize,
     pub pages: usize,
     pub field: usize,
+    pub binary: bool,
+    pub span: usize,
+    pub register: usize,
 }
 
 // What an array's length tells.
@@ -25,23 +29,34 @@ pub struct Run {
     pub count: usize,
 }
 
+fn row(size: usize, pages: usize, field: usize, binary: bool) -> Geometry
+    ensures { λ r. ⌜ r ≡ row size pages field binary ⌝ }
+{
+    Geometry {
+        size: size,
+        pages: pages,
+        field: field,
+        binary: binary,
+        span: 256,
+        register: 16,
+    }
+}
+
 // The part whose array has `length` bytes.
 pub fn part_of(length: usize) -> Part
     ensures { λ r. ⌜ r ≡ partOf length ⌝ }
 {
     if length == 1081344 {
-        return Part::Known(Geometry {
-            size: 264,
-            pages: 4096,
-            field: 512,
-        });
+        return Part::Known(row(264, 4096, 512, false));
     }
     if length == 33792 {
-        return Part::Known(Geometry {
-            size: 264,
-            pages: 128,
-            field: 512,
-        });
+        return Part::Known(row(264, 128, 512, false));
+    }
+    if length == 1048576 {
+        return Part::Known(row(256, 4096, 256, true));
+    }
+    if length == 32768 {
+        return Part::Known(row(256, 128, 256, true));
     }
     Part::Unknown
 }
@@ -56,13 +71,14 @@ pub fn address_at(frame: &[u8], at: usize) -> usize
         + numbers::wide(frame[at + 2])
 }
 
-// n div d. A divisor that stands in the code is a multiplication for the processor, so that of the known parts does.
+// n div d. A divisor that stands in the code is a multiplication or a shift for the processor, so those of the known parts do.
 fn quotient(n: usize, d: usize) -> usize
     requires { ⌜ 0 < d ⌝ }
     ensures { λ r. ⌜ r ≡ n / d ⌝ }
 {
     match d {
         512 => n / 512,
+        256 => n / 256,
         _ => n / d,
     }
 }
@@ -75,6 +91,7 @@ fn remainder(n: usize, d: usize) -> usize
     match d {
         264 => n % 264,
         512 => n % 512,
+        256 => n % 256,
         4096 => n % 4096,
         128 => n % 128,
         _ => n % d,
@@ -111,42 +128,50 @@ pub fn page_start(g: Geometry, page: usize) -> usize
 }
 
 // The sector of a page.
-pub fn sector_of(page: usize) -> usize
-    ensures { λ r. ⌜ (r ≡ sectorOf page) × (r ≤ page / 256 + 1) ⌝ }
+pub fn sector_of(g: Geometry, page: usize) -> usize
+    requires { ⌜ Sized g (g .pages * g .size) ⌝ }
+    ensures { λ r. ⌜ r ≡ sectorOf g page ⌝ }
 {
-    if page < 8 { 0 } else { page / 256 + 1 }
-}
-
-fn first_page(sector: usize) -> usize
-    requires { ⌜ sector < 17 ⌝ }
-    ensures { λ r. ⌜ (r ≡ firstPage sector) × (r ≤ 4096) ⌝ }
-{
-    match sector {
-        0 => 0,
-        1 => 8,
-        _ => 256 * (sector - 1),
+    let span = g.span;
+    if page < 8 {
+        0
+    } else {
+        quotient(page, span) + 1
     }
 }
 
-fn end_page(sector: usize) -> usize
-    requires { ⌜ sector < 17 ⌝ }
-    ensures { λ r. ⌜ (r ≡ endPage sector) × (r ≤ 4096) ⌝ }
+fn first_page(g: Geometry, sector: usize) -> usize
+    requires { ⌜ (Sized g (g .pages * g .size)) × (sector < registerRoom + 1) ⌝ }
+    ensures { λ r. ⌜ r ≡ firstPage g sector ⌝ }
 {
+    let span = g.span;
+    match sector {
+        0 => 0,
+        1 => 8,
+        _ => span * (sector - 1),
+    }
+}
+
+fn end_page(g: Geometry, sector: usize) -> usize
+    requires { ⌜ (Sized g (g .pages * g .size)) × (sector < registerRoom + 1) ⌝ }
+    ensures { λ r. ⌜ r ≡ endPage g sector ⌝ }
+{
+    let span = g.span;
     match sector {
         0 => 8,
-        _ => 256 * sector,
+        _ => span * sector,
     }
 }
 
 // A sector's pages, as far as the part has them.
 pub fn sector_run(g: Geometry, sector: usize) -> Run
-    requires { ⌜ sector < 17 ⌝ }
+    requires { ⌜ (Sized g (g .pages * g .size)) × (sector < registerRoom + 1) ⌝ }
     ensures { λ r. ⌜ (r ≡ sectorRun g sector) × (r .first + r .count ≤ g .pages) ⌝ }
 {
     let pages = g.pages;
-    let first = first_page(sector);
+    let first = first_page(g, sector);
     let a = numbers::lesser(first, pages);
-    let end = end_page(sector);
+    let end = end_page(g, sector);
     let e = numbers::lesser(end, pages);
     Run {
         first: a,
@@ -156,9 +181,9 @@ pub fn sector_run(g: Geometry, sector: usize) -> Run
 
 // How many sectors the part has.
 pub fn sector_count(g: Geometry) -> usize
-    requires { ⌜ 0 < g .pages ⌝ }
+    requires { ⌜ Sized g (g .pages * g .size) ⌝ }
     ensures { λ r. ⌜ r ≡ sectorCount g ⌝ }
 {
     let last = g.pages - 1;
-    sector_of(last) + 1
+    sector_of(g, last) + 1
 }

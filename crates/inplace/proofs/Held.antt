@@ -4,9 +4,10 @@
 use mathlib.Core.Path.{_≡_, refl, ap, _∙_}
 use mathlib.Core.Bool.{Bool, true}
 use mathlib.Core.List.{List, [], _++_}
-use Prim.Native.Nat.{ℕ}
+use Prim.Native.Nat.{ℕ, _*_}
 use native.Mathlib.Omega.{arith}
 use lib.ListN.{length, set, take, drop, length-append, length-take, length-drop}
+use Rattle.geometry.specs.Parts.{pageRoom}
 use Rattle.commands.specs.declared.Buffer.the-variants.{One, Two}
 use Rattle.registers.specs.declared.Registers.{Registers}
 use Rattle.registers.specs.declared.Update.{Update}
@@ -41,7 +42,7 @@ changed-lengths (Protect on) r a = record { protection = a .protection; lockdown
 changed-lengths (Sleep on) r a = record { protection = a .protection; lockdown = a .lockdown; user = a .user; factory = a .factory }
 
 -- the block keeps its length
-pub back-length : (y zs : List ℕ) → length y ≡ 765 → length zs ≡ 528 → length (take 236 y ++ (zs ++ drop 528 (drop 236 y))) ≡ 765
+pub back-length : (y zs : List ℕ) → length y ≡ 765 → length zs ≡ 2 * pageRoom → length (take 236 y ++ (zs ++ drop (2 * pageRoom) (drop 236 y))) ≡ 765
 back-length y zs l n = simp (length-append, length-take, length-drop) (omega arith)
 
 -- the chip of a block of 765 bytes, after a change
@@ -54,22 +55,22 @@ settled-whole b k l = let s = whole-decode b l in record { registers = changed-l
 
 module _ (b : List ℕ) (k : Change) (l : length b ≡ 765) (y : List ℕ) (e : y ≡ encodeChip (settledOf b k)) where
   -- the buffers that are lent
-  pub lent-both : (xs : List ℕ) → memoryIn xs (take 528 (drop 236 y)) (decodeChip b .compare) ≡ memoryOf (decodeChip b) xs
+  pub lent-both : (xs : List ℕ) → memoryIn xs (take (2 * pageRoom) (drop 236 y)) (decodeChip b .compare) ≡ memoryOf (decodeChip b) xs
   lent-both xs =
       let c = settledOf b k in
       let s = settled-whole b k l in
-      ap (λ (t : List ℕ). memoryIn xs (take 528 (drop 236 t)) (c .compare)) e
+      ap (λ (t : List ℕ). memoryIn xs (take (2 * pageRoom) (drop 236 t)) (c .compare)) e
       ∙ ap (λ (t : List ℕ). memoryIn xs t (c .compare)) (stored-buffers c s)
       ∙ memory-joined c xs (s .buffer1) (s .buffer2)
 
   -- .. and that come back
-  pub back : (zs : List ℕ) → length zs ≡ 528
-      → take 236 y ++ (zs ++ drop 528 (drop 236 y)) ≡ encodeChip (chipOf (changed k (decodeRegisters b)) (memoryIn [] zs (decodeChip b .compare)))
-  back zs n = ap (λ (t : List ℕ). take 236 t ++ (zs ++ drop 528 (drop 236 t))) e ∙ stored-back (settledOf b k) (settled-whole b k l) zs n
+  pub back : (zs : List ℕ) → length zs ≡ 2 * pageRoom
+      → take 236 y ++ (zs ++ drop (2 * pageRoom) (drop 236 y)) ≡ encodeChip (chipOf (changed k (decodeRegisters b)) (memoryIn [] zs (decodeChip b .compare)))
+  back zs n = ap (λ (t : List ℕ). take 236 t ++ (zs ++ drop (2 * pageRoom) (drop 236 t))) e ∙ stored-back (settledOf b k) (settled-whole b k l) zs n
 
   -- .. with another compare bit
-  pub back-bit : (zs : List ℕ) (bit : Bool) → length zs ≡ 528
-      → set (take 236 y ++ (zs ++ drop 528 (drop 236 y))) 764 (flagByte bit) ≡ encodeChip (chipOf (changed k (decodeRegisters b)) (memoryIn [] zs bit))
+  pub back-bit : (zs : List ℕ) (bit : Bool) → length zs ≡ 2 * pageRoom
+      → set (take 236 y ++ (zs ++ drop (2 * pageRoom) (drop 236 y))) 764 (flagByte bit) ≡ encodeChip (chipOf (changed k (decodeRegisters b)) (memoryIn [] zs bit))
   back-bit zs bit n =
       let s = settled-whole b k l in
       let c = chipOf (changed k (decodeRegisters b)) (memoryIn [] zs (decodeChip b .compare)) in

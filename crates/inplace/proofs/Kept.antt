@@ -17,9 +17,9 @@ use Rattle.slices.proofs.Words.{wordAt-small}
 use Rattle.geometry.specs.declared.Geometry.{Geometry}
 use Rattle.geometry.specs.declared.Part.{Part}
 use Rattle.geometry.specs.declared.Part.the-variants.{Known, Unknown}
-use Rattle.geometry.specs.Parts.{partOf, Sized}
+use Rattle.geometry.specs.Parts.{partOf, registerRoom, Sized}
 use Rattle.geometry.specs.Sectors.{sectorCount}
-use Rattle.geometry.proofs.Sectors.{sector-most}
+use Rattle.geometry.proofs.Sectors.{sectors-few}
 use Rattle.registers.specs.declared.Named.{Named}
 use Rattle.registers.specs.declared.Named.the-variants.{Nothing, Page, Block, Sector, Sectors}
 use Rattle.registers.specs.declared.Operation.{Operation}
@@ -75,11 +75,11 @@ bytes-padded : (n a : ℕ) (f : List ℕ) → Bytes f → Bytes (padded n (drop 
 unfolding padded
 bytes-padded n a f h = bytes-ring n 0 (drop a f) (replicate n 255) (λ k. subst⁻¹ (λ (x : ℕ). x < 256) (getD-drop a f k 0) (h (a + k))) (bytes-fill n)
 
-words16 : (f : List ℕ) → Bytes f → Words16 (protectionData f)
+words16 : (g : Geometry) (f : List ℕ) → Bytes f → Words16 (protectionData g f)
 unfolding protectionData pack16
-words16 f h =
-    let b = bytes-padded 16 4 f h in
-    let w : (a : ℕ) → _ = λ a. wordAt-small (padded 16 (drop 4 f)) a (λ k _. b (a + k)) in
+words16 g f h =
+    let b = bytes-padded (g .register) 4 f h in
+    let w : (a : ℕ) → _ = λ a. wordAt-small (padded (g .register) (drop 4 f)) a (λ k _. b (a + k)) in
     record { a = w 0; b = w 8 }
 
 words64 : (f : List ℕ) → Bytes f → Words64 (securityData f)
@@ -95,9 +95,9 @@ module _ (g : Geometry) (n : ℕ) (z : Sized g n) where
   numbered Nothing h = tt
   numbered (Page page) h = omega (arith, ltb-true page (g .pages) h, z .few)
   numbered (Block block) h = omega (arith, ltb-true block (g .pages / 8) h, z .few)
-  numbered (Sector s) h = omega (arith, ltb-true s (sectorCount g) h, sector-most g (z .few))
+  numbered (Sector s) h = omega (arith, ltb-true s (sectorCount g) h, sectors-few g n z)
   numbered (Sectors sectors) h =
-      omega (arith, ltb-true sectors (2 ^ sectorCount g) h, pow-mono {i = sectorCount g} {j = 17} (sector-most g (z .few)))
+      omega (arith, ltb-true sectors (2 ^ sectorCount g) h, pow-mono {i = sectorCount g} {j = registerRoom + 1} (sectors-few g n z))
 
   module _ (r : Registers) (f : List ℕ) (b : Bytes f) where
     worded : (o : Operation) → Starts g r f o → Worded (updateOf o)
@@ -111,7 +111,7 @@ module _ (g : Geometry) (n : ℕ) (z : Sized g n) where
     worded o (erases-sector a u) = tt
     worded o erases-chip = tt
     worded o (erases-protection u) = tt
-    worded o (programs-protection u) = words16 f b
+    worded o (programs-protection u) = words16 g f b
     worded o (locks-sector a) = tt
     worded o (programs-security u) = words64 f b
 
@@ -131,14 +131,14 @@ module _ (s : State) (h : Holds (chipIn s)) (g : Geometry) where
 
   pub ended-holds : Holds (chipIn (endedState g s))
   unfolding endedState
-  ended-holds = record { whole = ended-whole s (h .whole) g; operation = subst⁻¹ Fitting (completed-operation (s .registers)) (tt, tt) }
+  ended-holds = record { whole = ended-whole s (h .whole) g; operation = subst⁻¹ Fitting (completed-operation g (s .registers)) (tt, tt) }
 
   pub cut-holds : (junk : List ℕ) → Holds (chipIn (cutState g junk s))
   unfolding cutState
   cut-holds junk =
       record {
         whole = cut-whole s (h .whole) g junk;
-        operation = subst⁻¹ Fitting (lost-operation (s .registers) (reaching g (s .registers .operation) junk)) (tt, tt);
+        operation = subst⁻¹ Fitting (lost-operation g (s .registers) (reaching g (s .registers .operation) junk)) (tt, tt);
       }
 
 -- ---- the block that is left

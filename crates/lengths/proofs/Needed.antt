@@ -28,14 +28,14 @@ module _ (n : ℕ) {g : Geometry} {p : Part} (e : p ≡ partOf n) (k : p ≡ Kno
   fits : Sized g n
   fits = sized n g (sym e ∙ k)
 
-  pub page-small : g .size ≤ 264
-  page-small = fits .most
+  pub junk-small : 2 * g .size + n ≤ junkRoom
+  junk-small = omega (arith, fits .most, fits .whole, sized-small g n fits)
+
+  pub buffer-small : 8 * g .size ≤ logRoom
+  buffer-small = omega (arith, fits .most)
 
   pub page-some : 64 ≤ g .size
   page-some = fits .some
-
-  pub array-small : n ≤ 1081344
-  array-small = omega (arith, fits .whole, sized-small g n fits)
 
   pub junk-known : 2 * g .size + n ≡ junkFor (partOf n) n
   unfolding junkFor

@@ -17,6 +17,10 @@ use Rattle.lengths.specs.declared.room.Lengths.{Lengths}
 
 -- ---- the room that there is
 
+-- for the chip's array: the largest part's
+abbrev pub arrayRoom : ℕ
+arrayRoom = 1081344
+
 -- for a log, a get buffer or a reply
 abbrev pub logRoom : ℕ
 logRoom = 65536

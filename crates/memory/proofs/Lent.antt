@@ -6,6 +6,7 @@ use mathlib.Core.Bool.{cond}
 use mathlib.Core.List.{List, _∷_, _++_, append-nil}
 use Prim.Native.Nat.{ℕ, zero, suc, _+_, _-_, _*_, _/_, _%_, _≤_, _<_, min, zero-le}
 use native.Mathlib.Numerals.{unary-clauses}
+use native.Mathlib.Nat.{sub-zero}
 use native.Mathlib.Omega.{arith}
 use lib.Dec.{eqb}
 use lib.ListN.{length, take, drop, replicate, length-append, length-take, length-drop, length-replicate}
@@ -16,7 +17,7 @@ use Rattle.slices.proofs.Laws.{part-length, run-part, spliced, head-spliced, sp
 use Rattle.geometry.specs.declared.Geometry.{Geometry}
 use Rattle.geometry.specs.declared.Run.{Run}
 use Rattle.geometry.specs.Parts.{Sized, pageStart, pageOf}
-use Rattle.geometry.specs.Sectors.{sectorRun}
+use Rattle.geometry.specs.Sectors.{sectorRun, sectorCount}
 use Rattle.geometry.proofs.Pages.{page-within, length-pageOf, start-add}
 use Rattle.memory.specs.Pages.{eachSector, inSectors}
 use Rattle.memory.specs.Replies.{replied, onceData}
@@ -68,9 +69,9 @@ over-back xs {zs = zs} l e n = head-spliced xs l (sym n) e ∙ splice-zero zs xs
 
 -- ---- sectors one after another: at sector s, with m what is left of the set, xs is left of the array
 pub record Passed (f : Run → List ℕ → List ℕ) (g : Geometry) (sectors : ℕ) (xs₀ : List ℕ) (s m : ℕ) (xs : List ℕ) : Type 0 where
-  pub few : s ≤ 17
+  pub few : s ≤ sectorCount g
   pub long : length xs ≡ length xs₀
-  pub rest : eachSector f g (17 - s) s m xs ≡ inSectors f g sectors xs₀
+  pub rest : eachSector f g (sectorCount g - s) s m xs ≡ inSectors f g sectors xs₀
 
 step : (f : Run → List ℕ → List ℕ) (g : Geometry) (n s m : ℕ) (xs : List ℕ) → eachSector f g (suc n) s m xs ≡ eachSector f g n (s + 1) (m / 2) (cond (eqb (m % 2) 1) (f (sectorRun g s) xs) xs)
 unfolding eachSector
@@ -83,26 +84,26 @@ none-left f g n s m xs e = rw e
 module _ {f : Run → List ℕ → List ℕ} {g : Geometry} {sectors : ℕ} {xs₀ : List ℕ} where
   pub passed-none : Passed f g sectors xs₀ 0 sectors xs₀
   unfolding inSectors
-  passed-none = record { few = zero-le; long = refl; rest = refl }
+  passed-none = record { few = zero-le; long = refl; rest = ap (λ (n : ℕ). eachSector f g n 0 sectors xs₀) (sub-zero (sectorCount g)) }
 
-  next : {s m : ℕ} {xs ys : List ℕ} → Passed f g sectors xs₀ s m xs → s < 17 → length ys ≡ length xs → ys ≡ cond (eqb (m % 2) 1) (f (sectorRun g s) xs) xs
+  next : {s m : ℕ} {xs ys : List ℕ} → Passed f g sectors xs₀ s m xs → s < sectorCount g → length ys ≡ length xs → ys ≡ cond (eqb (m % 2) 1) (f (sectorRun g s) xs) xs
       → Passed f g sectors xs₀ (s + 1) (m / 2) ys
   next {s = s} {m = m} {xs = xs} {ys = ys} p h l e =
-      let k : 17 - s ≡ suc (17 - (s + 1)) = omega arith in
-      let d : eachSector f g (17 - s) s m xs ≡ eachSector f g (17 - (s + 1)) (s + 1) (m / 2) ys = rw (k, e) (step f g (17 - (s + 1)) s m xs) in
+      let k : sectorCount g - s ≡ suc (sectorCount g - (s + 1)) = omega arith in
+      let d : eachSector f g (sectorCount g - s) s m xs ≡ eachSector f g (sectorCount g - (s + 1)) (s + 1) (m / 2) ys = rw (k, e) (step f g (sectorCount g - (s + 1)) s m xs) in
       record { few = omega arith; long = l ∙ p .long; rest = sym d ∙ p .rest }
 
   -- sector s is in the set, and is done
-  pub passed-done : {s m : ℕ} {xs ys : List ℕ} {r : Run} → Passed f g sectors xs₀ s m xs → s < 17 → m % 2 ≡ 1 → r ≡ sectorRun g s → length ys ≡ length xs → ys ≡ f r xs
+  pub passed-done : {s m : ℕ} {xs ys : List ℕ} {r : Run} → Passed f g sectors xs₀ s m xs → s < sectorCount g → m % 2 ≡ 1 → r ≡ sectorRun g s → length ys ≡ length xs → ys ≡ f r xs
       → Passed f g sectors xs₀ (s + 1) (m / 2) ys
   passed-done {m = m} {xs = xs} p h t q l e = next p h l (rw (eq-eqb (m % 2) 1 t) (e ∙ ap (λ (k : Run). f k xs) q))
 
   -- it is not, and is left
-  pub passed-by : {s m : ℕ} {xs ys : List ℕ} → Passed f g sectors xs₀ s m xs → s < 17 → (m % 2 ≡ 1 → ⊥) → ys ≡ xs → Passed f g sectors xs₀ (s + 1) (m / 2) ys
+  pub passed-by : {s m : ℕ} {xs ys : List ℕ} → Passed f g sectors xs₀ s m xs → s < sectorCount g → (m % 2 ≡ 1 → ⊥) → ys ≡ xs → Passed f g sectors xs₀ (s + 1) (m / 2) ys
   passed-by {m = m} p h t e = next p h (ap length e) (rw (ne-eqb (m % 2) 1 t) e)
 
-  pub passed-all : {s m : ℕ} {xs : List ℕ} → Passed f g sectors xs₀ s m xs → 17 ≤ s → xs ≡ inSectors f g sectors xs₀
-  passed-all {s = s} {m = m} {xs = xs} p h = sym (none-left f g (17 - s) s m xs (omega arith)) ∙ p .rest
+  pub passed-all : {s m : ℕ} {xs : List ℕ} → Passed f g sectors xs₀ s m xs → sectorCount g ≤ s → xs ≡ inSectors f g sectors xs₀
+  passed-all {s = s} {m = m} {xs = xs} p h = sym (none-left f g (sectorCount g - s) s m xs (omega arith)) ∙ p .rest
 
 -- ---- a reply: `&mut reply[..lead]` comes back as ls, and then `&mut reply[lead..]` as ds
 pub led : (lead : ℕ) (xs ls ds : List ℕ) (f : ℕ → ℕ) → lead ≤ length xs → ls ≡ replicate (length (take lead xs)) 255

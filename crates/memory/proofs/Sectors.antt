@@ -14,9 +14,9 @@ use borrow.Author.Tests.{eq-eqb, ne-eqb}
 use Rattle.geometry.specs.declared.Geometry.{Geometry}
 use Rattle.geometry.specs.declared.Run.{Run}
 use Rattle.geometry.specs.Parts.{Sized, pageOf, inRun}
-use Rattle.geometry.specs.Sectors.{sectorOf, sectorRun}
+use Rattle.geometry.specs.Sectors.{sectorOf, sectorRun, sectorCount}
 use Rattle.geometry.proofs.Pages.{page-few}
-use Rattle.geometry.proofs.Sectors.{sector-run, sector-few, sector-most}
+use Rattle.geometry.proofs.Sectors.{sector-run, sector-few}
 use Rattle.memory.specs.Pages.{erased, junked, eachSector, inSectors}
 use Rattle.memory.proofs.Pages.{length-erased, length-junked, erased-byte, erased-other, erased-in, erased-page, junked-byte, junked-other, junked-in}
 
@@ -34,21 +34,25 @@ module _ (f : Run → List ℕ → List ℕ) (long : (r : Run) (xs : List ℕ) �
 
   pub length-inSectors : (sectors : ℕ) (xs : List ℕ) → length (inSectors f g sectors xs) ≡ length xs
   unfolding inSectors
-  length-inSectors sectors xs = length-each 17 0 sectors xs
+  length-inSectors sectors xs = length-each (sectorCount g) 0 sectors xs
 
 -- f done to no sector
 pub inSectors-none : (f : Run → List ℕ → List ℕ) (g : Geometry) (xs : List ℕ) → inSectors f g 0 xs ≡ xs
 unfolding inSectors eachSector
-inSectors-none f g xs = refl
+inSectors-none f g xs = none (sectorCount g) 0
+  where
+    none : (n s : ℕ) → eachSector f g n s 0 xs ≡ xs
+    none zero s = refl
+    none (suc n) s = none n (s + 1)
 
 -- what is seen of the array, as a byte of the page or the page, is left by f at every run that the page is not in
-module _ {A : Type 0} (see : List ℕ → A) (f : Run → List ℕ → List ℕ) (g : Geometry) (page : ℕ) (few : page < g .pages)
+module _ {A : Type 0} (see : List ℕ → A) (f : Run → List ℕ → List ℕ) (g : Geometry) (wide : 8 < g .span) (page : ℕ) (few : page < g .pages)
     (leaves : (r : Run) (xs : List ℕ) → inRun r page ≡ false → see (f r xs) ≡ see xs) where
-  one-left : (b : Bool) (s : ℕ) (xs : List ℕ) → (sectorOf page ≡ s → b ≡ false) → see (cond b (f (sectorRun g s) xs) xs) ≡ see xs
-  one-left true s xs h = leaves (sectorRun g s) xs (sector-run g s page few ∙ ne-eqb (sectorOf page) s (λ e. true≢false (h e)))
+  one-left : (b : Bool) (s : ℕ) (xs : List ℕ) → (sectorOf g page ≡ s → b ≡ false) → see (cond b (f (sectorRun g s) xs) xs) ≡ see xs
+  one-left true s xs h = leaves (sectorRun g s) xs (sector-run g wide s page few ∙ ne-eqb (sectorOf g page) s (λ e. true≢false (h e)))
   one-left false s xs h = refl
 
-  each-left : (n s m : ℕ) (xs : List ℕ) → ((i : ℕ) → sectorOf page ≡ s + i → eqb (m / 2 ^ i % 2) 1 ≡ false) → see (eachSector f g n s m xs) ≡ see xs
+  each-left : (n s m : ℕ) (xs : List ℕ) → ((i : ℕ) → sectorOf g page ≡ s + i → eqb (m / 2 ^ i % 2) 1 ≡ false) → see (eachSector f g n s m xs) ≡ see xs
   unfolding eachSector
   each-left zero s m xs h = refl
   each-left (suc n) s m xs h =
@@ -56,18 +60,18 @@ module _ {A : Type 0} (see : List ℕ → A) (f : Run → List ℕ → List ℕ)
       ∙ one-left (eqb (m % 2) 1) s xs (λ e. rw div-one at (h 0 (omega arith)))
 
   -- the page's sector is not in the set
-  pub sectors-left : (sectors : ℕ) (xs : List ℕ) → eqb (sectors / 2 ^ sectorOf page % 2) 1 ≡ false → see (inSectors f g sectors xs) ≡ see xs
+  pub sectors-left : (sectors : ℕ) (xs : List ℕ) → eqb (sectors / 2 ^ sectorOf g page % 2) 1 ≡ false → see (inSectors f g sectors xs) ≡ see xs
   unfolding inSectors
-  sectors-left sectors xs h = each-left 17 0 sectors xs (λ i e. subst (λ (t : ℕ). eqb (sectors / 2 ^ t % 2) 1 ≡ false) (omega arith) h)
+  sectors-left sectors xs h = each-left (sectorCount g) 0 sectors xs (λ i e. subst (λ (t : ℕ). eqb (sectors / 2 ^ t % 2) 1 ≡ false) (omega arith) h)
 
   -- .. and f makes it v at every run that the page is in, of an array of n bytes
   module _ (v : A) (n : ℕ) (long : (r : Run) (xs : List ℕ) → length (f r xs) ≡ length xs)
       (makes : (r : Run) (xs : List ℕ) → length xs ≡ n → inRun r page ≡ true → see (f r xs) ≡ v) where
-    one-made : (b : Bool) (s : ℕ) (xs : List ℕ) → sectorOf page ≡ s → length xs ≡ n → b ≡ true → see (cond b (f (sectorRun g s) xs) xs) ≡ v
-    one-made true s xs h l e = makes (sectorRun g s) xs l (sector-run g s page few ∙ eq-eqb (sectorOf page) s h)
+    one-made : (b : Bool) (s : ℕ) (xs : List ℕ) → sectorOf g page ≡ s → length xs ≡ n → b ≡ true → see (cond b (f (sectorRun g s) xs) xs) ≡ v
+    one-made true s xs h l e = makes (sectorRun g s) xs l (sector-run g wide s page few ∙ eq-eqb (sectorOf g page) s h)
     one-made false s xs h l e = absurd (true≢false (sym e))
 
-    each-made : (c i s m : ℕ) (xs : List ℕ) → sectorOf page ≡ s + i → i < c → length xs ≡ n → eqb (m / 2 ^ i % 2) 1 ≡ true → see (eachSector f g c s m xs) ≡ v
+    each-made : (c i s m : ℕ) (xs : List ℕ) → sectorOf g page ≡ s + i → i < c → length xs ≡ n → eqb (m / 2 ^ i % 2) 1 ≡ true → see (eachSector f g c s m xs) ≡ v
     unfolding eachSector
     each-made zero i s m xs h l n e = absurd (omega arith)
     each-made (suc c) zero s m xs h l n e =
@@ -79,41 +83,41 @@ module _ {A : Type 0} (see : List ℕ → A) (f : Run → List ℕ → List ℕ)
         (length-one f long g (eqb (m % 2) 1) (sectorRun g s) xs ∙ n) (rw (shr-shr m 1 i) (rw k at e))
 
     -- the page's sector is in the set
-    pub sectors-made : (sectors : ℕ) (xs : List ℕ) → g .pages ≤ 4096 → length xs ≡ n → eqb (sectors / 2 ^ sectorOf page % 2) 1 ≡ true → see (inSectors f g sectors xs) ≡ v
+    pub sectors-made : (sectors : ℕ) (xs : List ℕ) → length xs ≡ n → eqb (sectors / 2 ^ sectorOf g page % 2) 1 ≡ true → see (inSectors f g sectors xs) ≡ v
     unfolding inSectors
-    sectors-made sectors xs m l e = each-made 17 (sectorOf page) 0 sectors xs (omega arith) (omega (arith, sector-few g page few, sector-most g m)) l e
+    sectors-made sectors xs l e = each-made (sectorCount g) (sectorOf g page) 0 sectors xs (omega arith) (sector-few g wide page few) l e
 
 -- ---- sectors that are erased
-module _ (g : Geometry) (sectors : ℕ) (xs : List ℕ) where
+module _ (g : Geometry) (wide : 8 < g .span) (sectors : ℕ) (xs : List ℕ) where
   -- a byte and a page whose sector is not in the set
-  pub erasedSectors-byte : (k : ℕ) → 0 < g .size → k / g .size < g .pages → eqb (sectors / 2 ^ sectorOf (k / g .size) % 2) 1 ≡ false → getD (inSectors (erased g) g sectors xs) k 0 ≡ getD xs k 0
-  erasedSectors-byte k s l h = sectors-left (λ ys. getD ys k 0) (erased g) g (k / g .size) l (λ r ys e. erased-byte g r ys k s e) sectors xs h
+  pub erasedSectors-byte : (k : ℕ) → 0 < g .size → k / g .size < g .pages → eqb (sectors / 2 ^ sectorOf g (k / g .size) % 2) 1 ≡ false → getD (inSectors (erased g) g sectors xs) k 0 ≡ getD xs k 0
+  erasedSectors-byte k s l h = sectors-left (λ ys. getD ys k 0) (erased g) g wide (k / g .size) l (λ r ys e. erased-byte g r ys k s e) sectors xs h
 
-  pub erasedSectors-other : (q : ℕ) → q < g .pages → eqb (sectors / 2 ^ sectorOf q % 2) 1 ≡ false → pageOf g q (inSectors (erased g) g sectors xs) ≡ pageOf g q xs
-  erasedSectors-other q l h = sectors-left (λ ys. pageOf g q ys) (erased g) g q l (λ r ys e. erased-other g r ys q e) sectors xs h
+  pub erasedSectors-other : (q : ℕ) → q < g .pages → eqb (sectors / 2 ^ sectorOf g q % 2) 1 ≡ false → pageOf g q (inSectors (erased g) g sectors xs) ≡ pageOf g q xs
+  erasedSectors-other q l h = sectors-left (λ ys. pageOf g q ys) (erased g) g wide q l (λ r ys e. erased-other g r ys q e) sectors xs h
 
   -- .. and is
-  pub erasedSectors-in : (k : ℕ) → Sized g (length xs) → k < length xs → eqb (sectors / 2 ^ sectorOf (k / g .size) % 2) 1 ≡ true → getD (inSectors (erased g) g sectors xs) k 0 ≡ 255
+  pub erasedSectors-in : (k : ℕ) → Sized g (length xs) → k < length xs → eqb (sectors / 2 ^ sectorOf g (k / g .size) % 2) 1 ≡ true → getD (inSectors (erased g) g sectors xs) k 0 ≡ 255
   erasedSectors-in k z l h =
-      sectors-made (λ ys. getD ys k 0) (erased g) g (k / g .size) (page-few g k (omega (arith, z .some)) (omega (arith, z .whole)))
+      sectors-made (λ ys. getD ys k 0) (erased g) g wide (k / g .size) (page-few g k (omega (arith, z .some)) (omega (arith, z .whole)))
       (λ r ys e. erased-byte g r ys k (omega (arith, z .some)) e) 255 (length xs) (length-erased g)
-      (λ r ys n e. erased-in g r ys k (omega (arith, z .some)) e (omega arith)) sectors xs (z .few) refl h
+      (λ r ys n e. erased-in g r ys k (omega (arith, z .some)) e (omega arith)) sectors xs refl h
 
-  pub erasedSectors-page : (q : ℕ) → Sized g (length xs) → q < g .pages → eqb (sectors / 2 ^ sectorOf q % 2) 1 ≡ true → pageOf g q (inSectors (erased g) g sectors xs) ≡ replicate (g .size) 255
+  pub erasedSectors-page : (q : ℕ) → Sized g (length xs) → q < g .pages → eqb (sectors / 2 ^ sectorOf g q % 2) 1 ≡ true → pageOf g q (inSectors (erased g) g sectors xs) ≡ replicate (g .size) 255
   erasedSectors-page q z l h =
-      sectors-made (λ ys. pageOf g q ys) (erased g) g q l (λ r ys e. erased-other g r ys q e) (replicate (g .size) 255) (length xs) (length-erased g)
-      (λ r ys n e. erased-page g r ys q (rw n z) l e) sectors xs (z .few) refl h
+      sectors-made (λ ys. pageOf g q ys) (erased g) g wide q l (λ r ys e. erased-other g r ys q e) (replicate (g .size) 255) (length xs) (length-erased g)
+      (λ r ys n e. erased-page g r ys q (rw n z) l e) sectors xs refl h
 
 -- ---- sectors that become junk
-module _ (g : Geometry) (junk : List ℕ) (sectors : ℕ) (xs : List ℕ) where
-  pub junkedSectors-byte : (k : ℕ) → 0 < g .size → k / g .size < g .pages → eqb (sectors / 2 ^ sectorOf (k / g .size) % 2) 1 ≡ false → getD (inSectors (junked g junk) g sectors xs) k 0 ≡ getD xs k 0
-  junkedSectors-byte k s l h = sectors-left (λ ys. getD ys k 0) (junked g junk) g (k / g .size) l (λ r ys e. junked-byte g junk r ys k s e) sectors xs h
+module _ (g : Geometry) (wide : 8 < g .span) (junk : List ℕ) (sectors : ℕ) (xs : List ℕ) where
+  pub junkedSectors-byte : (k : ℕ) → 0 < g .size → k / g .size < g .pages → eqb (sectors / 2 ^ sectorOf g (k / g .size) % 2) 1 ≡ false → getD (inSectors (junked g junk) g sectors xs) k 0 ≡ getD xs k 0
+  junkedSectors-byte k s l h = sectors-left (λ ys. getD ys k 0) (junked g junk) g wide (k / g .size) l (λ r ys e. junked-byte g junk r ys k s e) sectors xs h
 
-  pub junkedSectors-other : (q : ℕ) → q < g .pages → eqb (sectors / 2 ^ sectorOf q % 2) 1 ≡ false → pageOf g q (inSectors (junked g junk) g sectors xs) ≡ pageOf g q xs
-  junkedSectors-other q l h = sectors-left (λ ys. pageOf g q ys) (junked g junk) g q l (λ r ys e. junked-other g junk r ys q e) sectors xs h
+  pub junkedSectors-other : (q : ℕ) → q < g .pages → eqb (sectors / 2 ^ sectorOf g q % 2) 1 ≡ false → pageOf g q (inSectors (junked g junk) g sectors xs) ≡ pageOf g q xs
+  junkedSectors-other q l h = sectors-left (λ ys. pageOf g q ys) (junked g junk) g wide q l (λ r ys e. junked-other g junk r ys q e) sectors xs h
 
-  pub junkedSectors-in : (k : ℕ) → Sized g (length xs) → k < length xs → length junk ≡ 2 * g .size + length xs → eqb (sectors / 2 ^ sectorOf (k / g .size) % 2) 1 ≡ true → getD (inSectors (junked g junk) g sectors xs) k 0 ≡ getD junk (2 * g .size + k) 0
+  pub junkedSectors-in : (k : ℕ) → Sized g (length xs) → k < length xs → length junk ≡ 2 * g .size + length xs → eqb (sectors / 2 ^ sectorOf g (k / g .size) % 2) 1 ≡ true → getD (inSectors (junked g junk) g sectors xs) k 0 ≡ getD junk (2 * g .size + k) 0
   junkedSectors-in k z l j h =
-      sectors-made (λ ys. getD ys k 0) (junked g junk) g (k / g .size) (page-few g k (omega (arith, z .some)) (omega (arith, z .whole)))
+      sectors-made (λ ys. getD ys k 0) (junked g junk) g wide (k / g .size) (page-few g k (omega (arith, z .some)) (omega (arith, z .whole)))
       (λ r ys e. junked-byte g junk r ys k (omega (arith, z .some)) e) (getD junk (2 * g .size + k) 0) (length xs) (length-junked g junk)
-      (λ r ys n e. junked-in g junk r ys k (omega (arith, z .some)) e (omega arith) (omega arith)) sectors xs (z .few) refl h
+      (λ r ys n e. junked-in g junk r ys k (omega (arith, z .some)) e (omega arith) (omega arith)) sectors xs refl h

@@ -9,7 +9,7 @@ use Rattle.slices.specs.Lists.{over, splice, andOver, same}
 use Rattle.geometry.specs.declared.Geometry.{Geometry}
 use Rattle.geometry.specs.declared.Run.{Run}
 use Rattle.geometry.specs.Parts.{pageStart, pageOf}
-use Rattle.geometry.specs.Sectors.{sectorRun}
+use Rattle.geometry.specs.Sectors.{sectorRun, sectorCount}
 
 -- (7.4) 83/86 and 82/85: the array with the buffer for the page
 unfoldable pub programmed : Geometry → ℕ → List ℕ → List ℕ → List ℕ
@@ -41,9 +41,9 @@ unfoldable pub eachSector : (Run → List ℕ → List ℕ) → Geometry → ℕ
 eachSector f g zero s sectors xs = xs
 eachSector f g (suc n) s sectors xs = eachSector f g n (s + 1) (sectors / 2) (cond (eqb (sectors % 2) 1) (f (sectorRun g s) xs) xs)
 
--- (7.10) f done to each sector of a set
+-- (7.10) f done to each sector of a set, as far as the part has them
 unfoldable pub inSectors : (Run → List ℕ → List ℕ) → Geometry → ℕ → List ℕ → List ℕ
-inSectors f g sectors xs = eachSector f g 17 0 sectors xs
+inSectors f g sectors xs = eachSector f g (sectorCount g) 0 sectors xs
 
 -- (8.4) a buffer made junk: the junk from index at on
 unfoldable pub junkBuffer : Geometry → List ℕ → ℕ → List ℕ → List ℕ

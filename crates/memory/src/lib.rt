@@ -85,9 +85,10 @@ pub fn erase_sectors(g: Geometry, array: &mut [u8], sectors: u32)
     requires { ⌜ Sized g (length (now array)) ⌝ }
     ensures { λ _. ⌜ now (array .exit) ≡ inSectors (erased g) g sectors (now (array .entry)) ⌝ }
 {
+    let count = geometry::sector_count(g);
     let mut s: usize = 0;
     let mut m = sectors;
-    while s < 17 {
+    while s < count {
         if m % 2 == 1 {
             erase(g, array, geometry::sector_run(g, s));
         }
@@ -101,9 +102,10 @@ pub fn spoil_sectors(g: Geometry, array: &mut [u8], junk: &[u8], sectors: u32)
     requires { ⌜ (Sized g (length (now array))) × (length (now junk) ≡ 2 * g .size + length (now array)) ⌝ }
     ensures { λ _. ⌜ now (array .exit) ≡ inSectors (junked g (now (junk .entry))) g sectors (now (array .entry)) ⌝ }
 {
+    let count = geometry::sector_count(g);
     let mut s: usize = 0;
     let mut left = sectors;
-    while s < 17 {
+    while s < count {
         if left % 2 == 1 {
             spoil(g, array, junk, geometry::sector_run(g, s));
         }

@@ -2,10 +2,10 @@
 -- fresh part is depends on the array's length alone.
 -- Assumes nothing.
 use mathlib.Core.Path.{_≡_, refl, sym, ap, subst, _∙_}
-use mathlib.Core.Logic.{_⊎_, inl, inr}
+use mathlib.Core.Logic.{inl, inr}
 use mathlib.Core.List.{List, [], _∷_, _++_}
 use mathlib.Core.Bool.{Bool, true, false, cond, true≢false}
-use Prim.Native.Nat.{ℕ, _+_, _*_, _≤_, _<_, min}
+use Prim.Native.Nat.{ℕ, _+_, _≤_, min}
 use native.Mathlib.Omega.{arith}
 use lib.ListN.{length, take, replicate, length-replicate}
 use lib.Seq.{take-all, take-at}
@@ -14,7 +14,7 @@ use borrow.Author.Tests.{leb-true, leb-false}
 use Rattle.geometry.specs.declared.Geometry.{Geometry}
 use Rattle.geometry.specs.declared.Part.{Part}
 use Rattle.geometry.specs.declared.Part.the-variants.{Known}
-use Rattle.geometry.specs.Parts.{partOf}
+use Rattle.geometry.specs.Parts.{partOf, partAmong, parts}
 use Rattle.state.specs.Answers.{numberOf}
 use Rattle.state.specs.Memory.{State, chipIn}
 use Rattle.state.specs.declared.Answer.the-variants as Answers
@@ -30,6 +30,7 @@ use Rattle.orders.specs.declared.Reading.the-variants as Reading
 use Rattle.words.specs.Words.{isCall}
 use Rattle.operands.specs.Operands.{firstOf}
 use Rattle.words.specs.Words as Words
+use Rattle.word_values.specs.Values.{firstLength}
 use Rattle.operands.specs.Bounds.{Ranged}
 use Rattle.orders.specs.Lines.{readOf}
 use Rattle.faults.specs.Messages.{Put, textOf}
@@ -43,10 +44,10 @@ use Rattle.printing.proofs.Laws.{printed-as, printed-none}
 use Rattle.acting.specs.declared.Totals.{Totals}
 use Rattle.contents.specs.Junk.{junkOf}
 use Rattle.lengths.specs.declared.room.Lengths.{Lengths}
-use Rattle.lengths.specs.Lengths.{Lends, lengthsOf}
+use Rattle.lengths.specs.Lengths.{Lends, lengthsOf, arrayRoom}
 use Rattle.acting.specs.Steps.{isStep, seedOf, blank, opOf, Seen, seenBy, Took}
 use Rattle.obeying.specs.declared.Session.{Session}
-use Rattle.obeying.specs.Desk.{Desk, deskOf, counted, bytesIn, Whole, freshPart, renewed, begun}
+use Rattle.obeying.specs.Desk.{Desk, deskOf, counted, Whole, freshPart, renewed, begun}
 use Rattle.obeying.specs.Orders.{isSum, seenWith, seenOn, seenIn, stepped, shownBy, shownOf, summed, obeyed, shown, afterReading, readingText, afterLine, lineText}
 use Rattle.obeying.specs.Promises.{Obeyed, Ran, afterStep, withOutput}
 
@@ -132,9 +133,12 @@ fresh-alike factory xs ys {g} e h =
 
 -- a part's array is known
 known : (n : ℕ) → Whole n → (A : Type 0) → ((g : Geometry) → partOf n ≡ Known g → A) → A
-unfolding partOf bytesIn
+unfolding parts partAmong partOf
 known n (inl e) A f = f _ (ap partOf e)
-known n (inr e) A f = f _ (ap partOf e)
+known n (inr (inl e)) A f = f _ (ap partOf e)
+known n (inr (inr (inl e))) A f = f _ (ap partOf e)
+known n (inr (inr (inr (inl e)))) A f = f _ (ap partOf e)
+known n (inr (inr (inr (inr x)))) A f = absurd x
 
 pub fresh-part : (n : ℕ) (xs : List ℕ) → length xs ≡ n → Whole n → freshOutcome (replicate 64 0) xs ≡ freshPart n
 unfolding freshPart
@@ -179,7 +183,7 @@ obeyed-as k e f = record { desk = k .desk ∙ e; shows = printed-as (k .shows) f
 
 pub step-obeyed : (o : Order) (line : List ℕ) (d : Desk) → isStep (o .command) ≡ true → stepped (seenIn o line d) d ≡ obeyed o line d
 unfolding obeyed
-step-obeyed o line d e = sym (ap (λ (b : Bool). cond b (stepped (seenIn o line d) d) (cond (isSum (o .command)) d (renewed (bytesIn (o .number)) d))) e)
+step-obeyed o line d e = sym (ap (λ (b : Bool). cond b (stepped (seenIn o line d) d) (cond (isSum (o .command)) d (renewed (o .number) d))) e)
 
 pub step-shown : (o : Order) (line : List ℕ) (d : Desk) → isStep (o .command) ≡ true → shownOf (o .command) (seenIn o line d) ≡ shown o line d
 unfolding shown
@@ -187,9 +191,9 @@ step-shown o line d e = sym (ap (λ (b : Bool). cond b (shownOf (o .command) (se
 
 -- neither a step nor (b) a sum
 other-obeyed : (o : Order) (line : List ℕ) (d : Desk) (b : Bool) → isStep (o .command) ≡ false → isSum (o .command) ≡ b
-    → cond b d (renewed (bytesIn (o .number)) d) ≡ obeyed o line d
+    → cond b d (renewed (o .number) d) ≡ obeyed o line d
 unfolding obeyed
-other-obeyed o line d b e f = sym (λ i. cond (e i) (stepped (seenIn o line d) d) (cond (f i) d (renewed (bytesIn (o .number)) d)))
+other-obeyed o line d b e f = sym (λ i. cond (e i) (stepped (seenIn o line d) d) (cond (f i) d (renewed (o .number) d)))
 
 other-shown : (o : Order) (line : List ℕ) (d : Desk) (b : Bool) → isStep (o .command) ≡ false → isSum (o .command) ≡ b → cond b (summed d) [] ≡ shown o line d
 unfolding shown
@@ -205,7 +209,7 @@ sum-done o line s {r} {text} {block} {array} {log} {out} {text′} e f k p =
     }
 
 pub part-done : (o : Order) (line : List ℕ) (s : Session) {r : Session} (d : Desk) {text block array log out : List ℕ} → isStep (o .command) ≡ false → isSum (o .command) ≡ false
-    → deskOf r block array log out ≡ renewed (bytesIn (o .number)) d → r .output ≡ s .output → Obeyed (obeyed o line d) (shown o line d) s text r block array log out text
+    → deskOf r block array log out ≡ renewed (o .number) d → r .output ≡ s .output → Obeyed (obeyed o line d) (shown o line d) s text r block array log out text
 part-done o line s {r} d {text} {block} {array} {log} {out} e f k h =
     record {
       desk = k ∙ other-obeyed o line d false e f;
@@ -238,12 +242,12 @@ fault-done {f} line e s t {r} {text} {block} {array} {log} {out} {text′} h k w
     }
 
 -- the first line of a run
-pub starts : (d : Desk) → d .lines ≡ 0 → renewed (bytesIn 128) d ≡ begun
+pub starts : (d : Desk) → d .lines ≡ 0 → renewed firstLength d ≡ begun
 unfolding renewed begun
 starts d e =
     λ i. record {
-      block = encodeChip (chipIn (freshPart (bytesIn 128) .state));
-      array = freshPart (bytesIn 128) .state .memory .array;
+      block = encodeChip (chipIn (freshPart firstLength .state));
+      array = freshPart firstLength .state .memory .array;
       log = [];
       out = [];
       given = 0;
@@ -257,40 +261,38 @@ unfolding counted
 line-counted s n e block array log out =
     λ i. record { block = block; array = take (s .size) array; log = take (s .log) log; out = take (s .out) out; given = s .given; lines = e i }
 
--- what is neither a step nor a sum is a part, of 128 pages or 4,096
-pub part-pages : (c : Command) (n : ℕ) → isStep c ≡ false → isSum c ≡ false → Ranged (firstOf c) n → (n ≡ 128) ⊎ (n ≡ 4096)
-part-pages Command.Put n e f h = absurd (true≢false e)
-part-pages Command.Patch n e f h = absurd (true≢false e)
-part-pages Command.Get n e f h = absurd (true≢false e)
-part-pages Command.Wipe n e f h = absurd (true≢false e)
-part-pages Command.Raw n e f h = absurd (true≢false e)
-part-pages Command.Send n e f h = absurd (true≢false e)
-part-pages Command.End n e f h = absurd (true≢false e)
-part-pages Command.Pin n e f h = absurd (true≢false e)
-part-pages Command.Cut n e f h = absurd (true≢false e)
-part-pages Command.Part n e f h = h
-part-pages Command.Sum n e f h = absurd (true≢false f)
+-- what is neither a step nor a sum is a part
+pub part-whole : (c : Command) (n : ℕ) → isStep c ≡ false → isSum c ≡ false → Ranged (firstOf c) n → Whole n
+part-whole Command.Put n e f h = absurd (true≢false e)
+part-whole Command.Patch n e f h = absurd (true≢false e)
+part-whole Command.Get n e f h = absurd (true≢false e)
+part-whole Command.Wipe n e f h = absurd (true≢false e)
+part-whole Command.Raw n e f h = absurd (true≢false e)
+part-whole Command.Send n e f h = absurd (true≢false e)
+part-whole Command.End n e f h = absurd (true≢false e)
+part-whole Command.Pin n e f h = absurd (true≢false e)
+part-whole Command.Cut n e f h = absurd (true≢false e)
+part-whole Command.Part n e f h = h
+part-whole Command.Sum n e f h = absurd (true≢false f)
 
--- its bytes are those of a part
-pub pages-whole : (n : ℕ) → (n ≡ 128) ⊎ (n ≡ 4096) → Whole (n * 264)
-unfolding bytesIn
-pages-whole n (inl e) = inl (ap (λ (k : ℕ). k * 264) e)
-pages-whole n (inr e) = inr (ap (λ (k : ℕ). k * 264) e)
-
-pub pages-most : (n : ℕ) → (n ≡ 128) ⊎ (n ≡ 4096) → n * 264 ≤ 1081344
-pages-most n (inl e) = omega arith
-pages-most n (inr e) = omega arith
+-- there is room for it
+pub whole-room : (n : ℕ) → Whole n → n ≤ arrayRoom
+whole-room n (inl e) = omega arith
+whole-room n (inr (inl e)) = omega arith
+whole-room n (inr (inr (inl e))) = omega arith
+whole-room n (inr (inr (inr (inl e)))) = omega arith
+whole-room n (inr (inr (inr (inr x)))) = absurd x
 
 -- the part lent comes back as the array
-pub part-renewed : (s : Session) {r : Session} (pages : ℕ) {n : ℕ} {block ys : List ℕ} (d : Desk) (ps log out : List ℕ) → n ≡ bytesIn pages → length ys ≡ n → d .lines ≡ s .lines
+pub part-renewed : (s : Session) {r : Session} (n : ℕ) {block ys : List ℕ} (d : Desk) (ps log out : List ℕ) → length ys ≡ n → d .lines ≡ s .lines
     → block ≡ encodeChip (chipIn (freshPart n .state)) → ys ≡ freshPart n .state .memory .array → r ≡ afterStep s n 0 0 0 (s .output)
-    → deskOf r block (ys ++ ps) log out ≡ renewed (bytesIn pages) d
+    → deskOf r block (ys ++ ps) log out ≡ renewed n d
 unfolding renewed
-part-renewed s {r} pages {n} {block} {ys} d ps log out e l f a b k =
+part-renewed s {r} n {block} {ys} d ps log out l f a b k =
     ap (λ (x : Session). deskOf x block (ys ++ ps) log out) k
     ∙ (λ i. record {
-      block = (a ∙ ap (λ (m : ℕ). encodeChip (chipIn (freshPart m .state))) e) i;
-      array = (take-at ys ps n l ∙ b ∙ ap (λ (m : ℕ). freshPart m .state .memory .array) e) i;
+      block = a i;
+      array = (take-at ys ps n l ∙ b) i;
       log = [];
       out = [];
       given = 0;

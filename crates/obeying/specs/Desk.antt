@@ -1,13 +1,13 @@
 -- What the program holds between lines.
 -- Assumes nothing.
-use Prim.Native.Nat.{ℕ, _+_, _*_, min}
-use mathlib.Core.Path.{_≡_}
-use mathlib.Core.Logic.{_⊎_}
+use Prim.Native.Nat.{ℕ, _+_, min}
 use mathlib.Core.List.{List, []}
 use lib.ListN.{take, replicate}
 use Rattle.state.specs.Outcomes.{Left, freshOutcome}
 use Rattle.state.specs.Memory.{chipIn}
 use Rattle.blocks.specs.Block.{encodeChip}
+use Rattle.word_values.specs.Values.{firstLength, parts}
+use Rattle.operands.specs.Bounds.{Among}
 use Rattle.obeying.specs.declared.Session.{Session}
 
 -- the record block and the chip's array; of the last step the lent log, the lent get buffer or reply, and n of a get; how many lines there were
@@ -45,13 +45,9 @@ counted d =
 
 -- ---- a fresh part
 
--- the bytes of a part of so many pages
-unfoldable pub bytesIn : ℕ → ℕ
-bytesIn pages = pages * 264
-
--- Aid: n bytes are the array of a part
+-- Aid: n bytes are the array of a part that a line can bring
 abbrev pub Whole : ℕ → Type 0
-Whole n = (n ≡ bytesIn 128) ⊎ (n ≡ bytesIn 4096)
+Whole n = Among n parts
 
 -- of n bytes, with factory bytes 0
 unfoldable pub freshPart : ℕ → Left
@@ -69,6 +65,6 @@ renewed n d =
       lines = d .lines;
     }
 
--- before the first line: a fresh part of 128 pages
+-- before the first line: a fresh short part
 unfoldable pub begun : Desk
-begun = renewed (bytesIn 128) (record { block = []; array = []; log = []; out = []; given = 0; lines = 0 })
+begun = renewed firstLength (record { block = []; array = []; log = []; out = []; given = 0; lines = 0 })

@@ -19,7 +19,7 @@ use Rattle.lengths.specs.declared.room.Lengths.{Lengths}
 use Rattle.contents.specs.Junk.{junkOf}
 use Rattle.lengths.specs.Lengths.{lengthsOf}
 use Rattle.acting.specs.Steps.{isStep, seedOf, blank, opOf, Seen, seenBy}
-use Rattle.obeying.specs.Desk.{Desk, counted, renewed, bytesIn}
+use Rattle.obeying.specs.Desk.{Desk, counted, renewed}
 
 -- ---- a step: a call, or an event on the chip
 
@@ -79,7 +79,7 @@ summed d = sumLine (d .block) (d .array) (d .log) (d .out) (d .given)
 
 -- the desk after an order of a line: `sum` changes nothing, `part` brings a fresh part
 unfoldable pub obeyed : Order → List ℕ → Desk → Desk
-obeyed o line d = cond (isStep (o .command)) (stepped (seenIn o line d) d) (cond (isSum (o .command)) d (renewed (bytesIn (o .number)) d))
+obeyed o line d = cond (isStep (o .command)) (stepped (seenIn o line d) d) (cond (isSum (o .command)) d (renewed (o .number) d))
 
 -- what it prints: of `part` nothing
 unfoldable pub shown : Order → List ℕ → Desk → List ℕ

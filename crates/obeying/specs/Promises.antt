@@ -6,14 +6,14 @@ use mathlib.Core.List.{List}
 use lib.ListN.{length}
 use Rattle.printing.specs.declared.Output.{Output}
 use Rattle.printing.specs.Held.{Printed}
-use Rattle.lengths.specs.Lengths.{logRoom, junkRoom}
+use Rattle.lengths.specs.Lengths.{arrayRoom, logRoom, junkRoom}
 use Rattle.acting.specs.Steps.{Seen}
 use Rattle.obeying.specs.declared.Session.{Session}
 use Rattle.obeying.specs.Desk.{Desk, deskOf}
 
 -- the program's room: for the largest part's array, for junk, for a log, for a get buffer or reply, and for the longest line of text
 pub record Roomy (xs js ls us ts : List ℕ) : Type 0 where
-  pub array : length xs ≡ 1081344
+  pub array : length xs ≡ arrayRoom
   pub junk : length js ≡ junkRoom
   pub log : length ls ≡ logRoom
   pub out : length us ≡ logRoom

@@ -3,20 +3,19 @@
 ghost use mathlib.Core.Path.{_≡_};
 ghost use mathlib.Core.Bool.{true, false};
 ghost use mathlib.Core.List.{List, []};
-ghost use Prim.Native.Nat.{ℕ, _+_, _*_, _≤_, min};
+ghost use Prim.Native.Nat.{ℕ, _+_, _≤_, min};
 ghost use lib.ListN.{length, take};
 ghost use Rattle.printing.specs.Held.{Printed};
 ghost use Rattle.lines.specs.Texts.{faultText};
 ghost use Rattle.printing.specs.Texts.{sumLine};
-ghost use Rattle.lengths.specs.Lengths.{Lends, lengthsOf, junkRoom, logRoom};
+ghost use Rattle.lengths.specs.Lengths.{Lends, lengthsOf, arrayRoom, junkRoom, logRoom};
 ghost use Rattle.acting.specs.Steps.{isStep, Seen};
 ghost use Rattle.orders.specs.Bounds.{Sound, SoundReading};
 ghost use Rattle.faults.specs.Messages.{textOf};
 ghost use Rattle.words.specs.Words.{isCall};
-ghost use mathlib.Core.Logic.{_⊎_};
 ghost use Rattle.state.specs.Memory.{chipIn};
 ghost use Rattle.blocks.specs.Block.{encodeChip};
-ghost use Rattle.obeying.specs.Desk.{deskOf, counted, freshPart, Whole, renewed, bytesIn, begun};
+ghost use Rattle.obeying.specs.Desk.{deskOf, counted, freshPart, Whole, renewed, begun};
 ghost use Rattle.obeying.specs.Orders.{isSum, seenOn, seenIn, stepped, shownBy, shownOf, summed, obeyed, shown, afterLine, lineText};
 ghost use Rattle.obeying.specs.Promises.{Roomy, Obeyed, Ran, afterStep, withOutput};
 use acting::Totals;
@@ -26,6 +25,9 @@ use orders::Fault;
 use orders::Order;
 use orders::Reading;
 use printing::Output;
+
+// The length of the array of the part that the program starts with.
+const FIRST_LENGTH: usize = 33792;
 
 // What is kept between lines, beside the buffers.
 pub struct Session {
@@ -202,19 +204,18 @@ fn renew(n: usize, block: &mut [u8; 765], array: &mut [u8])
     slipknoll::slipknoll_fresh(block, &factory, array);
 }
 
-// A fresh part of so many pages; nothing was lent.
-fn part(s: Session, pages: usize, block: &mut [u8; 765], array: &mut [u8]) -> Session
-    requires { ⌜ (length (now array) ≡ 1081344) × ((pages ≡ 128) ⊎ (pages ≡ 4096)) ⌝ }
-    ensures { λ r. ⌜ ((log out : List ℕ) → deskOf r (now (block .exit)) (now (array .exit)) log out ≡ renewed (bytesIn pages) (deskOf s (now (block .entry)) (now (array .entry)) log out)) × (r .output ≡ s .output) ⌝ }
+// A fresh part of `n` bytes; nothing was lent.
+fn part(s: Session, n: usize, block: &mut [u8; 765], array: &mut [u8]) -> Session
+    requires { ⌜ (length (now array) ≡ arrayRoom) × Whole n ⌝ }
+    ensures { λ r. ⌜ ((log out : List ℕ) → deskOf r (now (block .exit)) (now (array .exit)) log out ≡ renewed n (deskOf s (now (block .entry)) (now (array .entry)) log out)) × (r .output ≡ s .output) ⌝ }
 {
-    let n = pages * 264;
     renew(n, block, &mut array[..n]);
     after_step(s, n, 0, 0, 0, s.output)
 }
 
 // The program starts with a fresh short part.
 pub fn start(block: &mut [u8; 765], array: &mut [u8]) -> Session
-    requires { ⌜ length (now array) ≡ 1081344 ⌝ }
+    requires { ⌜ length (now array) ≡ arrayRoom ⌝ }
     ensures { λ r. ⌜ ((log out : List ℕ) → deskOf r (now (block .exit)) (now (array .exit)) log out ≡ begun) × (r .output ≡ record { waiting = 0; written = 0; failed = false }) ⌝ }
 {
     let none = Session {
@@ -225,7 +226,7 @@ pub fn start(block: &mut [u8; 765], array: &mut [u8]) -> Session
         lines: 0,
         output: printing::nothing(),
     };
-    part(none, 128, block, array)
+    part(none, FIRST_LENGTH, block, array)
 }
 
 // The checksums of the last step.

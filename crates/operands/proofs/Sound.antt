@@ -2,22 +2,22 @@
 -- Assumes nothing.
 use mathlib.Core.Path.{refl}
 use mathlib.Core.Bool.{Bool, true, false, cond}
-use mathlib.Core.List.{List}
+use mathlib.Core.List.{List, [], _∷_}
 use mathlib.Core.Logic.{inl, inr}
-use Prim.Native.Nat.{ℕ, zero-le}
+use Prim.Native.Nat.{ℕ, _≤_, zero-le}
 use native.Mathlib.Omega.{arith}
 use lib.ListN.{length}
 use lib.Dec.{eqb}
 use Rattle.slices.specs.Lists.{same}
-use Rattle.words.specs.Letters.{bytes}
 use Rattle.words.specs.Words.{wordFrom, partOf}
 use Rattle.operands.specs.Operands.{firstOf, takesPlace, takesBytes}
-use Rattle.word_values.specs.Values.{decimalOf, reduced, numberAs, testHex}
+use Rattle.word_values.specs.Values.{Row, decimalOf, reduced, inTable, ifGiven, levels, parts, numberAs, testHex}
 use Rattle.operands.specs.Operands.{withNumberTo, numberIn, takeFirst, withPlaceTo, takePlace, withBytesTo, takeBytes, thenPlace, thenBytes, operandsOf}
 use Rattle.words.specs.Bounds.{Within}
-use Rattle.operands.specs.Bounds.{Ranged, SoundNumber, SoundTaken, SoundStep}
+use Rattle.operands.specs.Bounds.{Among, Ranged, SoundNumber, SoundTaken, SoundStep}
 use Rattle.words.specs.declared.Command.{Command}
 use Rattle.words.specs.declared.Span.{Span}
+use Rattle.faults.specs.declared.Name.{Name}
 use Rattle.faults.specs.declared.Name.the-variants as Name
 use Rattle.faults.specs.declared.Fault.{Fault}
 use Rattle.faults.specs.declared.Fault.the-variants as Fault
@@ -46,22 +46,32 @@ reduced-seed : (n : Numbered) → SoundNumber First.Seed (reduced n)
 reduced-seed (Numbered.Value v) = omega arith
 reduced-seed (Numbered.Fault f) = tt
 
-either : (k : First) (x y : ℕ) (f g : Fault) (a b d : Bool) → Ranged k x → Ranged k y
-    → SoundNumber k (cond a (Numbered.Fault f) (cond b (Numbered.Value x) (cond d (Numbered.Value y) (Numbered.Fault g))))
-either k x y f g true b d p q = tt
-either k x y f g false true d p q = p
-either k x y f g false false true p q = q
-either k x y f g false false false p q = tt
+pick-number : (k : First) (b : Bool) (m n : Numbered) → SoundNumber k m → SoundNumber k n → SoundNumber k (cond b m n)
+pick-number k true m n p q = p
+pick-number k false m n p q = q
+
+-- what a table gives is in the range that holds all its numbers
+table-sound : (k : First) (word : List ℕ) (rs : List Row) (f : Fault) → ((n : ℕ) → Among n rs → Ranged k n) → SoundNumber k (inTable word rs f)
+table-sound k word [] f h = tt
+table-sound k word (r ∷ rs) f h =
+    pick-number k (same word (r .word)) (Numbered.Value (r .number)) (inTable word rs f) (h (r .number) (inl refl))
+    (table-sound k word rs f (λ n m. h n (inr m)))
+
+given-sound : (k : First) (word : List ℕ) (name : Name) (rs : List Row) (f : Fault) → ((n : ℕ) → Among n rs → Ranged k n) → SoundNumber k (ifGiven word name (inTable word rs f))
+given-sound k word name rs f h =
+    pick-number k (eqb (length word) 0) (Numbered.Fault (Fault.Missing name)) (inTable word rs f) tt (table-sound k word rs f h)
+
+level-most : (n : ℕ) → Among n levels → n ≤ 1
+level-most n (inl e) = omega arith
+level-most n (inr (inl e)) = omega arith
+level-most n (inr (inr x)) = absurd x
 
 number-sound : (word : List ℕ) (k : First) → SoundNumber k (numberAs word k)
 unfolding numberAs
 number-sound word First.Slot = any-slot (decimalOf word Name.Slot)
 number-sound word First.Seed = reduced-seed (decimalOf word Name.Seed)
-number-sound word First.Level =
-    either First.Level 0 1 (Fault.Missing Name.Level) Fault.NotLevel (eqb (length word) 0) (same word (bytes "0")) (same word (bytes "1")) (omega arith) (omega arith)
-number-sound word First.Pages =
-    either First.Pages 128 4096 (Fault.Missing Name.Pages) Fault.NotPages (eqb (length word) 0) (same word (bytes "128")) (same word (bytes "4096"))
-    (inl refl) (inr refl)
+number-sound word First.Level = given-sound First.Level word Name.Level levels Fault.NotLevel level-most
+number-sound word First.Part = given-sound First.Part word Name.Part parts Fault.NotPart (λ n h. h)
 number-sound word First.Nothing = refl
 
 -- ---- the operands
@@ -77,7 +87,7 @@ unfolding takeFirst
 first-sound xs at First.Slot = numbered-in xs First.Slot (wordFrom xs at)
 first-sound xs at First.Seed = numbered-in xs First.Seed (wordFrom xs at)
 first-sound xs at First.Level = numbered-in xs First.Level (wordFrom xs at)
-first-sound xs at First.Pages = numbered-in xs First.Pages (wordFrom xs at)
+first-sound xs at First.Part = numbered-in xs First.Part (wordFrom xs at)
 first-sound xs at First.Nothing = ((zero-le, zero-le), refl)
 
 placed-sound : (n : ℕ) (k : First) (t : Taken) (at : ℕ) (v : Numbered) → SoundTaken n k t → SoundStep n k (withPlaceTo t at v)

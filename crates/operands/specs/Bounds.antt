@@ -3,7 +3,9 @@
 use Prim.Native.Nat.{ℕ, _≤_, _<_}
 use mathlib.Core.Path.{_≡_}
 use mathlib.Core.Logic.{_⊎_}
+use mathlib.Core.List.{List, [], _∷_}
 use Rattle.words.specs.Bounds.{Within}
+use Rattle.word_values.specs.Values.{Row, parts}
 use Rattle.word_values.specs.declared.First.{First}
 use Rattle.word_values.specs.declared.First.the-variants as First
 use Rattle.word_values.specs.declared.Numbered.{Numbered}
@@ -12,12 +14,17 @@ use Rattle.operands.specs.declared.Taken.{Taken}
 use Rattle.operands.specs.declared.Step.{Step}
 use Rattle.operands.specs.declared.Step.the-variants as Step
 
--- the number is one that stands behind the command: SEED modulo 256, 0 or 1, 128 or 4096, or 0 where there is none
+-- the number is one of the table's
+abbrev pub Among : ℕ → List Row → Type 0
+Among n [] = ⊥
+Among n (r ∷ rs) = (n ≡ r .number) ⊎ Among n rs
+
+-- the number is one that stands behind the command: SEED modulo 256, 0 or 1, the length of a part's array, or 0 where there is none
 abbrev pub Ranged : First → ℕ → Type 0
 Ranged First.Slot n = Unit
 Ranged First.Seed n = n < 256
 Ranged First.Level n = n ≤ 1
-Ranged First.Pages n = (n ≡ 128) ⊎ (n ≡ 4096)
+Ranged First.Part n = Among n parts
 Ranged First.Nothing n = n ≡ 0
 
 -- a number read is in its range

@@ -34,7 +34,7 @@ firstOf Command.Send = First.Nothing
 firstOf Command.End = First.Nothing
 firstOf Command.Pin = First.Level
 firstOf Command.Cut = First.Seed
-firstOf Command.Part = First.Pages
+firstOf Command.Part = First.Part
 firstOf Command.Sum = First.Nothing
 
 -- PLACE stands behind S of patch alone
@@ -85,7 +85,7 @@ abbrev pub isNothing : First → Bool
 isNothing First.Slot = false
 isNothing First.Seed = false
 isNothing First.Level = false
-isNothing First.Pages = false
+isNothing First.Part = false
 isNothing First.Nothing = true
 
 -- the number, where the command has one

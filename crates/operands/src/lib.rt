@@ -35,7 +35,7 @@ fn first_of(c: Command) -> First
         Command::End => First::Nothing,
         Command::Pin => First::Level,
         Command::Cut => First::Seed,
-        Command::Part => First::Pages,
+        Command::Part => First::Part,
         Command::Sum => First::Nothing,
     }
 }
@@ -83,7 +83,7 @@ fn is_nothing(k: First) -> bool
         First::Slot => false,
         First::Seed => false,
         First::Level => false,
-        First::Pages => false,
+        First::Part => false,
         First::Nothing => true,
     }
 }

@@ -55,6 +55,8 @@ pub worked :
     (readOf (bytes "wipe 1 b=2 b=") ≡ Reading.Fault Fault.Twice) ×
     (readOf (bytes "get 1 reply=65537") ≡ Reading.Fault (Fault.Over Key.Reply)) ×
     (readOf (bytes "pin 1 b=2") ≡ Reading.Fault Fault.TooManyWords) ×
+    (readOf (bytes "part\t") ≡ Reading.Fault (Fault.Missing Name.Part)) ×
+    (readOf (bytes "part 128x") ≡ Reading.Fault Fault.NotPart) ×
     (readOf (bytes " \t\r") ≡ Reading.Fault Fault.NoCommand)
 unfolding readOf saidBy commandOf beginsWith keyOf numberAs takeFirst takePlace takeBytes operandsOf takeValue takeOption takeWord takeWords optionsOf orderOf same every leading scan isBlank notBlank isDigit valueFrom belowLimit numberOf nibbleOf isHexDigit hexOf
-worked = (refl, refl, refl, refl, refl, refl, refl, refl)
+worked = (refl, refl, refl, refl, refl, refl, refl, refl, refl, refl)

@@ -28,7 +28,7 @@ pub enum Lent {
 
 pub struct Order {
     pub command: Command,
-    // S of a call; 0 or 1 of pin; SEED of cut, modulo 256; 128 or 4096 of part; else 0.
+    // S of a call; 0 or 1 of pin; SEED of cut, modulo 256; the length of the array of part; else 0.
     pub number: usize,
     // PLACE of patch, else 0.
     pub place: usize,

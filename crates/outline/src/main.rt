@@ -4,6 +4,7 @@ ghost use mathlib.Core.Path.{_≡_};
 ghost use mathlib.Core.Bool.{true, false};
 ghost use lib.ListN.{length};
 ghost use Rattle.io.specs.Counts.{Counts};
+ghost use Rattle.lengths.specs.Lengths.{arrayRoom, junkRoom};
 ghost use Rattle.obeying.specs.Promises.{Roomy};
 ghost use Rattle.inputs.specs.Places.{lineRoom, place, Closes};
 ghost use Rattle.outline.specs.Run.{Went, Said};
@@ -32,13 +33,13 @@ pub struct Ended {
 
 // The arrays that live as long as the program. The promise gives the length alone, which lending them needs.
 fn full_array() -> [u8; 1081344]
-    ensures { λ r. ⌜ length r ≡ 1081344 ⌝ }
+    ensures { λ r. ⌜ length r ≡ arrayRoom ⌝ }
 {
     [0; 1081344]
 }
 
 fn full_junk() -> [u8; 1114112]
-    ensures { λ r. ⌜ length r ≡ 1114112 ⌝ }
+    ensures { λ r. ⌜ length r ≡ junkRoom ⌝ }
 {
     [0; 1114112]
 }

@@ -11,6 +11,7 @@ use mir.Val.{Fits}
 use mir.Syntax.{w64}
 use lib.ListN.{length, getD, take, drop}
 use borrow.Author.Tests.{eq-eqb, ne-eqb}
+use Rattle.geometry.specs.Parts.{slotRoom, pageRoom}
 use Rattle.slices.specs.Lists.{tabulate, splice}
 use Rattle.slices.proofs.Laws.{length-tabulate, getD-tabulate, tabulate-same, tabulate-append, tabulate-part, length-splice, spliced, splice-part, run-length, run-part}
 use Rattle.geometry.specs.declared.Geometry.{Geometry}
@@ -25,11 +26,11 @@ use Rattle.page_data.proofs.Bytes.{rest-long, two-parts}
 
 -- ---- where a page lies
 
-pub page-within : (size n : ℕ) → size ≤ 264 → n ≤ 7 → size * n + size ≤ 2112
+pub page-within : (size n : ℕ) → size ≤ pageRoom → n ≤ 7 → size * n + size ≤ slotRoom
 page-within size n h l = omega (arith, mul-le-mul h l)
 
 -- and is a number of 64 bits
-pub page-small : (size n : ℕ) → size ≤ 264 → n ≤ 7 → Fits w64 (size * n)
+pub page-small : (size n : ℕ) → size ≤ pageRoom → n ≤ 7 → Fits w64 (size * n)
 page-small size n h l = omega (arith, page-within size n h l)
 
 -- every page but a slot's first begins behind the head
@@ -123,7 +124,7 @@ module _ (place : ℕ) (payload staged : List ℕ) (start size : ℕ) (fits : st
 -- ---- a reply to D2: the page came back as ys
 
 module _ {g : Geometry} (s : Pages g) (kind : Kind) (v : Verdict) (place page : ℕ) (payload staged : List ℕ) (start : ℕ)
-    (at : start ≡ g .size * (page % 8)) (long : length staged ≡ 2112)
+    (at : start ≡ g .size * (page % 8)) (long : length staged ≡ slotRoom)
     (reply ys : List ℕ) (copied : ys ≡ tabulate (length (take (start + g .size - start) (drop start staged))) (λ i. getD reply (8 + i) 255)) where
   fits : start + g .size ≤ length staged
   fits = omega (arith, page-within (g .size) (page % 8) (s .most) (omega arith))

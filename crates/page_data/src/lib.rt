@@ -4,6 +4,7 @@ ghost use mathlib.Core.Path.{_≡_};
 ghost use Prim.Native.Nat.{ℕ, _+_, _-_, _*_, _/_, _%_, _≤_, _<_};
 ghost use mathlib.Core.List.{[], _∷_};
 ghost use lib.ListN.{length, getD};
+ghost use Rattle.geometry.specs.Parts.{slotRoom};
 ghost use Rattle.slices.specs.Lists.{tabulate};
 ghost use Rattle.slots.specs.Records.{image, patched};
 ghost use Rattle.slots.specs.Driver.{storedBy, readIn};
@@ -52,7 +53,7 @@ fn excess(a: usize, b: usize) -> usize
 // Where a page of the part begins among its slot's bytes.
 fn page_start(g: Geometry, page: usize) -> usize
     requires { ⌜ Pages g ⌝ }
-    ensures { λ r. ⌜ (r ≡ g .size * (page % 8)) × (r + g .size ≤ 2112) × (0 < r → 3 ≤ r) ⌝ }
+    ensures { λ r. ⌜ (r ≡ g .size * (page % 8)) × (r + g .size ≤ slotRoom) × (0 < r → 3 ≤ r) ⌝ }
 {
     g.size * (page % 8)
 }
@@ -84,7 +85,7 @@ fn load_image(start: usize, recipe: &[u8], part: &mut [u8])
 
 // The patch's bytes are laid over a part of the slot that begins at index `start`.
 fn lay_patch(place: usize, bytes: &[u8], start: usize, part: &mut [u8])
-    requires { ⌜ start + length (now part) ≤ 2112 ⌝ }
+    requires { ⌜ start + length (now part) ≤ slotRoom ⌝ }
     ensures { λ _. ⌜ now (part .exit) ≡ tabulate (length (now (part .entry))) (λ i. patched place (now (bytes .entry)) (getD (now (part .entry)) i 0) (start + i)) ⌝ }
 {
     if 2112 <= place {
@@ -114,7 +115,7 @@ fn load_patched(
     staged: &[u8],
     part: &mut [u8],
 )
-    requires { ⌜ (length (now staged) ≡ 2112) × (start + length (now part) ≤ 2112) ⌝ }
+    requires { ⌜ (length (now staged) ≡ slotRoom) × (start + length (now part) ≤ slotRoom) ⌝ }
     ensures { λ _. ⌜ now (part .exit) ≡ tabulate (length (now (part .entry))) (λ i. storedBy Kind.Patch (held verdict place (now (payload .entry)) (now (staged .entry))) (start + i)) ⌝ }
 {
     let e = start + part.len();
@@ -137,7 +138,7 @@ pub fn load_page(
     staged: &[u8],
     part: &mut [u8],
 )
-    requires { ⌜ (Pages g) × (length (now staged) ≡ 2112) × (length (now part) ≡ g .size) ⌝ }
+    requires { ⌜ (Pages g) × (length (now staged) ≡ slotRoom) × (length (now part) ≡ g .size) ⌝ }
     ensures { λ _. ⌜ now (part .exit) ≡ tabulate (g .size) (λ i. storedBy kind (held verdict place (now (payload .entry)) (now (staged .entry))) (g .size * (page % 8) + i)) ⌝ }
 {
     let start = page_start(g, page);
@@ -162,7 +163,7 @@ pub fn read_page(
     reply: &[u8],
     staged: &mut [u8],
 ) -> Verdict
-    requires { ⌜ (Pages g) × (length (now staged) ≡ 2112) ⌝ }
+    requires { ⌜ (Pages g) × (length (now staged) ≡ slotRoom) ⌝ }
     ensures { λ r. ⌜ held r place (now (payload .entry)) (now (staged .exit)) ≡ readIn g kind page (held verdict place (now (payload .entry)) (now (staged .entry))) (tabulate (g .size) (λ i. getD (now (reply .entry)) (8 + i) 255)) ⌝ }
 {
     let size = g.size;

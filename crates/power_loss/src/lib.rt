@@ -4,7 +4,7 @@ ghost use mathlib.Core.Bool.{true, false};
 ghost use mathlib.Core.List.{[]};
 ghost use Prim.Native.Nat.{_+_, _*_, _≤_};
 ghost use lib.ListN.{length};
-ghost use Rattle.geometry.specs.Parts.{Sized};
+ghost use Rattle.geometry.specs.Parts.{Sized, pageRoom};
 ghost use Rattle.registers.specs.Operations.{within};
 ghost use Rattle.memory.specs.Pages.{junkBuffer};
 ghost use Rattle.state.specs.PowerLoss.{arrayLost};
@@ -29,7 +29,7 @@ fn spoil_array(g: Geometry, array: &mut [u8], junk: &[u8], o: Operation)
 
 // Both buffers become junk, and the compare bit 0.
 fn spoil_buffers(g: Geometry, c: Chip, junk: &[u8]) -> Chip
-    requires { ⌜ (g .size ≤ 264) × (2 * g .size ≤ length (now junk)) ⌝ }
+    requires { ⌜ (g .size ≤ pageRoom) × (2 * g .size ≤ length (now junk)) ⌝ }
     ensures { λ r. ⌜ r ≡ record { registers = c .registers; buffer1 = junkBuffer g (now (junk .entry)) 0 (c .buffer1); buffer2 = junkBuffer g (now (junk .entry)) (g .size) (c .buffer2); compare = false } ⌝ }
 {
     let mut b1 = c.buffer1;

@@ -2,6 +2,8 @@
 -- Assumes nothing.
 use Prim.Native.Nat.{ℕ, _≤_}
 use mathlib.Core.List.{List}
+use Rattle.registers.specs.Protection.{Roomed}
+use Rattle.geometry.specs.Parts.{pageRoom}
 use Rattle.geometry.specs.declared.Geometry.{Geometry}
 use Rattle.slots.specs.declared.Verdict.{Verdict}
 use Rattle.slots.specs.Driver.{Holding}
@@ -10,7 +12,9 @@ use Rattle.slots.specs.Driver.{Holding}
 abbrev pub held : Verdict → ℕ → List ℕ → List ℕ → Holding
 held v place payload staged = record { payload = payload; place = place; staged = staged; verdict = v }
 
--- how large a page may be: a head fits one, and a slot has 2,112 bytes at most
+-- what the driver goes by of a part: a head fits a page, and a slot its room; an address is small; the registers fill their room
 pub record Pages (g : Geometry) : Type 0 where
   pub some : 64 ≤ g .size
-  pub most : g .size ≤ 264
+  pub most : g .size ≤ pageRoom
+  pub named : g .field ≤ 16777216
+  pub full : Roomed g

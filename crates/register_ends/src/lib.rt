@@ -5,11 +5,11 @@ ghost use Prim.Native.Nat.{_+_, _*_, _≤_, _<_};
 ghost use mathlib.Core.Bool.{true};
 ghost use lib.ListN.{length, take};
 ghost use Rattle.slices.specs.Lists.{over, andOver};
-ghost use Rattle.geometry.specs.Parts.{Sized};
+ghost use Rattle.geometry.specs.Parts.{registerRoom, Sized};
 ghost use Rattle.registers.specs.Data.{bytes16};
 ghost use Rattle.registers.specs.Fields.{withProtection, withLockdown, withUser};
 ghost use Rattle.registers.specs.Operations.{within};
-ghost use Rattle.registers.specs.Protection.{lockedBytes};
+ghost use Rattle.registers.specs.Protection.{Roomed, lockedBytes};
 ghost use Rattle.control.specs.Completion.{completedBy, completed};
 ghost use Rattle.control.specs.PowerLoss.{afterBuffers, reached, reaching, spoilt, lostBy, lost};
 use geometry::Geometry;
@@ -29,8 +29,8 @@ fn finish_protection(r: Registers, data: Data16) -> Registers
 }
 
 fn lock(r: Registers, sector: usize) -> Registers
-    requires { ⌜ sector < 17 ⌝ }
-    ensures { λ n. ⌜ n ≡ withLockdown r (lockedBytes (r .lockdown) sector) ⌝ }
+    requires { ⌜ sector < registerRoom + 1 ⌝ }
+    ensures { λ n. ⌜ ((g : Geometry) → Roomed g → n ≡ withLockdown r (lockedBytes g (r .lockdown) sector)) ⌝ }
 {
     let lockdown = r.lockdown;
     registers::with_lockdown(r, registers::locked_bytes(lockdown, sector))
@@ -39,7 +39,7 @@ fn lock(r: Registers, sector: usize) -> Registers
 // What the operation does to the registers as it ends.
 fn finish(g: Geometry, r: Registers, o: Operation) -> Registers
     requires { ⌜ (Sized g (g .pages * g .size)) × (within g o ≡ true) ⌝ }
-    ensures { λ n. ⌜ n ≡ completedBy o r ⌝ }
+    ensures { λ n. ⌜ n ≡ completedBy g o r ⌝ }
 {
     let u = registers::update_of(o);
     match u {
@@ -54,7 +54,7 @@ fn finish(g: Geometry, r: Registers, o: Operation) -> Registers
 // The registers after a busy end.
 pub fn complete(g: Geometry, r: Registers) -> Registers
     requires { ⌜ (Sized g (g .pages * g .size)) × (within g (r .operation) ≡ true) ⌝ }
-    ensures { λ n. ⌜ n ≡ completed r ⌝ }
+    ensures { λ n. ⌜ n ≡ completed g r ⌝ }
 {
     let o = r.operation;
     registers::with_operation(finish(g, r, o), Operation::Idle)
@@ -62,12 +62,12 @@ pub fn complete(g: Geometry, r: Registers) -> Registers
 
 // A cut during CF or FC: protection becomes junk.
 fn lose_protection(g: Geometry, r: Registers, junk: &[u8]) -> Registers
-    requires { ⌜ 2 * g .size + 64 ≤ length (now junk) ⌝ }
-    ensures { λ n. ⌜ n ≡ withProtection r (over (take 16 (afterBuffers g (now (junk .entry)))) (r .protection)) ⌝ }
+    requires { ⌜ (Roomed g) × (2 * g .size + 64 ≤ length (now junk)) ⌝ }
+    ensures { λ n. ⌜ n ≡ withProtection r (over (take (g .register) (afterBuffers g (now (junk .entry)))) (r .protection)) ⌝ }
 {
     let mut bytes = r.protection;
     let a = 2 * g.size;
-    let e = a + 16;
+    let e = a + g.register;
     slices::copy(&mut bytes, &junk[a..e]);
     registers::with_protection(r, bytes)
 }
@@ -86,11 +86,11 @@ fn lose_security(g: Geometry, r: Registers, junk: &[u8]) -> Registers
 
 // A cut during a lock: the sector locks if the first junk byte after the buffers' is at least 80h.
 fn lose_lock(g: Geometry, r: Registers, junk: &[u8], sector: usize) -> Registers
-    requires { ⌜ (2 * g .size + 64 ≤ length (now junk)) × (sector < 17) ⌝ }
-    ensures { λ n. ⌜ n ≡ spoilt (Update.Lock sector) (reached (Update.Lock sector) (afterBuffers g (now (junk .entry)))) r ⌝ }
+    requires { ⌜ (Roomed g) × (2 * g .size + 64 ≤ length (now junk)) × (sector < registerRoom + 1) ⌝ }
+    ensures { λ n. ⌜ n ≡ spoilt g (Update.Lock sector) (reached g (Update.Lock sector) (afterBuffers g (now (junk .entry)))) r ⌝ }
 {
-    let a = 2 * g.size;
-    if 128 <= junk[a] {
+    let first = 2 * g.size;
+    if 128 <= junk[first] {
         return lock(r, sector);
     }
     r
@@ -99,7 +99,7 @@ fn lose_lock(g: Geometry, r: Registers, junk: &[u8], sector: usize) -> Registers
 // What a cut during the operation does to the registers.
 fn lose_operation(g: Geometry, r: Registers, o: Operation, junk: &[u8]) -> Registers
     requires { ⌜ (Sized g (g .pages * g .size)) × (within g o ≡ true) × (2 * g .size + 64 ≤ length (now junk)) ⌝ }
-    ensures { λ n. ⌜ n ≡ lostBy o (reaching g o (now (junk .entry))) r ⌝ }
+    ensures { λ n. ⌜ n ≡ lostBy g o (reaching g o (now (junk .entry))) r ⌝ }
 {
     let u = registers::update_of(o);
     match u {
@@ -114,7 +114,7 @@ fn lose_operation(g: Geometry, r: Registers, o: Operation, junk: &[u8]) -> Regis
 // The registers after a cut.
 pub fn lose(g: Geometry, r: Registers, junk: &[u8]) -> Registers
     requires { ⌜ (Sized g (g .pages * g .size)) × (within g (r .operation) ≡ true) × (2 * g .size + 64 ≤ length (now junk)) ⌝ }
-    ensures { λ n. ⌜ n ≡ lost r (reaching g (r .operation) (now (junk .entry))) ⌝ }
+    ensures { λ n. ⌜ n ≡ lost g r (reaching g (r .operation) (now (junk .entry))) ⌝ }
 {
     let o = r.operation;
     registers::restart(lose_operation(g, r, o, junk))

@@ -118,28 +118,28 @@ run-block block page =
     (λ e. let h = eqb-true (page / 8) block e in pages-run (run (8 * block) 8) page (omega arith) (omega arith))
 
 -- pages of a run alone
-only : (r : Run) (page : ℕ) (b : Bool) → inRun r page ≡ b → (inRun r page || inSet 0 (sectorOf page)) ≡ b
-only r page b e = ap (λ (t : Bool). inRun r page || t) (in-none (sectorOf page)) ∙ or-false (inRun r page) ∙ e
+only : (g : Geometry) (r : Run) (page : ℕ) (b : Bool) → inRun r page ≡ b → (inRun r page || inSet 0 (sectorOf g page)) ≡ b
+only g r page b e = ap (λ (t : Bool). inRun r page || t) (in-none (sectorOf g page)) ∙ or-false (inRun r page) ∙ e
 
 module _ (g : Geometry) (page : ℕ) (o : Operation) where
-  named : (n : Named) → targetOf o ≡ n → writes g o page ≡ (inRun (runNamed g n) page || inSet (setNamed n) (sectorOf page))
+  named : (n : Named) → targetOf o ≡ n → writes g o page ≡ (inRun (runNamed g n) page || inSet (setNamed n) (sectorOf g page))
   unfolding writes runOf sectorsOf
-  named n e = ap (λ (k : Named). inRun (runNamed g k) page || inSet (setNamed k) (sectorOf page)) e
+  named n e = ap (λ (k : Named). inRun (runNamed g k) page || inSet (setNamed k) (sectorOf g page)) e
 
   pub target-nothing : targetOf o ≡ Nothing → writes g o page ≡ false
-  target-nothing e = named Nothing e ∙ only (run 0 0) page false (run-none page)
+  target-nothing e = named Nothing e ∙ only g (run 0 0) page false (run-none page)
 
   pub target-page : (p : ℕ) → targetOf o ≡ Page p → writes g o page ≡ eqb page p
-  target-page p e = named (Page p) e ∙ only (run p 1) page (eqb page p) (run-one p page)
+  target-page p e = named (Page p) e ∙ only g (run p 1) page (eqb page p) (run-one p page)
 
   pub target-block : (block : ℕ) → targetOf o ≡ Block block → writes g o page ≡ eqb (page / 8) block
-  target-block block e = named (Block block) e ∙ only (run (8 * block) 8) page (eqb (page / 8) block) (run-block block page)
+  target-block block e = named (Block block) e ∙ only g (run (8 * block) 8) page (eqb (page / 8) block) (run-block block page)
 
-  pub target-sector : (s : ℕ) → targetOf o ≡ Sector s → page < g .pages → writes g o page ≡ eqb (sectorOf page) s
-  target-sector s e l = named (Sector s) e ∙ only (sectorRun g s) page (eqb (sectorOf page) s) (sector-run g s page l)
+  pub target-sector : (s : ℕ) → targetOf o ≡ Sector s → 8 < g .span → page < g .pages → writes g o page ≡ eqb (sectorOf g page) s
+  target-sector s e w l = named (Sector s) e ∙ only g (sectorRun g s) page (eqb (sectorOf g page) s) (sector-run g w s page l)
 
-  pub target-sectors : (sectors : ℕ) → targetOf o ≡ Sectors sectors → writes g o page ≡ inSet sectors (sectorOf page)
-  target-sectors sectors e = named (Sectors sectors) e ∙ ap (λ (b : Bool). b || inSet sectors (sectorOf page)) (run-none page)
+  pub target-sectors : (sectors : ℕ) → targetOf o ≡ Sectors sectors → writes g o page ≡ inSet sectors (sectorOf g page)
+  target-sectors sectors e = named (Sectors sectors) e ∙ ap (λ (b : Bool). b || inSet sectors (sectorOf g page)) (run-none page)
 
 -- those of the slot driver's operations
 module _ (g : Geometry) (page : ℕ) where

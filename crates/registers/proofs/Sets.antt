@@ -11,6 +11,7 @@ use native.Mathlib.Omega.{arith}
 use lib.Dec.{eqb}
 use lib.Pow.{pow-mono, shr-shr}
 use Rattle.geometry.specs.declared.Geometry.{Geometry}
+use Rattle.geometry.specs.Parts.{registerRoom}
 use Rattle.geometry.specs.Sectors.{sectorCount}
 use Rattle.registers.specs.declared.Operation.the-variants.{Idle}
 use Rattle.registers.specs.declared.Registers.{Registers}
@@ -45,56 +46,56 @@ rest b m k =
     ap (λ (j : ℕ). eqb (n / 2 ^ j % 2) 1) (sym (one-add k))
     ∙ ap (λ (j : ℕ). eqb (j % 2) 1) (sym (shr-shr n 1 k) ∙ ap (λ (j : ℕ). j / 2 ^ k) (half b m))
 
-from-has : (r : Registers) (n s k : ℕ) → k < n → inSet (unsealedFrom r n s) k ≡ not (sealed r (s + k))
+from-has : (g : Geometry) (r : Registers) (n s k : ℕ) → k < n → inSet (unsealedFrom g r n s) k ≡ not (sealed g r (s + k))
 unfolding unsealedFrom
-from-has r zero s k l = absurd (omega arith)
-from-has r (suc n) s zero l = last (sealed r s) (unsealedFrom r n (s + 1)) ∙ ap (λ (t : ℕ). not (sealed r t)) (sym (add-zero s))
-from-has r (suc n) s (suc k) l =
+from-has g r zero s k l = absurd (omega arith)
+from-has g r (suc n) s zero l = last (sealed g r s) (unsealedFrom g r n (s + 1)) ∙ ap (λ (t : ℕ). not (sealed g r t)) (sym (add-zero s))
+from-has g r (suc n) s (suc k) l =
     let e : s + 1 + k ≡ s + suc k = omega arith in
-    rest (sealed r s) (unsealedFrom r n (s + 1)) k ∙ from-has r n (s + 1) k (omega arith) ∙ ap (λ (t : ℕ). not (sealed r t)) e
+    rest (sealed g r s) (unsealedFrom g r n (s + 1)) k ∙ from-has g r n (s + 1) k (omega arith) ∙ ap (λ (t : ℕ). not (sealed g r t)) e
 
 bit : (b : Bool) → cond b 0 1 ≤ 1
 bit true = omega arith
 bit false = omega arith
 
 -- n sectors make a number below 2 ^ n
-pub from-small : (r : Registers) (n s : ℕ) → unsealedFrom r n s < 2 ^ n
+pub from-small : (g : Geometry) (r : Registers) (n s : ℕ) → unsealedFrom g r n s < 2 ^ n
 unfolding unsealedFrom
-from-small r zero s = omega arith
-from-small r (suc n) s = omega (arith, pow-suc 2 n, from-small r n (s + 1), bit (sealed r s))
+from-small g r zero s = omega arith
+from-small g r (suc n) s = omega (arith, pow-suc 2 n, from-small g r n (s + 1), bit (sealed g r s))
 
--- .. and 17 of them one of 17 bits
-pub from-most : (r : Registers) (n s : ℕ) → n ≤ 17 → unsealedFrom r n s < 131072
-from-most r n s l = omega (arith, from-small r n s, pow-mono {i = n} {j = 17} l)
+-- .. and as many as a register serves are 17 at most
+pub from-most : (g : Geometry) (r : Registers) (n s : ℕ) → n ≤ registerRoom + 1 → unsealedFrom g r n s < 131072
+from-most g r n s l = omega (arith, from-small g r n s, pow-mono {i = n} {j = 17} l)
 
 -- one sector more, before the others
-pub from-more : (r : Registers) (n s : ℕ) → 0 < s → s ≤ n
-    → unsealedFrom r (n - (s - 1)) (s - 1) ≡ cond (sealed r (s - 1)) 0 1 + 2 * unsealedFrom r (n - s) s
+pub from-more : (g : Geometry) (r : Registers) (n s : ℕ) → 0 < s → s ≤ n
+    → unsealedFrom g r (n - (s - 1)) (s - 1) ≡ cond (sealed g r (s - 1)) 0 1 + 2 * unsealedFrom g r (n - s) s
 unfolding unsealedFrom
-from-more r n s l h =
+from-more g r n s l h =
     let e : n - (s - 1) ≡ suc (n - s) = omega arith in
     let f : s - 1 + 1 ≡ s = omega arith in
-    ap (λ (m : ℕ). unsealedFrom r m (s - 1)) e ∙ ap (λ (t : ℕ). cond (sealed r (s - 1)) 0 1 + 2 * unsealedFrom r (n - s) t) f
+    ap (λ (m : ℕ). unsealedFrom g r m (s - 1)) e ∙ ap (λ (t : ℕ). cond (sealed g r (s - 1)) 0 1 + 2 * unsealedFrom g r (n - s) t) f
 
 -- ---- a loop over the sectors from the last to the first
-pub from-none : (r : Registers) (n : ℕ) → 0 ≡ unsealedFrom r (n - n) n
+pub from-none : (g : Geometry) (r : Registers) (n : ℕ) → 0 ≡ unsealedFrom g r (n - n) n
 unfolding unsealedFrom
-from-none r n = let e : 0 ≡ n - n = omega arith in ap (λ (k : ℕ). unsealedFrom r k n) e
+from-none g r n = let e : 0 ≡ n - n = omega arith in ap (λ (k : ℕ). unsealedFrom g r k n) e
 
-pub from-free : (r : Registers) (n s m : ℕ) → 0 < s → s ≤ n → sealed r (s - 1) ≡ false → m ≡ unsealedFrom r (n - s) s
-    → 2 * m + 1 ≡ unsealedFrom r (n - (s - 1)) (s - 1)
-from-free r n s m l h p e = omega (arith, from-more r n s l h, ap (λ (b : Bool). cond {A = ℕ} b 0 1) p)
+pub from-free : (g : Geometry) (r : Registers) (n s m : ℕ) → 0 < s → s ≤ n → sealed g r (s - 1) ≡ false → m ≡ unsealedFrom g r (n - s) s
+    → 2 * m + 1 ≡ unsealedFrom g r (n - (s - 1)) (s - 1)
+from-free g r n s m l h p e = omega (arith, from-more g r n s l h, ap (λ (b : Bool). cond {A = ℕ} b 0 1) p)
 
-pub from-sealed : (r : Registers) (n s m : ℕ) → 0 < s → s ≤ n → sealed r (s - 1) ≡ true → m ≡ unsealedFrom r (n - s) s
-    → 2 * m ≡ unsealedFrom r (n - (s - 1)) (s - 1)
-from-sealed r n s m l h p e = omega (arith, from-more r n s l h, ap (λ (b : Bool). cond {A = ℕ} b 0 1) p)
+pub from-sealed : (g : Geometry) (r : Registers) (n s m : ℕ) → 0 < s → s ≤ n → sealed g r (s - 1) ≡ true → m ≡ unsealedFrom g r (n - s) s
+    → 2 * m ≡ unsealedFrom g r (n - (s - 1)) (s - 1)
+from-sealed g r n s m l h p e = omega (arith, from-more g r n s l h, ap (λ (b : Bool). cond {A = ℕ} b 0 1) p)
 
-pub from-all : (g : Geometry) (r : Registers) (n s m : ℕ) → n ≡ sectorCount g → s ≤ 0 → m ≡ unsealedFrom r (n - s) s → m ≡ unsealedSet g r
+pub from-all : (g : Geometry) (r : Registers) (n s m : ℕ) → n ≡ sectorCount g → s ≤ 0 → m ≡ unsealedFrom g r (n - s) s → m ≡ unsealedSet g r
 unfolding unsealedSet
 from-all g r n s m e l h =
     let d : n - s ≡ sectorCount g = omega arith in
     let z : s ≡ 0 = omega arith in
-    h ∙ ap (λ (k : ℕ). unsealedFrom r k s) d ∙ ap (λ (t : ℕ). unsealedFrom r (sectorCount g) t) z
+    h ∙ ap (λ (k : ℕ). unsealedFrom g r k s) d ∙ ap (λ (t : ℕ). unsealedFrom g r (sectorCount g) t) z
 
 -- ---- what is not among the seals does not matter
 
@@ -113,21 +114,21 @@ bare s =
       operation = Idle;
     }
 
-from-alike : (r : Registers) (n s : ℕ) → unsealedFrom (bare (sealsOf r)) n s ≡ unsealedFrom r n s
+from-alike : (g : Geometry) (r : Registers) (n s : ℕ) → unsealedFrom g (bare (sealsOf r)) n s ≡ unsealedFrom g r n s
 unfolding unsealedFrom sealed
-from-alike r zero s = refl
-from-alike r (suc n) s = ap (λ (m : ℕ). cond (sealed r s) 0 1 + 2 * m) (from-alike r n (s + 1))
+from-alike g r zero s = refl
+from-alike g r (suc n) s = ap (λ (m : ℕ). cond (sealed g r s) 0 1 + 2 * m) (from-alike g r n (s + 1))
 
 pub set-alike : (g : Geometry) (r : Registers) (z : Seals) → sealsOf r ≡ z → unsealedSet g (bare z) ≡ unsealedSet g r
 unfolding unsealedSet
-set-alike g r z e = ap (λ (x : Seals). unsealedSet g (bare x)) (sym e) ∙ from-alike r (sectorCount g) 0
+set-alike g r z e = ap (λ (x : Seals). unsealedSet g (bare x)) (sym e) ∙ from-alike g r (sectorCount g) 0
 
 -- ---- the sectors that a Chip Erase finds unsealed
 pub unsealed-small : (g : Geometry) (r : Registers) → unsealedSet g r < 2 ^ sectorCount g
 unfolding unsealedSet
-unsealed-small g r = from-small r (sectorCount g) 0
+unsealed-small g r = from-small g r (sectorCount g) 0
 
 -- the set has the part's sectors that are not sealed
-pub unsealed-has : (g : Geometry) (r : Registers) (s : ℕ) → s < sectorCount g → inSet (unsealedSet g r) s ≡ not (sealed r s)
+pub unsealed-has : (g : Geometry) (r : Registers) (s : ℕ) → s < sectorCount g → inSet (unsealedSet g r) s ≡ not (sealed g r s)
 unfolding unsealedSet
-unsealed-has g r s l = from-has r (sectorCount g) 0 s l ∙ ap (λ (t : ℕ). not (sealed r t)) (zero-add s)
+unsealed-has g r s l = from-has g r (sectorCount g) 0 s l ∙ ap (λ (t : ℕ). not (sealed g r t)) (zero-add s)

@@ -81,7 +81,7 @@ inSet sectors s = eqb (sectors / 2 ^ s % 2) 1
 
 -- (2.5) the operation writes this page
 unfoldable pub writes : Geometry → Operation → ℕ → Bool
-writes g o page = inRun (runOf g o) page || inSet (sectorsOf o) (sectorOf page)
+writes g o page = inRun (runOf g o) page || inSet (sectorsOf o) (sectorOf g page)
 
 -- Aid: the buffer that is used; One where none is
 abbrev pub bufferOf : Usage → Buffer

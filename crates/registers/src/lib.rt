@@ -4,10 +4,10 @@ ghost use mathlib.Core.Path.{_≡_};
 ghost use mathlib.Core.Bool.{true, false};
 ghost use Prim.Native.Nat.{_+_, _*_, _≤_, _<_, _^_};
 ghost use lib.ListN.{length, drop};
-ghost use Rattle.geometry.specs.Parts.{Sized};
+ghost use Rattle.geometry.specs.Parts.{registerRoom, Sized};
 ghost use Rattle.registers.specs.Data.{padded, pack16, pack64, bytes16, bytes64};
 ghost use Rattle.registers.specs.Fields.{withProtection, withLockdown, withUser, withProtect, withWp, withDeep, withOperation, restarted};
-ghost use Rattle.registers.specs.Protection.{bitsOf, hasBits, guarded, sealed, unsealedSet, WithSeals, maskOf, lockedBytes};
+ghost use Rattle.registers.specs.Protection.{Roomed, bitsOf, hasBits, guarded, sealed, unsealedSet, WithSeals, maskOf, lockedBytes};
 ghost use Rattle.registers.specs.Facts.{idling, paging, erasing, updating, factsOf, updateOf};
 ghost use Rattle.registers.specs.Operations.{has, placed, targetOf, pageNamed, runNamed, setNamed, bufferOf};
 use commands::Buffer;
@@ -283,8 +283,8 @@ pub fn restart(r: Registers) -> Registers
 // ---- protection
 
 fn bits(bytes: [u8; 16], sector: usize) -> u8
-    requires { ⌜ sector < 17 ⌝ }
-    ensures { λ r. ⌜ r ≡ bitsOf bytes sector ⌝ }
+    requires { ⌜ sector < registerRoom + 1 ⌝ }
+    ensures { λ r. ⌜ ((g : Geometry) → Roomed g → r ≡ bitsOf g bytes sector) ⌝ }
 {
     match sector {
         0 => bytes[0] / 64,
@@ -294,8 +294,8 @@ fn bits(bytes: [u8; 16], sector: usize) -> u8
 }
 
 fn has_bits(bytes: [u8; 16], sector: usize) -> bool
-    requires { ⌜ sector < 17 ⌝ }
-    ensures { λ r. ⌜ r ≡ hasBits bytes sector ⌝ }
+    requires { ⌜ sector < registerRoom + 1 ⌝ }
+    ensures { λ r. ⌜ ((g : Geometry) → Roomed g → r ≡ hasBits g bytes sector) ⌝ }
 {
     bits(bytes, sector) != 0
 }
@@ -312,8 +312,8 @@ pub fn is_guarded(s: Seals) -> bool
 
 // Sealed: locked, or listed and guarded.
 pub fn is_sealed(s: Seals, sector: usize) -> bool
-    requires { ⌜ sector < 17 ⌝ }
-    ensures { λ b. ⌜ WithSeals s (λ r. b ≡ sealed r sector) ⌝ }
+    requires { ⌜ sector < registerRoom + 1 ⌝ }
+    ensures { λ b. ⌜ ((g : Geometry) → Roomed g → WithSeals s (λ r. b ≡ sealed g r sector)) ⌝ }
 {
     let lockdown = s.lockdown;
     if has_bits(lockdown, sector) {
@@ -355,8 +355,8 @@ fn mask(sector: usize) -> u8
 
 // The lockdown bytes with the sector's bits set, over bits already set.
 pub fn locked_bytes(bytes: [u8; 16], sector: usize) -> [u8; 16]
-    requires { ⌜ sector < 17 ⌝ }
-    ensures { λ r. ⌜ r ≡ lockedBytes bytes sector ⌝ }
+    requires { ⌜ sector < registerRoom + 1 ⌝ }
+    ensures { λ r. ⌜ ((g : Geometry) → Roomed g → r ≡ lockedBytes g bytes sector) ⌝ }
 {
     let mut l = bytes;
     let i = if sector == 0 { 0 } else { sector - 1 };

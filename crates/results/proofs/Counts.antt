@@ -1,6 +1,6 @@
 -- n of a get is the length in the record that it read: a record's length is at most the limit, which is at most 2,109.
 -- Assumes nothing.
-use Prim.Native.Nat.{ℕ, _≤_}
+use Prim.Native.Nat.{ℕ, _≤_, _-_}
 use native.Mathlib.Omega.{arith}
 use mathlib.Core.Path.{_≡_, sym, ap, _∙_}
 use mathlib.Core.Bool.{Bool, true, false, cond}
@@ -10,7 +10,7 @@ use lib.Dec.{eqb, leb}
 use borrow.Author.Tests.{leb-true}
 use Rattle.geometry.specs.declared.Geometry.{Geometry}
 use Rattle.geometry.specs.declared.Part.the-variants.{Known}
-use Rattle.geometry.specs.Parts.{partOf}
+use Rattle.geometry.specs.Parts.{partOf, slotRoom}
 use Rattle.state.specs.Answers.{numberOf}
 use Rattle.slots.specs.declared.Driver.{Driver}
 use Rattle.slots.specs.declared.Kind.{Kind}
@@ -43,7 +43,7 @@ told-few (Answered a) k staged = go (eqb (numberOf a) 0)
 
 -- what is told of a record
 pub record-count : (g : Geometry) (d : Driver) (staged : List ℕ) {t : Told} {m : ℕ} → partOf (d .array) ≡ Known g → isRecord g staged ≡ true → t ≡ toldIn d
-    → m ≡ countTold t (d .kind) staged → (m ≡ step.countBy (Known g) d staged) × (m ≤ 2109)
+    → m ≡ countTold t (d .kind) staged → (m ≡ step.countBy (Known g) d staged) × (m ≤ slotRoom - 3)
 unfolding step.countBy isRecord limitOf slotSize
 record-count g d staged {t} {m} p r e h =
     let l : lengthIn staged ≤ limitOf g = leb-true (lengthIn staged) (limitOf g) (second (eqb (getD staged 0 0) 1) (leb (lengthIn staged) (limitOf g)) r) in

@@ -1,9 +1,9 @@
 // What a driver's state tells, and its end: whether it has ended, the answer, n, and an end from outside.
 // Every function named to others takes any state. A state that no call comes to counts as ended.
 ghost use mathlib.Core.Path.{_≡_};
-ghost use Prim.Native.Nat.{_≤_};
+ghost use Prim.Native.Nat.{_≤_, _-_};
 ghost use Rattle.geometry.specs.declared.Geometry.{Geometry};
-ghost use Rattle.geometry.specs.Parts.{partOf};
+ghost use Rattle.geometry.specs.Parts.{partOf, slotRoom};
 ghost use Rattle.slots.specs.Driver.{isEnded};
 ghost use Rattle.slots.specs.declared.Stage.{Stage};
 ghost use Rattle.worlds.specs.Turns.{with};
@@ -68,7 +68,7 @@ pub fn answer(d: Driver) -> Told
 
 fn count_on(g: Geometry, d: Driver, staged: &[u8]) -> usize
     requires { ⌜ partOf (d .array) ≡ Part.Known g ⌝ }
-    ensures { λ r. ⌜ (r ≡ countBy (Part.Known g) d (now (staged .entry))) × (r ≤ 2109) ⌝ }
+    ensures { λ r. ⌜ (r ≡ countBy (Part.Known g) d (now (staged .entry))) × (r ≤ slotRoom - 3) ⌝ }
 {
     if !records::is_record(g, staged) {
         return 0;
@@ -83,7 +83,7 @@ fn count_on(g: Geometry, d: Driver, staged: &[u8]) -> usize
 
 // Of a get that has ended with 0 the recipe's length; the recipe stands in the bytes read behind the first three. Else 0.
 pub fn count(d: Driver, staged: &[u8; 2112]) -> usize
-    ensures { λ r. ⌜ (r ≡ countIn d (now (staged .entry))) × (r ≤ 2109) ⌝ }
+    ensures { λ r. ⌜ (r ≡ countIn d (now (staged .entry))) × (r ≤ slotRoom - 3) ⌝ }
 {
     let p = geometry::part_of(d.array);
     match p {

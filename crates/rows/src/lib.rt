@@ -4,6 +4,7 @@ ghost use mathlib.Core.Path.{_≡_};
 ghost use Prim.Native.Nat.{_+_, _*_, _≤_, _<_};
 ghost use lib.ListN.{length};
 ghost use Rattle.geometry.specs.Parts.{Sized, addressAt, pageAt, byteAt};
+ghost use Rattle.registers.specs.Protection.{Roomed};
 ghost use Rattle.control.specs.Control.{startedOn, rowOf, protectOff, protectionErased, protectionProgrammed, sectorLocked, securityProgrammed};
 ghost use Rattle.control.specs.Rulings.{ruled, Applies};
 use commands::Buffer;
@@ -45,12 +46,12 @@ fn start(o: Operation) -> Ruling
 }
 
 // A program or erase: ignored where it names a sealed sector.
-fn start_on(m: Marks, page: usize, o: Operation) -> Ruling
-    requires { ⌜ page < 4096 ⌝ }
-    ensures { λ d. ⌜ Applies m d (λ r. startedOn r page o) ⌝ }
+fn start_on(g: Geometry, m: Marks, page: usize, o: Operation) -> Ruling
+    requires { ⌜ (Sized g (g .pages * g .size)) × (page < g .pages) ⌝ }
+    ensures { λ d. ⌜ Applies m d (λ r. startedOn g r page o) ⌝ }
 {
     let seals = m.seals;
-    if registers::is_sealed(seals, geometry::sector_of(page)) {
+    if registers::is_sealed(seals, geometry::sector_of(g, page)) {
         return ignore();
     }
     start(o)
@@ -135,6 +136,7 @@ pub fn program(g: Geometry, m: Marks, frame: &[u8], lead: usize, buffer: Buffer)
 {
     let page = page_named(g, frame, 1);
     start_on(
+        g,
         m,
         page,
         Operation::Program {
@@ -151,6 +153,7 @@ pub fn program_over(g: Geometry, m: Marks, frame: &[u8], lead: usize, buffer: Bu
 {
     let page = page_named(g, frame, 1);
     start_on(
+        g,
         m,
         page,
         Operation::ProgramOver {
@@ -167,7 +170,7 @@ pub fn program_through(g: Geometry, m: Marks, frame: &[u8], lead: usize, buffer:
 {
     let page = page_named(g, frame, 1);
     let seals = m.seals;
-    if registers::is_sealed(seals, geometry::sector_of(page)) {
+    if registers::is_sealed(seals, geometry::sector_of(g, page)) {
         return ignore();
     }
     let o = Operation::Program {
@@ -191,7 +194,7 @@ pub fn erase_page(g: Geometry, m: Marks, frame: &[u8], lead: usize) -> Ruling
     ensures { λ d. ⌜ Applies m d (λ r. rowOf g r (now (frame .entry)) lead Effect.ErasePage) ⌝ }
 {
     let page = page_named(g, frame, 1);
-    start_on(m, page, Operation::ErasePage { page: page })
+    start_on(g, m, page, Operation::ErasePage { page: page })
 }
 
 // 50.
@@ -200,7 +203,7 @@ pub fn erase_block(g: Geometry, m: Marks, frame: &[u8], lead: usize) -> Ruling
     ensures { λ d. ⌜ Applies m d (λ r. rowOf g r (now (frame .entry)) lead Effect.EraseBlock) ⌝ }
 {
     let page = page_named(g, frame, 1);
-    start_on(m, page, Operation::EraseBlock { block: page / 8 })
+    start_on(g, m, page, Operation::EraseBlock { block: page / 8 })
 }
 
 // 7C.
@@ -210,10 +213,11 @@ pub fn erase_sector(g: Geometry, m: Marks, frame: &[u8], lead: usize) -> Ruling
 {
     let page = page_named(g, frame, 1);
     start_on(
+        g,
         m,
         page,
         Operation::EraseSector {
-            sector: geometry::sector_of(page),
+            sector: geometry::sector_of(g, page),
         },
     )
 }
@@ -260,6 +264,7 @@ pub fn rewrite(g: Geometry, m: Marks, frame: &[u8], lead: usize, buffer: Buffer)
 {
     let page = page_named(g, frame, 1);
     start_on(
+        g,
         m,
         page,
         Operation::Rewrite {
@@ -294,7 +299,7 @@ pub fn erase_protection(m: Marks) -> Ruling
 // 3D 2A 7F FC.
 pub fn program_protection(m: Marks, frame: &[u8]) -> Ruling
     requires { ⌜ 4 ≤ length (now frame) ⌝ }
-    ensures { λ d. ⌜ Applies m d (λ r. protectionProgrammed r (now (frame .entry))) ⌝ }
+    ensures { λ d. ⌜ ((g : Geometry) → Roomed g → Applies m d (λ r. protectionProgrammed g r (now (frame .entry)))) ⌝ }
 {
     let seals = m.seals;
     if seals.wp {
@@ -316,7 +321,7 @@ pub fn lock_sector(g: Geometry, m: Marks, frame: &[u8]) -> Ruling
 {
     let page = page_named(g, frame, 4);
     start(Operation::LockSector {
-        sector: geometry::sector_of(page),
+        sector: geometry::sector_of(g, page),
     })
 }
 

@@ -14,8 +14,7 @@ use Rattle.slices.proofs.Laws.{over-append}
 use Rattle.geometry.specs.declared.Geometry.{Geometry}
 use Rattle.geometry.specs.declared.Part.{Part}
 use Rattle.geometry.specs.declared.Part.the-variants.{Known, Unknown}
-use Rattle.geometry.specs.Parts.{partOf, Sized}
-use Rattle.geometry.proofs.Pages.{known-case}
+use Rattle.geometry.specs.Parts.{partOf, Sized, slotRoom}
 use Rattle.registers.proofs.Places.{placed-known, placed-sized}
 use Rattle.state.specs.declared.Answer.{Answer}
 use Rattle.state.specs.declared.Answer.the-variants as Answers
@@ -25,7 +24,6 @@ use Rattle.state.specs.Outcomes.{partIn, cutFits, cutState}
 use Rattle.slots.specs.declared.Driver.{Driver}
 use Rattle.slots.specs.declared.Stage.the-variants.{Going, Ended}
 use Rattle.slots.specs.declared.Verdict.the-variants.{Good}
-use Rattle.slots.specs.Records.{slotSize}
 use Rattle.slots.specs.Plans.{Asked, stated}
 use Rattle.slots.specs.Refusals.{earlyRefusal, callRefusal}
 use Rattle.slots.specs.Calls.{Out, Request, Secret, Open, Closed, refused, run, firstCourse, refusalOf, startOpen, startClosed, ran, reached, countOf, delivered, outFrom, answerAt, callOut, callNext}
@@ -98,11 +96,6 @@ module _ (a : Asked) (place : ℕ) (payload buffer script junk log xs : List ℕ
   unfolding startDriver
   as-asked {held} {kept} {ys} {l} {b} {r} w = subst (λ (k : Driver). Promise (opOf k payload buffer script junk log) held xs r kept ys l b) e w
 
--- ---- a slot's bytes before any is read: 264 bytes a page
-
-known-size : (n : ℕ) (g : Geometry) → partOf n ≡ Known g → g .size ≡ 264
-known-size = known-case (λ n g. g .size ≡ 264) refl refl
-
 -- ---- the run, and what comes behind it
 module _ (g : Geometry) (d : Driver) (payload buffer script junk log held xs : List ℕ) (p : partIn (heldIn held xs) ≡ Known g)
     (w : Started g d xs payload buffer script junk log) where
@@ -156,10 +149,10 @@ module _ (g : Geometry) (d : Driver) (payload buffer script junk log held xs : L
   unfolding startDriver
   good = ap (λ (e : Driver). e .verdict) (w .start)
 
-  module _ {st : List ℕ} (es : st ≡ replicate 2112 0) {t : State} {s : Session} {bytes lines : List ℕ}
+  module _ {st : List ℕ} (es : st ≡ replicate slotRoom 0) {t : State} {s : Session} {bytes lines : List ℕ}
       (z : Driven g (heldIn held xs) begun payload st script log t s bytes lines) where
     begins : ran g v x (heldIn held xs) ≡ run (stated (d .kind) (d .limit)) g (requestOf begun script) (openOf (heldIn held xs) begun log) (closedOf (heldIn held xs) begun payload st)
-    unfolding ran startOpen startClosed slotSize
+    unfolding ran startOpen startClosed
     begins =
         (λ i. run (bounds (d .kind) g (d .slot) (d .limit) i) g v
         (record {
@@ -176,7 +169,7 @@ module _ (g : Geometry) (d : Driver) (payload buffer script junk log held xs : L
               record {
                 payload = payload;
                 place = d .place;
-                staged = (ap (λ (m : ℕ). replicate {A = ℕ} (8 * m) 0) (known-size (length xs) g own) ∙ sym es) i;
+                staged = sym es i;
                 verdict = sym good i;
               };
         }))

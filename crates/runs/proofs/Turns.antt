@@ -24,7 +24,7 @@ use Rattle.slots.specs.declared.Driver.{Driver}
 use Rattle.slots.specs.declared.Step.{Step}
 use Rattle.slots.specs.declared.Step.the-variants.{Wait, Protection, Lockdown, Read, Load, Send, End}
 use Rattle.slots.specs.Plans.{isWait, isEnd}
-use Rattle.slots.specs.Driver.{shapeOf, frameOf, ended}
+use Rattle.slots.specs.Driver.{shapeOf, frameOf, ended, frameRoom}
 use Rattle.slots.specs.Calls.{outline, scripted, stateAfter, openAfter, closedAfter, stepOpen, stepClosed}
 use Rattle.worlds.specs.Turns.{holdingOf, with, stepIn, dataAfter, courseAfter, tookOn}
 use Rattle.worlds.proofs.Chains.{data-held}
@@ -38,13 +38,13 @@ use Rattle.runs.proofs.Steps.{step-open, step-closed}
 -- ---- lengths
 
 -- what writing a step's frame leaves: the frame at the beginning of its buffer, which the chip takes, with a reply as long
-module _ (g : Geometry) (t : State) (s : Session) (log : List ℕ) (h : Going g t s log) (payload staged xs : List ℕ) (long : length xs ≡ 272)
+module _ (g : Geometry) (t : State) (s : Session) (log : List ℕ) (h : Going g t s log) (payload staged xs : List ℕ) (long : length xs ≡ frameRoom)
     {x : Step} {n : ℕ} {ys : List ℕ} (ex : x ≡ stepIn g (s .driver))
     (w : (n ≡ shapeOf g x .length) × (ys ≡ over (frameOf g (s .driver .kind) (holdingOf (s .driver) payload staged) x) xs)) where
-  few : n ≤ 272
-  few = omega (arith, w .0, shape-fits g x (sized (s .driver .array) g (h .sound .part) .most))
+  few : n ≤ frameRoom
+  few = omega (arith, w .0, shape-fits g x (sized (s .driver .array) g (h .sound .part) .most) (omega (arith, sized (s .driver .array) g (h .sound .part) .short)))
 
-  pub written-taken : (n ≤ length ys) × (n ≤ 272) × (framed n n ≡ true)
+  pub written-taken : (n ≤ length ys) × (n ≤ frameRoom) × (framed n n ≡ true)
   written-taken =
       let some = shape-some g x (ap isEnd ex ∙ h .sound .step) in
       let kept = length-over (frameOf g (s .driver .kind) (holdingOf (s .driver) payload staged) x) xs in

@@ -5,7 +5,8 @@ ghost use mathlib.Core.Bool.{cond, not};
 ghost use Prim.Native.Nat.{_≤_};
 ghost use lib.ListN.{length, take};
 ghost use lib.Dec.{eqb};
-ghost use Rattle.slots.specs.Driver.{ended, isEnded};
+ghost use Rattle.geometry.specs.Parts.{slotRoom};
+ghost use Rattle.slots.specs.Driver.{ended, isEnded, frameRoom};
 ghost use Rattle.worlds.specs.Turns.{with, stepIn, Sound, dataAfter, tookOn};
 ghost use Rattle.blocks.specs.Promises.{heldIn};
 ghost use Rattle.runs.specs.Exchange.{Canonical};
@@ -18,7 +19,7 @@ use state::Answer;
 
 // Room for a frame or a reply.
 fn blank_frame() -> [u8; 272]
-    ensures { λ r. ⌜ length r ≡ 272 ⌝ }
+    ensures { λ r. ⌜ length r ≡ frameRoom ⌝ }
 {
     [0; 272]
 }
@@ -47,7 +48,7 @@ fn take_first(
     n: usize,
     staged: &mut [u8],
 ) -> Driver
-    requires { ⌜ (Sound g d) × (x ≡ stepIn g d) × (length (now staged) ≡ 2112) × (n ≤ length (now reply)) ⌝ }
+    requires { ⌜ (Sound g d) × (x ≡ stepIn g d) × (length (now staged) ≡ slotRoom) × (n ≤ length (now reply)) ⌝ }
     ensures { λ r. ⌜ (r ≡ tookOn g d (now (payload .entry)) (now (staged .entry)) (take n (now (reply .entry)))) × (now (staged .exit) ≡ dataAfter g d (now (payload .entry)) (now (staged .entry)) (take n (now (reply .entry))) .staged) ⌝ }
 {
     turns::take_step(g, d, x, payload, &reply[..n], staged)

@@ -4,8 +4,9 @@
 // Each function on a chip returns the answer's number (docs/SPECIFICATION.md, 12); no function has a `requires`.
 ghost use mathlib.Core.Path.{_≡_};
 ghost use mathlib.Core.List.{[]};
-ghost use Prim.Native.Nat.{_≤_};
+ghost use Prim.Native.Nat.{_≤_, _-_};
 ghost use lib.ListN.{length, take};
+ghost use Rattle.geometry.specs.Parts.{slotRoom};
 ghost use Rattle.slices.specs.Lists.{over};
 ghost use Rattle.state.specs.Outcomes.{freshOutcome, sendOutcome, endOutcome, cutOutcome};
 ghost use Rattle.blocks.specs.Promises.{heldIn, Met, MetFresh, MetPin};
@@ -266,7 +267,7 @@ pub extern "C" fn slipknoll_driver_answer(state: &[u8; 48]) -> u8
 // Of a get that has ended with 0 the recipe's length, else 0; the recipe stands in `staged` behind the first three bytes.
 #[no_mangle]
 pub extern "C" fn slipknoll_driver_count(state: &[u8; 48], staged: &[u8; 2112]) -> usize
-    ensures { λ r. ⌜ (r ≡ countIn (decodeDriver (now (state .entry))) (now (staged .entry))) × (r ≤ 2109) ⌝ }
+    ensures { λ r. ⌜ (r ≡ countIn (decodeDriver (now (state .entry))) (now (staged .entry))) × (r ≤ slotRoom - 3) ⌝ }
 {
     let d = driver_blocks::decode(state);
     results::count(d, staged)

@@ -1,11 +1,11 @@
 -- Of a run's state the open half goes its way alone: whatever the closed half holds, the next open half is the same. Frames are alike
 -- but for the data of an 84, which neither the outline shows nor the registers heed; of replies control hears no compare bit and no data.
 -- Assumes nothing.
-use Prim.Native.Nat.{ℕ, zero, suc, _-_, _/_, _%_}
+use Prim.Native.Nat.{ℕ, zero, suc, _+_, _-_, _/_, _%_}
 use mathlib.Core.Path.{_≡_, refl, sym, ap, subst, _∙_}
 use mathlib.Core.Bool.{Bool, true, false, cond}
 use mathlib.Core.List.{List, [], _∷_}
-use lib.ListN.{length, getD, replicate}
+use lib.ListN.{length, getD}
 use lib.Dec.{eqb, lit<, lit≤}
 use Rattle.slices.specs.Lists.{tabulate}
 use Rattle.slices.proofs.Laws.{length-tabulate, tabulate-append}
@@ -17,7 +17,7 @@ use Rattle.registers.specs.declared.Registers.{Registers}
 use Rattle.registers.specs.Protection.{guarded}
 use Rattle.control.specs.Control.{control, rowOf, rowDecided}
 use Rattle.control.proofs.Rows.{control-cases}
-use Rattle.control.proofs.Frames.{load-keeps}
+use Rattle.control.proofs.Frames.{load-keeps, protection-keeps, lockdown-keeps}
 use Rattle.memory.specs.Replies.{replied}
 use Rattle.state.specs.Memory.{Memory}
 use Rattle.state.specs.Frames.{isIdle, statusOf, dataOf, replyOf}
@@ -72,6 +72,25 @@ load-registers g r k p h =
     ap (λ (f : List ℕ). control g r f .registers) (tabulate-append 4 (g .size) (frameByte (shapeOf g (Load p)) (loaded g k h (Load p))))
     ∙ load-keeps g r 0 0 0 _
 
+-- a 32 and a 35: as many bytes after the first four as a register has
+abbrev pub filler : Geometry → Kind → Holding → Step → List ℕ
+filler g k h x = tabulate (g .register) (λ i. frameByte (shapeOf g x) (loaded g k h x) (4 + i))
+
+pub protection-form : (g : Geometry) (k : Kind) (h : Holding) → frameOf g k h Protection ≡ 0x32 ∷ 0 ∷ 0 ∷ 0 ∷ filler g k h Protection
+unfolding shapeOf frameByte tabulate
+protection-form g k h = tabulate-append 4 (g .register) (frameByte (shapeOf g Protection) (loaded g k h Protection))
+
+pub lockdown-form : (g : Geometry) (k : Kind) (h : Holding) → frameOf g k h Lockdown ≡ 0x35 ∷ 0 ∷ 0 ∷ 0 ∷ filler g k h Lockdown
+unfolding shapeOf frameByte tabulate
+lockdown-form g k h = tabulate-append 4 (g .register) (frameByte (shapeOf g Lockdown) (loaded g k h Lockdown))
+
+-- they leave the registers too
+pub protection-registers : (g : Geometry) (r : Registers) (k : Kind) (h : Holding) → control g r (frameOf g k h Protection) .registers ≡ r
+protection-registers g r k h = ap (λ (f : List ℕ). control g r f .registers) (protection-form g k h) ∙ protection-keeps g r 0 0 0 (filler g k h Protection)
+
+pub lockdown-registers : (g : Geometry) (r : Registers) (k : Kind) (h : Holding) → control g r (frameOf g k h Lockdown) .registers ≡ r
+lockdown-registers g r k h = ap (λ (f : List ℕ). control g r f .registers) (lockdown-form g k h) ∙ lockdown-keeps g r 0 0 0 (filler g k h Lockdown)
+
 -- any other frame is the same
 frame-same : (g : Geometry) (k : Kind) (h l : Holding) (x : Step) → shapeOf g x .loads ≡ false → frameOf g k h x ≡ frameOf g k l x
 frame-same g k h l x e = plain-same (shapeOf g x) (loaded g k h x) (loaded g k l x) e
@@ -89,17 +108,29 @@ control-blind g r k h l End = ap (λ (f : List ℕ). control g r f .registers) (
 
 -- ---- what is heard
 
--- of a status: not the compare bit
-pub status-heard : (i d c : Bool) → statusHeard (statusOf i d c) ≡ record { density = true; ready = i; guarded = c; held = false }
+-- of a status: not the compare bit, nor bit 0
+heard-bits : (b i d c : Bool) → statusHeard (cond i 0x80 0 + cond d 0x40 0 + 0x24 + cond c 0x02 0 + cond b 0x01 0)
+    ≡ record { density = true; ready = i; guarded = c; held = false }
+heard-bits true true true true = refl
+heard-bits true true true false = refl
+heard-bits true true false true = refl
+heard-bits true true false false = refl
+heard-bits true false true true = refl
+heard-bits true false true false = refl
+heard-bits true false false true = refl
+heard-bits true false false false = refl
+heard-bits false true true true = refl
+heard-bits false true true false = refl
+heard-bits false true false true = refl
+heard-bits false true false false = refl
+heard-bits false false true true = refl
+heard-bits false false true false = refl
+heard-bits false false false true = refl
+heard-bits false false false false = refl
+
+pub status-heard : (g : Geometry) (i d c : Bool) → statusHeard (statusOf g i d c) ≡ record { density = true; ready = i; guarded = c; held = false }
 unfolding statusOf
-status-heard true true true = refl
-status-heard true true false = refl
-status-heard true false true = refl
-status-heard true false false = refl
-status-heard false true true = refl
-status-heard false true false = refl
-status-heard false false true = refl
-status-heard false false false = refl
+status-heard g i d c = heard-bits (g .binary) i d c
 
 poll-blind : (g : Geometry) (r : Registers) (m o : Memory)
     → statusHeard (getD (replyOf g r m (0xD7 ∷ 0 ∷ [])) 1 255) ≡ statusHeard (getD (replyOf g r o (0xD7 ∷ 0 ∷ [])) 1 255)
@@ -109,8 +140,8 @@ poll-blind g r m o = go (r .deep) refl
     go true e =
         ap (λ (l : List ℕ). statusHeard (getD l 1 255)) (reply-status-deep g r m (0 ∷ []) e ∙ sym (reply-status-deep g r o (0 ∷ []) e))
     go false e =
-        ap statusHeard (status-byte g r m (0 ∷ []) 1 255 e (lit≤ tt) (lit< tt)) ∙ status-heard (isIdle (r .operation)) (m .compare) (guarded r)
-        ∙ sym (ap statusHeard (status-byte g r o (0 ∷ []) 1 255 e (lit≤ tt) (lit< tt)) ∙ status-heard (isIdle (r .operation)) (o .compare) (guarded r))
+        ap statusHeard (status-byte g r m (0 ∷ []) 1 255 e (lit≤ tt) (lit< tt)) ∙ status-heard g (isIdle (r .operation)) (m .compare) (guarded r)
+        ∙ sym (ap statusHeard (status-byte g r o (0 ∷ []) 1 255 e (lit≤ tt) (lit< tt)) ∙ status-heard g (isIdle (r .operation)) (o .compare) (guarded r))
 
 -- a reply is made of the registers where the frame's row, if it is obeyed, asks nothing of the memory
 reply-blind : (g : Geometry) (r : Registers) (m o : Memory) (f : List ℕ) (d : Decoded) → decodeOf f ≡ d
@@ -131,11 +162,15 @@ unfolding dataOf rowDecided
 lockdown-blind g r m o t = reply-blind g r m o (0x35 ∷ 0 ∷ 0 ∷ 0 ∷ t) _ (decode-lockdown 0 0 0 t) refl
 
 hear-blind : (g : Geometry) (r : Registers) (k : Kind) (h l : Holding) (m o : Memory) (x : Step) (sector : ℕ)
-    → heard x sector (replyOf g r m (frameOf g k h x)) ≡ heard x sector (replyOf g r o (frameOf g k l x))
+    → heard g x sector (replyOf g r m (frameOf g k h x)) ≡ heard g x sector (replyOf g r o (frameOf g k l x))
 unfolding shapeOf frameByte tabulate heard
 hear-blind g r k h l m o Wait sector = poll-blind g r m o
-hear-blind g r k h l m o Protection sector = ap (heard Protection sector) (protection-blind g r m o (replicate 16 0))
-hear-blind g r k h l m o Lockdown sector = ap (heard Lockdown sector) (lockdown-blind g r m o (replicate 16 0))
+hear-blind g r k h l m o Protection sector =
+    ap (heard g Protection sector)
+    (ap (replyOf g r m) (frame-same g k h l Protection refl ∙ protection-form g k l) ∙ protection-blind g r m o (filler g k l Protection) ∙ ap (replyOf g r o) (sym (protection-form g k l)))
+hear-blind g r k h l m o Lockdown sector =
+    ap (heard g Lockdown sector)
+    (ap (replyOf g r m) (frame-same g k h l Lockdown refl ∙ lockdown-form g k l) ∙ lockdown-blind g r m o (filler g k l Lockdown) ∙ ap (replyOf g r o) (sym (lockdown-form g k l)))
 hear-blind g r k h l m o (Read p) sector = refl
 hear-blind g r k h l m o (Load p) sector = refl
 hear-blind g r k h l m o (Send c p) sector = refl
@@ -150,7 +185,7 @@ step-blind g v p q w =
     let x = stepOf g (v .asked) (p .course) in
     let line = outline-same (shapeOf g x) (loaded g k (q .holding) x) (loaded g k (w .holding) x) in
     let registers = control-blind g (p .registers) k (q .holding) (w .holding) x in
-    let hears = hear-blind g (p .registers) k (q .holding) (w .holding) (q .memory) (w .memory) x (sectorFor (v .asked)) in
+    let hears = hear-blind g (p .registers) k (q .holding) (w .holding) (q .memory) (w .memory) x (sectorFor g (v .asked)) in
     λ i. cond (isEnded (p .course .stage)) p (openAfter g v p (line i) (registers i) (hears i))
 
 pub run-blind : (n : ℕ) (g : Geometry) (v : Request) (p : Open) (q w : Closed) → run n g v p q .0 ≡ run n g v p w .0

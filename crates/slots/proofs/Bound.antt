@@ -187,7 +187,7 @@ call-ends g v x s = go (eqb (numberOf (refusalOf g (length (s .memory .array)) v
     p = startOpen g (length (s .memory .array)) v (s .registers)
 
     q : Closed
-    q = startClosed g x (s .memory)
+    q = startClosed x (s .memory)
 
     go : (b : Bool) → eqb (numberOf (refusalOf g (length (s .memory .array)) v)) 0 ≡ b → isEnded (ran g v x s .0 .course .stage) ≡ true
     go true e = run-ends (bound g (v .asked)) g v p q (begin-ok g (length (s .memory .array)) v e)
@@ -204,7 +204,7 @@ pub record Within (n : ℕ) (o : Out) : Type 0 where
 call-within : (g : Geometry) (v : Request) (x : Secret) (s : State) → Within (bound g (v .asked)) (callOut g v x s)
 unfolding callOut outFrom ran startOpen
 call-within g v x s =
-    let c = run-counted (bound g (v .asked)) g v (startOpen g (length (s .memory .array)) v (s .registers)) (startClosed g x (s .memory)) in
+    let c = run-counted (bound g (v .asked)) g v (startOpen g (length (s .memory .array)) v (s .registers)) (startClosed x (s .memory)) in
     record { frames = omega (arith, c .frames); polls = omega (arith, c .polls) }
 
 none : (n : ℕ) (a : Answer) (lent : List ℕ) → Within n (refused a lent)

@@ -72,7 +72,7 @@ pub record Machine (g : Geometry) (a : Asked) : Type 1 where
   pub cuts : (s : State) → isEnded (course s .stage) ≡ false → eqb (exchange s .byte) 2 ≡ true → course (step s) ≡ ended Answers.Cut (course s)
   pub goes : (s : State) → isEnded (course s .stage) ≡ false → eqb (exchange s .byte) 2 ≡ false
       → course (step s) ≡ courseBy (stepOf g a (course s)) (stepAt (planOf g a) (suc (course s .place))) (a .limit) (course s)
-      (heard (stepOf g a (course s)) (sectorFor a) (exchange s .reply))
+      (heard g (stepOf g a (course s)) (sectorFor g a) (exchange s .reply))
 
 unfoldable pub runOn : {g : Geometry} {a : Asked} (M : Machine g a) → ℕ → M .State → M .State
 runOn M zero s = s
@@ -182,7 +182,7 @@ module _ (g : Geometry) (a : Asked) (M : Machine g a) where
     holding : M .holding (M .step s) ≡ takenBy x g (a .kind) (M .holding s) (M .exchange s .reply)
     course : eqb (M .exchange s .byte) 2 ≡ false
         → M .course (M .step s) ≡ courseBy x (stepAt (planOf g a) (suc (M .course s .place))) (a .limit) (M .course s)
-        (heard x (sectorFor a) (M .exchange s .reply))
+        (heard g x (sectorFor g a) (M .exchange s .reply))
 
   module _ (n : ℕ) (s : M .State) (live : isEnded (M .course s .stage) ≡ false)
       (ih : Fine (M .course (M .step s)) → Led n (M .step s) (M .course (M .step s)) (M .holding (M .step s))) where

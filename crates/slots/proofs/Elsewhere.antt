@@ -54,7 +54,7 @@ use Rattle.slots.proofs.Parts.{cases}
 use Rattle.slots.proofs.Places.{never, both, second, every, every-append}
 use Rattle.slots.proofs.Accepted.{step-ended, accepted}
 use Rattle.slots.proofs.Bound.{Ok, step-ok, begin-ok, start-ended}
-use Rattle.slots.proofs.Blind.{load-registers}
+use Rattle.slots.proofs.Blind.{load-registers, protection-registers, lockdown-registers}
 use Rattle.slots.proofs.Sent.{addressed-few, read-keeps}
 use Rattle.slots.proofs.Kept.{idle-spares, op-kept}
 use Rattle.slots.proofs.ReadBack.{read-back}
@@ -140,14 +140,14 @@ module _ (g : Geometry) (first end : ℕ) where
       go false i = idle-spares g first end Idle refl
 
   -- a frame whose row starts an operation starts that operation or none
-  starts : (r : Registers) (f : List ℕ) (d : Decoded) (page : ℕ) (o : Operation) → decodeOf f ≡ d → rowOf g r f (d .lead) (d .effect) ≡ startedOn r page o
+  starts : (r : Registers) (f : List ℕ) (d : Decoded) (page : ℕ) (o : Operation) → decodeOf f ≡ d → rowOf g r f (d .lead) (d .effect) ≡ startedOn g r page o
       → Spares g first end o → Spares g first end (startedBy g r f)
   unfolding startedBy startedOn
   starts r f d page o e h u = go (isIdle (r .operation)) refl
     where
-      row : r .operation ≡ Idle → Spares g first end (startedOn r page o .registers .operation)
+      row : r .operation ≡ Idle → Spares g first end (startedOn g r page o .registers .operation)
       row i =
-          cases (λ (c : Decision). Spares g first end (c .registers .operation)) (sealed r (sectorOf page)) {x = ignored r} {y = started r o}
+          cases (λ (c : Decision). Spares g first end (c .registers .operation)) (sealed g r (sectorOf g page)) {x = ignored r} {y = started r o}
           (idle-spares g first end (r .operation) i) u
 
       go : (b : Bool) → isIdle (r .operation) ≡ b → Spares g first end (cond b (control g r f .registers .operation) Idle)
@@ -183,8 +183,8 @@ module _ (g : Geometry) (first end : ℕ) where
     still-spares : (x : Step) → isEnd x ≡ false → isStill x ≡ true → Spares g first end (startedBy g r (frameOf g k h x))
     unfolding shapeOf frameByte tabulate isEnd isStill
     still-spares Wait o e = still r (0xD7 ∷ 0 ∷ []) (status-keeps g r (0 ∷ []))
-    still-spares Protection o e = still r (0x32 ∷ 0 ∷ 0 ∷ 0 ∷ replicate 16 0) (protection-keeps g r 0 0 0 (replicate 16 0))
-    still-spares Lockdown o e = still r (0x35 ∷ 0 ∷ 0 ∷ 0 ∷ replicate 16 0) (lockdown-keeps g r 0 0 0 (replicate 16 0))
+    still-spares Protection o e = still r (frameOf g k h Protection) (protection-registers g r k h)
+    still-spares Lockdown o e = still r (frameOf g k h Lockdown) (lockdown-registers g r k h)
     still-spares (Read p) o e = still r (frameOf g k h (Read p)) (read-keeps g r k h p)
     still-spares (Load p) o e = still r (frameOf g k h (Load p)) (load-registers g r k p h)
     still-spares (Send c p) o e = never e
@@ -246,8 +246,8 @@ module _ (g : Geometry) (first end : ℕ) (v : Request) (x : Secret) (s : State)
 
       go : (b : Bool) → eqb (numberOf (refusalOf g n v)) 0 ≡ b → QuietCall first end g v x s
       go true e =
-          frames-quiet n (placed-known n (s .registers .operation) g k .0) (accepted g n v e .asked .fits) far (bound g (v .asked)) (startOpen g n v (s .registers)) (startClosed g x (s .memory)) (begin-ok g n v e)
-      go false e = ended-quiet first end (bound g (v .asked)) g v (startOpen g n v (s .registers)) (startClosed g x (s .memory)) (start-ended g n v e)
+          frames-quiet n (placed-known n (s .registers .operation) g k .0) (accepted g n v e .asked .fits) far (bound g (v .asked)) (startOpen g n v (s .registers)) (startClosed x (s .memory)) (begin-ok g n v e)
+      go false e = ended-quiet first end (bound g (v .asked)) g v (startOpen g n v (s .registers)) (startClosed x (s .memory)) (start-ended g n v e)
 
 -- NOTHING ELSE IS TOUCHED: in any state and under any script, a call leaves every page outside its slot that the operation under way before it was not
 -- writing; and a get leaves those of its slot too

@@ -11,11 +11,12 @@ use mathlib.Core.Logic.{inr}
 use lib.ListN.{length, getD, length-replicate}
 use lib.Dec.{eqb}
 use borrow.Author.Tests.{eqb-true, eqb-false}
+use Rattle.geometry.proofs.Pages.{sized}
 use Rattle.slices.specs.Lists.{tabulate, splice}
 use Rattle.slices.proofs.Laws.{length-tabulate, getD-tabulate, length-splice, splice-at, splice-before}
 use Rattle.geometry.specs.declared.Geometry.{Geometry}
 use Rattle.geometry.specs.declared.Part.the-variants.{Known}
-use Rattle.geometry.specs.Parts.{partOf}
+use Rattle.geometry.specs.Parts.{partOf, slotRoom}
 use Rattle.registers.specs.declared.Registers.{Registers}
 use Rattle.registers.proofs.Places.{placed-known}
 use Rattle.control.specs.Completion.{completed}
@@ -64,7 +65,7 @@ module _ (g : Geometry) (slot : ℕ) (b : ℕ → ℕ) where
 
   -- the pages before p are staged, and the first is judged
   pub record Staged (p : ℕ) (h : Holding) : Type 0 where
-    pub room : length (h .staged) ≡ 8 * g .size
+    pub room : 8 * g .size ≤ length (h .staged)
     pub bytes : (q : ℕ) → first ≤ q → q < p → (i : ℕ) → i < g .size → getD (h .staged) (g .size * (q % 8) + i) 0 ≡ b (g .size * (q % 8) + i)
     pub verdict : (p ≡ 8 * slot → ⊥) → h .verdict ≡ getVerdict g (pageIn g b 0)
 
@@ -83,7 +84,7 @@ module _ (g : Geometry) (slot : ℕ) (b : ℕ → ℕ) where
       }
 
   stays : (k : Know) (l d : Bool) (r : Registers) (m : Memory) (h : Holding) → partOf (length (m .array)) ≡ Known g → Holds k l d r m h
-      → Holds k l d (completed r) (completedMemory g (r .operation) m) h
+      → Holds k l d (completed g r) (completedMemory g (r .operation) m) h
   stays cold l d r m h e u = (end-kept (u .0), u .1)
   stays (reading p) l d r m h e u = idle-stays g r m (λ t n. Holds (reading p) l d t n h) (u .1 .0) u
 
@@ -92,7 +93,7 @@ module _ (g : Geometry) (slot : ℕ) (b : ℕ → ℕ) where
   unfolding readIn judged
   read-page p h page l k w u =
       record {
-        room = length-splice (g .size * (p % 8)) page (h .staged) ∙ u .room;
+        room = omega (arith, length-splice (g .size * (p % 8)) page (h .staged), u .room);
         bytes = λ q a c i j. each q a c i j (eqb q p) refl;
         verdict = λ _. judges (h .verdict) (u .verdict) (eqb (p % 8) 0) refl;
       }
@@ -150,7 +151,7 @@ module _ (g : Geometry) (slot : ℕ) (b : ℕ → ℕ) where
 
 -- what a get that comes to its end has staged, of a slot whose bytes are b's
 pub record Got (g : Geometry) (b : ℕ → ℕ) (h : Holding) : Type 0 where
-  pub room : length (h .staged) ≡ 8 * g .size
+  pub room : 8 * g .size ≤ length (h .staged)
   pub bytes : (i : ℕ) → i < 8 * g .size → getD (h .staged) i 0 ≡ b i
   pub verdict : h .verdict ≡ getVerdict g (pageIn g b 0)
 
@@ -178,13 +179,13 @@ module _ (g : Geometry) (slot limit : ℕ) (script : List ℕ) (log junk : ℕ) 
       let part = placed-known n (s .registers .operation) g (k .part) .0 in
       let plan = planBy Get g slot in
       let t = run-tracked (facts g slot b) g asks (stays g slot b)
-      (λ c r m h o live x k some z l u. turned g slot b limit plan c r m h o live {x = x} {k = k} (sectorFor (asks .asked)) some z l u)
-      (bound g (asks .asked)) (startOpen g n asks (s .registers)) (startClosed g x (s .memory)) (begin-ok g n asks e)
+      (λ c r m h o live x k some z l u. turned g slot b limit plan c r m h o live {x = x} {k = k} (sectorFor g (asks .asked)) some z l u)
+      (bound g (asks .asked)) (startOpen g n asks (s .registers)) (startClosed x (s .memory)) (begin-ok g n asks e)
       (record {
         room = part;
         here = λ _. (
           cold,
-          (k, record { room = length-replicate (8 * g .size) 0; bytes = λ q l u i j. absurd (omega arith); verdict = λ f. absurd (f refl) }),
+          (k, record { room = omega (arith, sized n g part .most, length-replicate {A = ℕ} slotRoom 0); bytes = λ q l u i j. absurd (omega arith); verdict = λ f. absurd (f refl) }),
           subst (Lawful g slot b cold) (sym (rest-zero plan)) (get-lawful g slot b),
         );
         uncut = λ _. refl;

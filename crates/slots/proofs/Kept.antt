@@ -2,6 +2,7 @@
 -- operation under way does not write. So what spares them at each frame spares them through every list.
 -- Assumes nothing.
 use Prim.Native.Nat.{ℕ, zero, suc, _<_}
+use Rattle.registers.proofs.Places.{placed-sized}
 use mathlib.Core.Path.{_≡_, refl, sym, ap, subst, _∙_}
 use mathlib.Core.Bool.{Bool, true, false, cond}
 use mathlib.Core.List.{List, [], _∷_}
@@ -72,22 +73,25 @@ module _ {g : Geometry} {first end : ℕ} {b : ℕ → List ℕ} {r : Registers}
   inside : (p : ℕ) → p < end → p < g .pages
   inside p l = omega (arith, u .fits)
 
-  pub end-kept : Kept g first end b (completed r) (completedMemory g (r .operation) m)
+  wide : 8 < g .span
+  wide = (placed-sized (length (m .array)) (r .operation) g (u .part)) .wide
+
+  pub end-kept : Kept g first end b (completed g r) (completedMemory g (r .operation) m)
   end-kept =
       record {
-        part = ap (λ (n : ℕ). placed n (completed r .operation)) (completed-array-length g (r .operation) m) ∙ completed-placed (length (m .array)) g r (u .part);
+        part = ap (λ (n : ℕ). placed n (completed g r .operation)) (completed-array-length g (r .operation) m) ∙ completed-placed (length (m .array)) g r (u .part);
         fits = u .fits;
-        spares = idle-spares g first end (completed r .operation) (completed-operation r);
-        bytes = λ p l k. completed-page g (r .operation) m p (inside p k) (u .spares p l k) ∙ u .bytes p l k;
+        spares = idle-spares g first end (completed g r .operation) (completed-operation g r);
+        bytes = λ p l k. completed-page g wide (r .operation) m p (inside p k) (u .spares p l k) ∙ u .bytes p l k;
       }
 
-  pub cut-kept : (w junk : List ℕ) → Kept g first end b (lost r w) (lostMemory g (r .operation) junk m)
+  pub cut-kept : (w junk : List ℕ) → Kept g first end b (lost g r w) (lostMemory g (r .operation) junk m)
   cut-kept w junk =
       record {
-        part = ap (λ (n : ℕ). placed n (lost r w .operation)) (lost-array-length g (r .operation) junk m) ∙ lost-placed (length (m .array)) g r w (u .part);
+        part = ap (λ (n : ℕ). placed n (lost g r w .operation)) (lost-array-length g (r .operation) junk m) ∙ lost-placed (length (m .array)) g r w (u .part);
         fits = u .fits;
-        spares = idle-spares g first end (lost r w .operation) (lost-operation r w);
-        bytes = λ p l k. lost-page g (r .operation) junk m p (inside p k) (u .spares p l k) ∙ u .bytes p l k;
+        spares = idle-spares g first end (lost g r w .operation) (lost-operation g r w);
+        bytes = λ p l k. lost-page g wide (r .operation) junk m p (inside p k) (u .spares p l k) ∙ u .bytes p l k;
       }
 
 -- ---- a call
@@ -97,11 +101,11 @@ module _ (g : Geometry) (first end : ℕ) (b : ℕ → List ℕ) where
   KeptIn s = Kept g first end b (s .registers) (s .memory)
 
   -- a frame and its script byte
-  after-kept : (x : ℕ) (r : Registers) (m : Memory) → Kept g first end b r m → Kept g first end b (registersAfter x r) (memoryAfter g x r m)
+  after-kept : (x : ℕ) (r : Registers) (m : Memory) → Kept g first end b r m → Kept g first end b (registersAfter g x r) (memoryAfter g x r m)
   unfolding registersAfter memoryAfter
   after-kept x r m u = go (eqb x 0)
     where
-      go : (d : Bool) → Kept g first end b (cond d (completed r) r) (cond d (completedMemory g (r .operation) m) m)
+      go : (d : Bool) → Kept g first end b (cond d (completed g r) r) (cond d (completedMemory g (r .operation) m) m)
       go true = end-kept u
       go false = u
 
@@ -136,7 +140,7 @@ module _ (g : Geometry) (first end : ℕ) (b : ℕ → List ℕ) where
   pub call-kept : (v : Request) (x : Secret) (s : State) → KeptIn s → QuietCall first end g v x s → KeptIn (callNext g v x s)
   unfolding callNext ran startOpen startClosed
   call-kept v x s u w =
-      let k = run-kept (bound g (v .asked)) v (startOpen g (length (s .memory .array)) v (s .registers)) (startClosed g x (s .memory)) u w in
+      let k = run-kept (bound g (v .asked)) v (startOpen g (length (s .memory .array)) v (s .registers)) (startClosed x (s .memory)) u w in
       cases KeptIn (ran g v x s .0 .cut) (cut-state-kept (x .junk) (reached (ran g v x s)) k) k
 
   sent-kept : (f : List ℕ) (s : State) → KeptIn s → Spares g first end (startedBy g (s .registers) f) → KeptIn (sentState g f s)

@@ -17,8 +17,8 @@ use Rattle.slices.proofs.Laws.{length-tabulate, getD-tabulate, tabulate-same, t
 use Rattle.geometry.specs.declared.Geometry.{Geometry}
 use Rattle.geometry.specs.declared.Part.{Part}
 use Rattle.geometry.specs.declared.Part.the-variants.{Known}
-use Rattle.geometry.specs.Parts.{Sized, pageOf, pageStart}
-use Rattle.geometry.proofs.Pages.{length-pageOf, getD-pageOf, page-few, start-mono, start-next, start-add}
+use Rattle.geometry.specs.Parts.{Sized, pageOf, pageStart, slotRoom}
+use Rattle.geometry.proofs.Pages.{sized-own, length-pageOf, getD-pageOf, page-few, start-mono, start-next, start-add}
 use Rattle.geometry.specs.Sectors.{sectorOf}
 use Rattle.registers.specs.declared.Operation.{Operation}
 use Rattle.registers.specs.declared.Operation.the-variants.{Idle}
@@ -44,7 +44,7 @@ use Rattle.slots.proofs.Steady.{array-steady, ran-keeps}
 use Rattle.slots.proofs.Accepted.{accepted}
 use Rattle.slots.proofs.Listed.{EndsWell, ends-well}
 use Rattle.slots.proofs.Kept.{idle-spares}
-use Rattle.slots.proofs.Stores.{Writer, Wrote, Lawful, cold, call-stores, slot-sector}
+use Rattle.slots.proofs.Stores.{Writer, Wrote, Lawful, cold, call-stores}
 use Rattle.slots.proofs.Written.{putWriter, put-lawful, patchWriter, patch-lawful, wipeWriter, wipe-lawful}
 use Rattle.slots.proofs.Gets.{call-reads}
 use Rattle.slots.proofs.Elsewhere.{call-spares}
@@ -170,15 +170,15 @@ module _ (g : Geometry) (slot limit place : ℕ) (payload junk log lent : List �
   sizes : Sized g n
   sizes = placed-sized n (s .registers .operation) g k
 
-  module _ (K : Kind) (u : Undisturbed (asking K slot limit) (s .registers)) (e : eqb (numberOf (refusalOf g n (v K))) 0 ≡ true) where
+  module _ (K : Kind) (u : Undisturbed g (asking K slot limit) (s .registers)) (e : eqb (numberOf (refusalOf g n (v K))) 0 ≡ true) where
     well : EndsWell g (asking K slot limit) (v K) x s
-    well = ends-well g (asking K slot limit) (length log) (length junk) (v K .oversize) x s u e
+    well = ends-well g (sizes .short) (asking K slot limit) (length log) (length junk) (v K .oversize) x s u e
 
     fits : 8 * slot + 8 ≤ g .pages
     fits = accepted g n (v K) e .asked .fits
 
-    few : sectorOf (8 * slot) < 17
-    few = slot-sector g slot (sizes .few) fits
+    few : Sized g (g .pages * g .size)
+    few = sized-own g _ sizes
 
     -- an end without a cut
     next-is : callNext g (v K) x s ≡ reached (ran g (v K) x s)
@@ -207,12 +207,12 @@ module _ (g : Geometry) (slot limit place : ℕ) (payload junk log lent : List �
     answer-is = ap (λ (t : Stage). answerIn (toldBy t (ran g (v K) x s .1 .holding .verdict))) (well .stage)
 
     -- the run of a call that writes its slot
-    stored : (W : Writer g K slot) → Lawful g K slot W fits few cold (planBy K g slot) → W .Opens (s .registers) (s .memory) → W .Fresh (8 * slot) (startClosed g x (s .memory) .holding)
+    stored : (W : Writer g K slot) → Lawful g K slot W fits few cold (planBy K g slot) → W .Opens (s .registers) (s .memory) → W .Fresh (8 * slot) (startClosed x (s .memory) .holding)
         → Wrote g K slot W (ran g (v K) x s)
     stored W law o f = call-stores g (v K) W x s k (omega (arith, sizes .most, whole .buffer1)) e fits few law o f (well .stage)
 
   -- by the call
-  leaves-by : (K : Kind) → Undisturbed (asking K slot limit) (s .registers) → eqb (numberOf (refusalOf g n (v K))) 0 ≡ true
+  leaves-by : (K : Kind) → Undisturbed g (asking K slot limit) (s .registers) → eqb (numberOf (refusalOf g n (v K))) 0 ≡ true
       → Leaves g (asking K slot limit) place payload s (callOut g (v K) x s) (callNext g (v K) x s)
   unfolding leftIn verdictFor putWriter patchWriter wipeWriter startClosed slotSize
   leaves-by Put u e =
@@ -224,7 +224,7 @@ module _ (g : Geometry) (slot limit place : ℕ) (payload junk log lent : List �
       }
   leaves-by Patch u e =
       let w = stored Patch u e (patchWriter g slot place payload old) (patch-lawful g slot place payload old (fits Patch u e) (few Patch u e)) (slot-kept g slot s k (u .ready .0) (fits Patch u e))
-      (record { payload = refl; places = refl; verdict = λ f. absurd (f refl); room = length-replicate (8 * g .size) 0 }) in
+      (record { payload = refl; places = refl; verdict = λ f. absurd (f refl); room = omega (arith, sizes .most, length-replicate {A = ℕ} slotRoom 0) }) in
       record {
         answer = answer-is Patch u e ∙ ap verdictAnswer (w .fresh .verdict (λ f. absurd (omega (arith, f))));
         array = leaves Patch u e (λ i. changed (patchVerdict g (place + length payload) (pageIn g old 0)) place payload (old i) i) (w .pages);
@@ -247,7 +247,7 @@ module _ (g : Geometry) (slot limit place : ℕ) (payload junk log lent : List �
       }
 
 -- WHAT A CALL LEAVES, where it is undisturbed
-pub call-leaves : (g : Geometry) (a : Asked) (place : ℕ) (payload junk log lent : List ℕ) (s : State) → Whole (chipIn s) → partIn s ≡ Known g → Undisturbed a (s .registers)
+pub call-leaves : (g : Geometry) (a : Asked) (place : ℕ) (payload junk log lent : List ℕ) (s : State) → Whole (chipIn s) → partIn s ≡ Known g → Undisturbed g a (s .registers)
     → eqb (numberOf (refusalOf g (length (s .memory .array)) (asks g a place [] payload junk log lent))) 0 ≡ true
     → Leaves g a place payload s (outOf (call a place [] payload junk log lent) s) (nextOf (call a place [] payload junk log lent) s)
 unfolding outOf callBy nextOf calledBy

@@ -7,21 +7,24 @@ use native.Mathlib.Omega.{arith}
 use mathlib.Core.Path.{_≡_, refl, sym, ap, subst, _∙_}
 use mathlib.Core.Bool.{Bool, true, false, cond, _&&_, _||_}
 use mathlib.Core.List.{List, [], _∷_, _++_}
-use lib.ListN.{length, getD, replicate}
+use lib.ListN.{length, getD}
 use lib.Dec.{eqb, lit<, lit≤}
 use Rattle.slices.specs.Lists.{tabulate}
-use Rattle.slices.proofs.Laws.{tabulate-same, tabulate-getD}
+use Rattle.slices.proofs.Laws.{length-tabulate, tabulate-same, tabulate-getD}
 use Rattle.geometry.specs.declared.Geometry.{Geometry}
+use Rattle.geometry.specs.declared.Part.the-variants.{Known}
 use Rattle.registers.specs.declared.Registers.{Registers}
-use Rattle.registers.specs.Protection.{hasBits, guarded, sealed}
+use Rattle.registers.specs.Protection.{Roomed, hasBits, guarded, sealed}
+use Rattle.registers.proofs.Places.{placed-sized}
 use Rattle.control.specs.Control.{control}
 use Rattle.control.specs.Completion.{completed}
 use Rattle.control.specs.Starts.{Ready, Lengths}
-use Rattle.control.proofs.Frames.{status-keeps, protection-keeps, lockdown-keeps}
+use Rattle.control.proofs.Frames.{status-keeps}
 use Rattle.control.proofs.Ends.{completed-idle}
 use Rattle.state.specs.Answers.{numberOf}
 use Rattle.state.specs.Memory.{Memory, State}
 use Rattle.state.specs.Frames.{isIdle, replyOf}
+use Rattle.state.specs.Outcomes.{partIn}
 use Rattle.state.proofs.Status.{is-idle}
 use Rattle.state.proofs.Replies.{status-byte, protection-byte, lockdown-byte}
 use Rattle.state.specs.declared.Answer.the-variants as Answers
@@ -31,11 +34,11 @@ use Rattle.slots.specs.declared.Stage.the-variants.{Ended}
 use Rattle.slots.specs.declared.Step.{Step}
 use Rattle.slots.specs.declared.Step.the-variants.{Wait, Protection, Lockdown, Read, Load, Send, End}
 use Rattle.slots.specs.Plans.{Asked, pages, opening, isAsking, pageSteps, runBy, planBy, planOf, sectorFor, bound, isEnd, isWait, waitsIn}
-use Rattle.slots.specs.Driver.{Heard, Holding, shapeOf, frameByte, frameOf, statusHeard, registerIn, takenBy, stepOf, isEnded}
+use Rattle.slots.specs.Driver.{Heard, Holding, shapeOf, frameByte, loaded, frameOf, statusHeard, registerIn, takenBy, stepOf, isEnded}
 use Rattle.slots.specs.Calls.{Request, Secret, Open, Closed, sends, registersAfter, openAfter, stepOpen, stepClosed, run, refusalOf, startOpen, startClosed, ran, callOut}
 use Rattle.slots.specs.Lists.{request}
 use Rattle.slots.specs.Exchanges.{Exchange, exchangesOf, exchanges, statusFrame, statusIn, FoundBusy, lost, foreign, ready, busy, again, Result, finished, answerFor, isPlain, Follows, done, waited, halted, cut, listed, shut, free, plain, OneByOne, Undisturbed, AsListed}
-use Rattle.slots.proofs.Blind.{status-heard, load-registers}
+use Rattle.slots.proofs.Blind.{status-heard, load-registers, filler, protection-form, lockdown-form, protection-registers, lockdown-registers}
 use Rattle.slots.proofs.Places.{never, every, every-pages}
 use Rattle.slots.proofs.Counts.{steps, waits}
 use Rattle.slots.proofs.Accepted.{step-ended}
@@ -44,7 +47,7 @@ use Rattle.slots.proofs.Sent.{read-keeps, send-returns}
 use Rattle.slots.proofs.Driven.{Ends}
 use Rattle.slots.proofs.Planned.{ended-none, first, open-is, comes, isFree, onChip}
 
-module _ (g : Geometry) (r : Registers) (y : Ready r) (n : Lengths r) where
+module _ (g : Geometry) (full : Roomed g) (r : Registers) (y : Ready r) (n : Lengths r) where
   -- ---- what the chip's replies tell
 
   -- an exchange that is not cut, with the reply of a chip that has these registers
@@ -60,31 +63,41 @@ module _ (g : Geometry) (r : Registers) (y : Ready r) (n : Lengths r) where
       let m = u .1 in
       ap (λ (l : List ℕ). statusHeard (getD l 1 255)) (u .2 ∙ ap (replyOf g r m) f)
       ∙ ap statusHeard (status-byte g r m (0 ∷ []) 1 255 (y .1) (lit≤ tt) (lit< tt))
-      ∙ status-heard (isIdle (r .operation)) (m .compare) (guarded r)
+      ∙ status-heard g (isIdle (r .operation)) (m .compare) (guarded r)
       ∙ ap (λ (b : Bool). record { density = true; ready = b; guarded = guarded r; held = false }) (ap isIdle (y .0) ∙ is-idle)
 
   -- ---- exchanges that follow a plan
-  register-whole : (bytes reply : List ℕ) → length bytes ≡ 16 → ((j : ℕ) → j < 16 → getD reply (4 + j) 255 ≡ getD bytes j 0) → registerIn reply ≡ bytes
+  register-whole : (bytes reply : List ℕ) → length bytes ≡ g .register → ((j : ℕ) → j < g .register → getD reply (4 + j) 255 ≡ getD bytes j 0) → registerIn g reply ≡ bytes
   unfolding registerIn
   register-whole bytes reply l f =
-      tabulate-same 16 (λ j. getD reply (4 + j) 255) (λ j. getD bytes j 0) f ∙ ap (λ (x : ℕ). tabulate x (λ j. getD bytes j 0)) (sym l) ∙ tabulate-getD bytes 0
+      tabulate-same (g .register) (λ j. getD reply (4 + j) 255) (λ j. getD bytes j 0) f ∙ ap (λ (x : ℕ). tabulate x (λ j. getD bytes j 0)) (sym l) ∙ tabulate-getD bytes 0
 
-  protection-told : (m : Memory) → registerIn (replyOf g r m (0x32 ∷ 0 ∷ 0 ∷ 0 ∷ replicate 16 0)) ≡ r .protection
-  protection-told m = register-whole (r .protection) _ (n .protection) (λ j l. protection-byte g r m 0 0 0 (replicate 16 0) y j 255 l (subst (λ (x : ℕ). j < x) (sym (n .protection)) l))
+  protection-told : (m : Memory) (k : Kind) (h : Holding) → registerIn g (replyOf g r m (frameOf g k h Protection)) ≡ r .protection
+  protection-told m k h =
+      let t = filler g k h Protection in
+      let long = length-tabulate (g .register) (λ i. frameByte (shapeOf g Protection) (loaded g k h Protection) (4 + i)) in
+      ap (λ (f : List ℕ). registerIn g (replyOf g r m f)) (protection-form g k h)
+      ∙ register-whole (r .protection) _ (n .protection ∙ sym full)
+      (λ j l. protection-byte g r m 0 0 0 t y j 255 (omega (arith, long)) l (omega (arith, n .protection, full)))
 
-  lockdown-told : (m : Memory) → registerIn (replyOf g r m (0x35 ∷ 0 ∷ 0 ∷ 0 ∷ replicate 16 0)) ≡ r .lockdown
-  lockdown-told m = register-whole (r .lockdown) _ (n .lockdown) (λ j l. lockdown-byte g r m 0 0 0 (replicate 16 0) y j 255 l (subst (λ (x : ℕ). j < x) (sym (n .lockdown)) l))
+  lockdown-told : (m : Memory) (k : Kind) (h : Holding) → registerIn g (replyOf g r m (frameOf g k h Lockdown)) ≡ r .lockdown
+  lockdown-told m k h =
+      let t = filler g k h Lockdown in
+      let long = length-tabulate (g .register) (λ i. frameByte (shapeOf g Lockdown) (loaded g k h Lockdown) (4 + i)) in
+      ap (λ (f : List ℕ). registerIn g (replyOf g r m f)) (lockdown-form g k h)
+      ∙ register-whole (r .lockdown) _ (n .lockdown ∙ sym full)
+      (λ j l. lockdown-byte g r m 0 0 0 t y j 255 (omega (arith, long)) l (omega (arith, n .lockdown, full)))
 
   module _ (a : Asked) where
     abbrev S : ℕ
-    S = sectorFor a
+    S = sectorFor g a
 
     -- where 10 is tested the sector is not sealed, by what was noted before
     abbrev Sound : Bool → Bool → List Step → Type 0
     Sound l d [] = Unit {0}
     Sound l d (Wait ∷ xs) = Sound l (guarded r) xs
-    Sound l d (Protection ∷ xs) = Sound (hasBits (r .protection) S) d xs
-    Sound l d (Lockdown ∷ xs) = ((hasBits (r .lockdown) S || (l && d)) ≡ false) × Sound l d xs
+    Sound l d (Protection ∷ xs) = Sound (hasBits g (r .protection) S) d xs
+    Sound l d (Lockdown ∷ xs) = ((hasBits g (r .lockdown) S || (l && d)) ≡ false) × Sound l d xs
     Sound l d (Read p ∷ xs) = Sound l d xs
     Sound l d (Load p ∷ xs) = Sound l d xs
     Sound l d (Send c p ∷ xs) = Sound l d xs
@@ -94,7 +107,7 @@ module _ (g : Geometry) (r : Registers) (y : Ready r) (n : Lengths r) where
     unfolding every isFree
     sound-free l d [] e = tt
     sound-free l d (Wait ∷ xs) e = sound-free l (guarded r) xs e
-    sound-free l d (Protection ∷ xs) e = sound-free (hasBits (r .protection) S) d xs e
+    sound-free l d (Protection ∷ xs) e = sound-free (hasBits g (r .protection) S) d xs e
     sound-free l d (Lockdown ∷ xs) e = never e
     sound-free l d (Read p ∷ xs) e = sound-free l d xs e
     sound-free l d (Load p ∷ xs) e = sound-free l d xs e
@@ -157,11 +170,11 @@ module _ (g : Geometry) (r : Registers) (y : Ready r) (n : Lengths r) where
     calm (halted (busy {e = e} f c)) u s = not-busy e (u .0) f
     calm (halted (again {e = e} f c z)) u s = not-busy e (u .0) f
     calm (cut z f c) u s = absurd (u .0 .0 c)
-    calm (listed {xs = xs} {d = d} {e = e} f v) u s =
-        more {x = Protection} (f .0) (omega arith) (calm v (u .1) (subst (λ (z : Bool). Sound z d xs) (sym (ap (λ (l : List ℕ). hasBits l S)
-        (ap registerIn (u .0 .2 ∙ ap (replyOf g r (u .0 .1)) (f .0)) ∙ protection-told (u .0 .1)))) s))
-    calm (shut {l = l} {d = d} {e = e} f z) u s =
-        never (sym (s .0) ∙ ap (λ (q : List ℕ). hasBits q S || (l && d)) (sym (ap registerIn (u .0 .2 ∙ ap (replyOf g r (u .0 .1)) (f .0)) ∙ lockdown-told (u .0 .1))) ∙ z)
+    calm (listed {xs = xs} {d = d} {h = h} {e = e} f v) u s =
+        more {x = Protection} (f .0) (omega arith) (calm v (u .1) (subst (λ (z : Bool). Sound z d xs) (sym (ap (λ (l : List ℕ). hasBits g l S)
+        (ap (registerIn g) (u .0 .2 ∙ ap (replyOf g r (u .0 .1)) (f .0)) ∙ protection-told (u .0 .1) (a .kind) h))) s))
+    calm (shut {l = l} {d = d} {h = h} {e = e} f z) u s =
+        never (sym (s .0) ∙ ap (λ (q : List ℕ). hasBits g q S || (l && d)) (sym (ap (registerIn g) (u .0 .2 ∙ ap (replyOf g r (u .0 .1)) (f .0)) ∙ lockdown-told (u .0 .1) (a .kind) h)) ∙ z)
     calm (free {e = e} f z v) u s = more {x = Lockdown} (f .0) (omega arith) (calm v (u .1) (s .1))
     calm (plain {k = k} {x = x} {xs = xs} {l = l} {d = d} y f v) u s =
         more {x = x} (f .0) (omega arith ∙ ap (λ (b : Bool). cond b 1 0 + k) (sym (plain-wait x y))) (calm v (u .1) (plain-sound x xs l d y s))
@@ -169,13 +182,13 @@ module _ (g : Geometry) (r : Registers) (y : Ready r) (n : Lengths r) where
   -- ---- a run with an empty script
 
   -- once its busy end has come, a step's frame has left the registers
-  returns : (k : Kind) (h : Holding) (x : Step) → isEnd x ≡ false → completed (control g r (frameOf g k h x) .registers) ≡ r
+  returns : (k : Kind) (h : Holding) (x : Step) → isEnd x ≡ false → completed g (control g r (frameOf g k h x) .registers) ≡ r
   unfolding shapeOf frameByte tabulate isEnd
-  returns k h Wait e = ap completed (status-keeps g r (0 ∷ [])) ∙ completed-idle r (y .0)
-  returns k h Protection e = ap completed (protection-keeps g r 0 0 0 (replicate 16 0)) ∙ completed-idle r (y .0)
-  returns k h Lockdown e = ap completed (lockdown-keeps g r 0 0 0 (replicate 16 0)) ∙ completed-idle r (y .0)
-  returns k h (Read p) e = ap completed (read-keeps g r k h p) ∙ completed-idle r (y .0)
-  returns k h (Load p) e = ap completed (load-registers g r k p h) ∙ completed-idle r (y .0)
+  returns k h Wait e = ap (completed g) (status-keeps g r (0 ∷ [])) ∙ completed-idle g r (y .0)
+  returns k h Protection e = ap (completed g) (protection-registers g r k h) ∙ completed-idle g r (y .0)
+  returns k h Lockdown e = ap (completed g) (lockdown-registers g r k h) ∙ completed-idle g r (y .0)
+  returns k h (Read p) e = ap (completed g) (read-keeps g r k h p) ∙ completed-idle g r (y .0)
+  returns k h (Load p) e = ap (completed g) (load-registers g r k p h) ∙ completed-idle g r (y .0)
   returns k h (Send c p) e = send-returns g r k h p y c
   returns k h End e = never (sym e)
 
@@ -188,7 +201,7 @@ module _ (g : Geometry) (r : Registers) (y : Ready r) (n : Lengths r) where
         → (stepOpen g v p q .registers ≡ r) × (stepOpen g v p q .cut ≡ false)
     unfolding openAfter registersAfter
     step-returns n p q z o e = (
-      ap (λ (t : Open). t .registers) (open-is g v n p q z) ∙ ap (λ (t : Registers). completed (control g t (sends g v p q) .registers)) e ∙ returns (a .kind) (q .holding) (stepOf g a (p .course)) o,
+      ap (λ (t : Open). t .registers) (open-is g v n p q z) ∙ ap (λ (t : Registers). completed g (control g t (sends g v p q) .registers)) e ∙ returns (a .kind) (q .holding) (stepOf g a (p .course)) o,
       ap (λ (t : Open). t .cut) (open-is g v n p q z),
     )
 
@@ -231,8 +244,8 @@ page-free Patch p = refl
 page-free Get p = refl
 page-free Wipe p = refl
 
-module _ (g : Geometry) (a : Asked) (r : Registers) (y : Ready r) (n : Lengths r) where
-  plan-sound : (k : Kind) (slot : ℕ) → (isAsking k ≡ true → sealed r (sectorFor a) ≡ false) → Sound g r y n a false false (planBy k g slot)
+module _ (g : Geometry) (full : Roomed g) (a : Asked) (r : Registers) (y : Ready r) (n : Lengths r) where
+  plan-sound : (k : Kind) (slot : ℕ) → (isAsking k ≡ true → sealed g r (sectorFor g a) ≡ false) → Sound g full r y n a false false (planBy k g slot)
   unfolding planBy sealed
   plan-sound k slot u = go (isAsking k) u
     where
@@ -242,30 +255,30 @@ module _ (g : Geometry) (a : Asked) (r : Registers) (y : Ready r) (n : Lengths r
       free-rest : every isFree rest ≡ true
       free-rest = every-pages isFree (runBy k g slot .count) (runBy k g slot .first) (pageSteps k) (page-free k)
 
-      go : (b : Bool) → (b ≡ true → sealed r (sectorFor a) ≡ false) → Sound g r y n a false false (opening b ++ rest)
-      go true u = (u refl, sound-free g r y n a (hasBits (r .protection) (sectorFor a)) (guarded r) rest free-rest)
-      go false u = sound-free g r y n a false (guarded r) rest free-rest
+      go : (b : Bool) → (b ≡ true → sealed g r (sectorFor g a) ≡ false) → Sound g full r y n a false false (opening b ++ rest)
+      go true u = (u refl, sound-free g full r y n a (hasBits g (r .protection) (sectorFor g a)) (guarded r) rest free-rest)
+      go false u = sound-free g full r y n a false (guarded r) rest free-rest
 
 -- ---- a call
 
 -- an accepted call that nothing disturbs comes to its plan's end
 pub record EndsWell (g : Geometry) (a : Asked) (v : Request) (x : Secret) (s : State) : Type 0 where
-  pub listed : AsListed g a (startClosed g x (s .memory) .holding) (exchanges g v x s) (callOut g v x s)
+  pub listed : AsListed g a (startClosed x (s .memory) .holding) (exchanges g v x s) (callOut g v x s)
   pub stage : ran g v x s .0 .course .stage ≡ Ended Answers.Done
   pub registers : ran g v x s .0 .registers ≡ s .registers
   pub uncut : ran g v x s .0 .cut ≡ false
 
-pub ends-well : (g : Geometry) (a : Asked) (log junk : ℕ) (over : Bool) (x : Secret) (s : State) → Undisturbed a (s .registers)
+pub ends-well : (g : Geometry) → Roomed g → (a : Asked) (log junk : ℕ) (over : Bool) (x : Secret) (s : State) → Undisturbed g a (s .registers)
     → eqb (numberOf (refusalOf g (length (s .memory .array)) (request a [] log junk over))) 0 ≡ true → EndsWell g a (request a [] log junk over) x s
 unfolding exchanges ran startOpen
-ends-well g a log junk over x s u e =
+ends-well g full a log junk over x s u e =
     let v = request a [] log junk over in
     let r = s .registers in
     let k = comes g v x s e in
     let w = k .planned in
-    let honest = honest-run g r (u .ready) (u .lengths) a log junk over (bound g a) (startOpen g (length (s .memory .array)) v r) (startClosed g x (s .memory)) (begin-ok g (length (s .memory .array)) v e) refl in
-    let z = calm g r (u .ready) (u .lengths) a (w .follows) honest (plan-sound g a r (u .ready) (u .lengths) (a .kind) (a .slot) (u .unsealed)) in
-    let c = calm-run g r (u .ready) (u .lengths) a log junk over (bound g a) (startOpen g (length (s .memory .array)) v r) (startClosed g x (s .memory)) (begin-ok g (length (s .memory .array)) v e) refl refl in
+    let honest = honest-run g full r (u .ready) (u .lengths) a log junk over (bound g a) (startOpen g (length (s .memory .array)) v r) (startClosed x (s .memory)) (begin-ok g (length (s .memory .array)) v e) refl in
+    let z = calm g full r (u .ready) (u .lengths) a (w .follows) honest (plan-sound g full a r (u .ready) (u .lengths) (a .kind) (a .slot) (u .unsealed)) in
+    let c = calm-run g full r (u .ready) (u .lengths) a log junk over (bound g a) (startOpen g (length (s .memory .array)) v r) (startClosed x (s .memory)) (begin-ok g (length (s .memory .array)) v e) refl refl in
     record {
       listed =
           record {
@@ -282,7 +295,8 @@ ends-well g a log junk over x s u e =
     }
 
 -- FRAMES AS LISTED: it sends its plan, one D7 a wait
-pub frames-as-listed : (g : Geometry) (a : Asked) (log junk : ℕ) (over : Bool) (x : Secret) (s : State) → Undisturbed a (s .registers)
+pub frames-as-listed : (g : Geometry) (a : Asked) (log junk : ℕ) (over : Bool) (x : Secret) (s : State) → partIn s ≡ Known g → Undisturbed g a (s .registers)
     → eqb (numberOf (refusalOf g (length (s .memory .array)) (request a [] log junk over))) 0 ≡ true
-    → AsListed g a (startClosed g x (s .memory) .holding) (exchanges g (request a [] log junk over) x s) (callOut g (request a [] log junk over) x s)
-frames-as-listed g a log junk over x s u e = ends-well g a log junk over x s u e .listed
+    → AsListed g a (startClosed x (s .memory) .holding) (exchanges g (request a [] log junk over) x s) (callOut g (request a [] log junk over) x s)
+frames-as-listed g a log junk over x s k u e =
+    ends-well g (placed-sized (length (s .memory .array)) (s .registers .operation) g k .short) a log junk over x s u e .listed

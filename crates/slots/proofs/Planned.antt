@@ -76,7 +76,7 @@ module _ (g : Geometry) (v : Request) where
 
     pub after-is : eqb (e .byte) 2 ≡ false
         → p₁ .course ≡ courseBy (stepOf g (v .asked) c) (stepAt (planOf g (v .asked)) (suc (c .place))) (v .asked .limit) c
-        (heard (stepOf g (v .asked) c) (sectorFor (v .asked)) (e .reply))
+        (heard g (stepOf g (v .asked) c) (sectorFor g (v .asked)) (e .reply))
     unfolding openAfter
     after-is b = ap (λ (o : Open). o .course) open-is ∙ other (eqb (e .byte) 2) (ended Answers.Cut c) _ b
 
@@ -148,14 +148,14 @@ run-logged (suc n) g v p q = go (isEnded (p .course .stage)) refl (run-logged n 
 
 -- how an accepted call comes to its end: by its plan, and the run with it
 pub record Came (g : Geometry) (v : Request) (x : Secret) (s : State) : Type 0 where
-  pub planned : AsPlanned g v (startClosed g x (s .memory) .holding) (exchanges g v x s) (callOut g v x s)
+  pub planned : AsPlanned g v (startClosed x (s .memory) .holding) (exchanges g v x s) (callOut g v x s)
   pub ends : Ends (onChip g v) (planned .result) (ran g v x s)
 
 pub comes : (g : Geometry) (v : Request) (x : Secret) (s : State) → eqb (numberOf (refusalOf g (length (s .memory .array)) v)) 0 ≡ true → Came g v x s
 unfolding exchanges callOut outFrom ran startOpen answerIn toldBy numberOf weighed firstCourse isEnded
 comes g v x s ok =
     let p = startOpen g (length (s .memory .array)) v (s .registers) in
-    let q = startClosed g x (s .memory) in
+    let q = startClosed x (s .memory) in
     let n = bound g (v .asked) in
     let go : isEnded (p .course .stage) ≡ false = ap (λ (b : Bool). isEnded (cond b Going (Ended (refusalOf g (length (s .memory .array)) v)))) ok in
     let z = run-led g (v .asked) (onChip g v) n (p, q) (begin-ok g (length (s .memory .array)) v ok) (inl go) in
@@ -184,7 +184,7 @@ comes g v x s ok =
 
 -- FRAMES: an accepted call's frames, in any state and under any script, follow its plan, and so do polls, log and answer
 pub frames-as-planned : (g : Geometry) (v : Request) (x : Secret) (s : State) → eqb (numberOf (refusalOf g (length (s .memory .array)) v)) 0 ≡ true
-    → AsPlanned g v (startClosed g x (s .memory) .holding) (exchanges g v x s) (callOut g v x s)
+    → AsPlanned g v (startClosed x (s .memory) .holding) (exchanges g v x s) (callOut g v x s)
 frames-as-planned g v x s ok = comes g v x s ok .planned
 
 -- ---- where a call that was stopped was stopped

@@ -16,7 +16,8 @@ use Rattle.slices.proofs.Laws.{getD-tabulate, tabulate-same, length-splice, spl
 use Rattle.geometry.specs.declared.Geometry.{Geometry}
 use Rattle.geometry.specs.declared.Part.{Part}
 use Rattle.geometry.specs.declared.Part.the-variants.{Known, Unknown}
-use Rattle.geometry.specs.Parts.{partOf, Sized}
+use Rattle.geometry.specs.Parts.{partOf, slotRoom, Sized}
+use Rattle.geometry.proofs.Pages.{sized-own}
 use Rattle.registers.specs.declared.Operation.{Operation}
 use Rattle.registers.specs.declared.Operation.the-variants.{Idle}
 use Rattle.registers.specs.Operations.{within, placed}
@@ -49,7 +50,7 @@ use Rattle.slots.proofs.Driven.{Ends}
 use Rattle.slots.proofs.Planned.{comes, onChip, isFree, Halts, ResultHalts, free-halts}
 use Rattle.slots.proofs.Planned as H
 use Rattle.slots.proofs.Kept.{idle-spares, list-kept}
-use Rattle.slots.proofs.Stores.{Writer, Wrote, call-stores, slot-sector}
+use Rattle.slots.proofs.Stores.{Writer, Wrote, call-stores}
 use Rattle.slots.proofs.Written.{putWriter, put-lawful, patchWriter, patch-lawful}
 use Rattle.slots.proofs.Gets.{call-reads}
 use Rattle.slots.proofs.Image.{length-told, get-good, patch-ends, recipe-told, image-patched}
@@ -152,7 +153,7 @@ put-holds sl lim sc recipe junk lg s w d =
     let e = done-accepted g v x s h in
     let a = accepted g n v e .asked in
     let z = placed-sized n (s .registers .operation) g k in
-    let few = slot-sector g sl (z .few) (a .fits) in
+    let few = sized-own g n z in
     record {
       geometry = g;
       limit = ltb-false (limitOf g) (length recipe) (or-left (ltb (limitOf g) (length recipe)) (a .size));
@@ -207,7 +208,7 @@ get-free : (g : Geometry) (sl : ℕ) → every isFree (planBy Get g sl) ≡ true
 unfolding every isFree isAsking pageSteps
 get-free g sl = every-plan isFree Get g sl refl (λ p. refl)
 
-module _ (g : Geometry) (recipe : List ℕ) (fits : length recipe ≤ limitOf g) (few : 8 * g .size ≤ 2112) (some : 3 ≤ g .size) where
+module _ (g : Geometry) (recipe : List ℕ) (fits : length recipe ≤ limitOf g) (few : 8 * g .size ≤ slotRoom) (some : 3 ≤ g .size) where
   short : 3 + length recipe ≤ 8 * g .size
   unfolding limitOf slotSize
   short = omega (arith, fits)
@@ -220,7 +221,7 @@ module _ (g : Geometry) (recipe : List ℕ) (fits : length recipe ≤ limitOf g)
       g fits
 
   -- the outcome of a get that has read the record
-  returned : (staged buffer lines : List ℕ) (frames polls : ℕ) (a : Answer) → limitOf g ≤ length buffer → length staged ≡ 8 * g .size
+  returned : (staged buffer lines : List ℕ) (frames polls : ℕ) (a : Answer) → limitOf g ≤ length buffer → 8 * g .size ≤ length staged
       → ((i : ℕ) → i < 8 * g .size → getD staged i 0 ≡ image recipe i) → a ≡ Answers.Done
       → Returns recipe (record { answer = a; lines = lines; frames = frames; polls = polls; count = countOf Get a staged; lent = delivered (countOf Get a staged) staged buffer })
   unfolding countOf countBy numberOf
@@ -299,10 +300,10 @@ patch-holds sl lim place sc bytes junk lg recipe s w u d =
     let some = z .some in
     let most = z .most in
     let room = u .limit in
-    let few = slot-sector g sl (z .few) (a .fits) in
+    let few = sized-own g n z in
     let W = patchWriter g sl place bytes (image recipe) in
     let k = call-stores g v W x s (u .kept .part) (whole-room g n s z w) e (a .fits) few (patch-lawful g sl place bytes (image recipe) (a .fits) few) (u .kept)
-    (record { payload = refl; places = refl; verdict = λ f. absurd (f refl); room = length-replicate (8 * g .size) 0 }) (done-stage g v x s h .0) in
+    (record { payload = refl; places = refl; verdict = λ f. absurd (f refl); room = omega (arith, z .most, length-replicate {A = ℕ} slotRoom 0) }) (done-stage g v x s h .0) in
     let good : patchVerdict g (place + length bytes) (pageIn g (image recipe) 0) ≡ Good = sym (k .fresh .verdict (λ f. absurd (omega (arith, f)))) ∙ done-stage g v x s h .1 in
     let within : place + length bytes ≤ length recipe =
     patch-ends recipe (pageIn g (image recipe) 0) (omega (arith, room, most))

@@ -81,19 +81,19 @@ start-refused g v s e = λ i.
 
 -- what the run of a refused call leaves
 pub ran-refused : (g : Geometry) (v : Request) (x : Secret) (s : State) → eqb (numberOf (refusalOf g (length (s .memory .array)) v)) 0 ≡ false
-    → (ran g v x s .0 ≡ endedOpen (refusalOf g (length (s .memory .array)) v) v s) × (ran g v x s .1 ≡ startClosed g x (s .memory))
+    → (ran g v x s .0 ≡ endedOpen (refusalOf g (length (s .memory .array)) v) v s) × (ran g v x s .1 ≡ startClosed x (s .memory))
 unfolding ran isEnded
 ran-refused g v x s e =
     let z = start-refused g v s e in
-    let r = run-ended (bound g (v .asked)) g v (startOpen g (length (s .memory .array)) v (s .registers)) (startClosed g x (s .memory))
+    let r = run-ended (bound g (v .asked)) g v (startOpen g (length (s .memory .array)) v (s .registers)) (startClosed x (s .memory))
     (ap (λ (o : Open). isEnded (o .course .stage)) z) in
     (r .0 ∙ z, r .1)
 
 out-refused : (g : Geometry) (v : Request) (x : Secret) (s : State) (a : Answer) → eqb (numberOf a) 0 ≡ false
-    → outFrom v x (endedOpen a v s, startClosed g x (s .memory)) a ≡ refused a (x .lent)
+    → outFrom v x (endedOpen a v s, startClosed x (s .memory)) a ≡ refused a (x .lent)
 unfolding outFrom over
 out-refused g v x s a e =
-    let staged = startClosed g x (s .memory) .holding .staged in
+    let staged = startClosed x (s .memory) .holding .staged in
     let c = count-none (v .asked .kind) a staged e in
     λ i. record { answer = a; lines = []; frames = 0; polls = 0; count = c i; lent = delivered (c i) staged (x .lent) }
 
@@ -111,7 +111,7 @@ refused-call g v x s e =
     record {
       out =
           (λ i. outFrom v x (r .0 i, r .1 i) (answerAt (r .0 i, r .1 i)))
-          ∙ ap (λ (z : Answer). outFrom v x (endedOpen a v s, startClosed g x (s .memory)) z) (weighed-other a Good e)
+          ∙ ap (λ (z : Answer). outFrom v x (endedOpen a v s, startClosed x (s .memory)) z) (weighed-other a Good e)
           ∙ out-refused g v x s a e;
       next = λ i. cond (r .0 i .cut) (cutState g (x .junk) (reached (r .0 i, r .1 i))) (reached (r .0 i, r .1 i));
     }
@@ -165,7 +165,7 @@ pub accepted-late : (g : Geometry) (v : Request) (x : Secret) (s : State) → eq
 unfolding callOut outFrom ran startOpen firstCourse
 accepted-late g v x s e =
     answer-late (ran g v x s .0 .course .stage) (ran g v x s .1 .holding .verdict)
-    (run-late (bound g (v .asked)) g v (startOpen g (length (s .memory .array)) v (s .registers)) (startClosed g x (s .memory))
+    (run-late (bound g (v .asked)) g v (startOpen g (length (s .memory .array)) v (s .registers)) (startClosed x (s .memory))
     (subst (λ (b : Bool). Late (cond b Going (Ended (refusalOf g (length (s .memory .array)) v)))) (sym e) tt))
 
 -- ---- any call or event

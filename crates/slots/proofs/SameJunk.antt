@@ -1,5 +1,5 @@
 -- The premise of two-runs can be met: lists with the same junk are alike along any two runs, whatever the recipes are. An example puts
--- recipes of 1 and of 2,109 bytes.
+-- recipes of 1 and of 2,000 bytes.
 -- Assumes nothing.
 use Prim.Native.Nat.{ℕ, _-_, _*_}
 use mathlib.Core.Path.{_≡_, refl, sym, ap, subst, _∙_}
@@ -11,7 +11,8 @@ use native.Mathlib.Omega.{arith}
 use Rattle.geometry.specs.declared.Geometry.{Geometry}
 use Rattle.geometry.specs.declared.Part.{Part}
 use Rattle.geometry.specs.declared.Part.the-variants.{Known, Unknown}
-use Rattle.geometry.specs.Parts.{partOf}
+use Rattle.geometry.specs.Parts.{parts, partOf}
+use Rattle.geometry.proofs.Pages.{Each, known-case}
 use Rattle.registers.proofs.Places.{placed-known}
 use Rattle.control.specs.Control.{control}
 use Rattle.control.specs.PowerLoss.{reaching}
@@ -81,23 +82,20 @@ two-runs-same-junk os us s t h a = two-runs os us s t h (alike-lists os us s t h
 
 -- ---- an example
 
-page-size : (n : ℕ) (g : Geometry) → partOf n ≡ Known g → g .size ≡ 264
-unfolding partOf
-page-size n g e = go (eqb n 1081344) (eqb n 33792) e
-  where
-    go : (b c : Bool) → cond b (Known (record { size = 264; pages = 4096; field = 512 })) (cond c (Known (record { size = 264; pages = 128; field = 512 })) Unknown) ≡ Known g → g .size ≡ 264
-    go true c k = let z : record { size = 264; pages = 4096; field = 512 } ≡ g = cc in ap (λ (x : Geometry). x .size) (sym z)
-    go false true k = let z : record { size = 264; pages = 128; field = 512 } ≡ g = cc in ap (λ (x : Geometry). x .size) (sym z)
-    go false false k = let z : _≡_ {A = ℕ} 0 1 = cc in absurd (omega arith)
+-- every part takes recipes of 1 and of 2,000 bytes
+both-fit : (n : ℕ) (g : Geometry) → partOf n ≡ Known g → ltb (8 * g .size - 3) 1 ≡ ltb (8 * g .size - 3) (length (replicate {A = ℕ} 2000 9))
+unfolding parts Each
+both-fit n g e =
+    (known-case (λ h. ltb (8 * h .size - 3) 1 ≡ ltb (8 * h .size - 3) (length (replicate {A = ℕ} 2000 9))) (refl, (refl, (refl, (refl, tt)))) n g e) .0
 
--- recipes of 1 and of 2,109 bytes, put by alike calls on any two chips that are alike: the same outlines, counts and answers
+-- recipes of 1 and of 2,000 bytes, put by alike calls on any two chips that are alike: the same outlines, counts and answers
 pub example : (log log' : List ℕ) → length log ≡ length log' → (s t : State) → Twins s t
-    → AllSame (runList (put 3 1 [] (7 ∷ []) [] log ∷ busyEnd ∷ []) s) (runList (put 3 1 [] (replicate 2109 9) [] log' ∷ busyEnd ∷ []) t)
+    → AllSame (runList (put 3 1 [] (7 ∷ []) [] log ∷ busyEnd ∷ []) s) (runList (put 3 1 [] (replicate 2000 9) [] log' ∷ busyEnd ∷ []) t)
 unfolding oversize isOver junkIn limitOf slotSize
 example log log' l s t h =
     two-runs-same-junk _ _ s t h (
       calls (asking Put 3 1) [] refl l refl,
-      (λ n g k. ap (λ (z : ℕ). ltb (8 * z - 3) 1) (page-size n g k) ∙ sym (ap (λ (z : ℕ). ltb (8 * z - 3) (length (replicate {A = ℕ} 2109 9))) (page-size n g k))),
+      both-fit,
       refl,
       (ends, (λ n g k. refl), refl, tt),
     )

@@ -6,6 +6,7 @@ use mathlib.Core.Path.{_≡_, refl, sym, ap, subst, _∙_}
 use mathlib.Core.Bool.{Bool, true, false, cond, not}
 use mathlib.Core.List.{List, [], _∷_}
 use mathlib.Core.Logic.{_⊎_, inl, inr}
+use native.Mathlib.Nat.{mul-lt-mul-of-pos-left}
 use native.Mathlib.Omega.{arith}
 use lib.ListN.{length, getD, take, drop, replicate}
 use lib.Dec.{eqb, leb, lit<, lit≤}
@@ -14,14 +15,15 @@ use Rattle.slices.specs.Lists.{tabulate}
 use Rattle.slices.proofs.Laws.{length-tabulate, getD-tabulate, tabulate-append, tabulate-same, tabulate-part}
 use Rattle.geometry.specs.declared.Geometry.{Geometry}
 use Rattle.geometry.specs.declared.Part.the-variants.{Known, Unknown}
-use Rattle.geometry.specs.Parts.{partOf, Sized, addressAt, pageAt, pageOf}
+use Rattle.geometry.specs.Parts.{partOf, registerRoom, Sized, addressAt, pageAt, pageOf}
 use Rattle.geometry.specs.Sectors.{sectorOf}
 use Rattle.geometry.proofs.Pages.{length-pageOf, sized}
 use Rattle.geometry.proofs.Addresses.{address-bytes, page-address}
 use Rattle.commands.specs.declared.Buffer.the-variants.{One}
 use Rattle.registers.specs.declared.Registers.{Registers}
 use Rattle.registers.specs.Fields.{withOperation}
-use Rattle.registers.specs.Protection.{bitsOf, hasBits, guarded, sealed}
+use Rattle.registers.specs.Protection.{registerOf, Roomed, bitsOf, hasBits, guarded, sealed}
+use Rattle.registers.proofs.Protection.{byte-of}
 use Rattle.control.specs.Control.{control, started, startedOn}
 use Rattle.control.specs.Starts.{Ready}
 use Rattle.memory.specs.Replies.{replied, onceData}
@@ -52,28 +54,18 @@ use Rattle.slots.specs.declared.Kind.{Kind}
 use Rattle.slots.specs.declared.Command.{Command}
 use Rattle.slots.specs.declared.Command.the-variants as C
 use Rattle.slots.specs.declared.Step.{Step}
-use Rattle.slots.specs.declared.Step.the-variants.{Wait, Read, Load, Send}
+use Rattle.slots.specs.declared.Step.the-variants.{Wait, Protection, Lockdown, Read, Load, Send}
 use Rattle.slots.specs.Driver.{Heard, Shape, Holding, opcodeOf, shapeOf, frameByte, loaded, frameOf, statusHeard, registerIn, ended, moved, marking, fewer, courseBy}
-use Rattle.slots.proofs.Blind.{status-heard}
+use Rattle.slots.proofs.Blind.{status-heard, filler, protection-form, lockdown-form}
 use Rattle.slots.proofs.Parts.{cases}
 
 -- ---- addresses
 
 -- a page of a known part is named by its address
 pub addressed-few : (n : ℕ) (g : Geometry) (page : ℕ) → partOf n ≡ Known g → page < g .pages → g .field * page < 16777216
-unfolding partOf
-addressed-few n g page = go (eqb n 1081344) (eqb n 33792)
-  where
-    of : ℕ → Geometry
-    of p = record { size = 264; pages = p; field = 512 }
-
-    few : (p : ℕ) → p ≤ 4096 → of p ≡ g → page < g .pages → g .field * page < 16777216
-    few p l e = subst (λ (z : Geometry). page < z .pages → z .field * page < 16777216) e (λ h. omega arith)
-
-    go : (b d : Bool) → cond b (Known (of 4096)) (cond d (Known (of 128)) Unknown) ≡ Known g → page < g .pages → g .field * page < 16777216
-    go true d e = few 4096 (lit≤ tt) cc
-    go false true e = few 128 (lit≤ tt) cc
-    go false false e = let z : _≡_ {A = ℕ} 0 1 = cc in absurd (omega arith)
+addressed-few n g page e l =
+    let z = sized n g e in
+    omega (arith, z .named, mul-lt-mul-of-pos-left {m = page} {n = g .pages} {k = g .field} l (z .addressed))
 
 -- ---- frames
 
@@ -145,12 +137,12 @@ operationOf C.Program p = O.Program One p
 operationOf C.Erase p = O.EraseBlock (p / 8)
 
 -- on an idle, awake chip it starts its operation, or is ignored where the sector is sealed
-abbrev pub Starts : Registers → ℕ → Command → Decision → Type 0
-Starts r p c d = (d ≡ started r (operationOf c p)) ⊎ ((d ≡ ignored r) × (sealed r (sectorOf p) ≡ true))
+abbrev pub Starts : Geometry → Registers → ℕ → Command → Decision → Type 0
+Starts g r p c d = (d ≡ started r (operationOf c p)) ⊎ ((d ≡ ignored r) × (sealed g r (sectorOf g p) ≡ true))
 
-starts-on : (r : Registers) (p : ℕ) (o : Operation) → (startedOn r p o ≡ started r o) ⊎ ((startedOn r p o ≡ ignored r) × (sealed r (sectorOf p) ≡ true))
+starts-on : (g : Geometry) (r : Registers) (p : ℕ) (o : Operation) → (startedOn g r p o ≡ started r o) ⊎ ((startedOn g r p o ≡ ignored r) × (sealed g r (sectorOf g p) ≡ true))
 unfolding startedOn
-starts-on r p o = go (sealed r (sectorOf p))
+starts-on g r p o = go (sealed g r (sectorOf g p))
   where
     go : (b : Bool) → (cond {A = Decision} b (ignored r) (started r o) ≡ started r o) ⊎ ((cond {A = Decision} b (ignored r) (started r o) ≡ ignored r) × (b ≡ true))
     go true = inr (refl, refl)
@@ -163,14 +155,14 @@ module _ (g : Geometry) (r : Registers) (k : Kind) (h : Holding) (p : ℕ) (y : 
   by-row : (f : List ℕ) (lead : ℕ) (e : Effect) → decodeOf f ≡ record { lead = lead; effect = e } → control g r f ≡ rowOf g r f lead e
   by-row f lead e d = ready-obeys g r f y ∙ ap (λ (x : Decoded). rowOf g r f (x .lead) (x .effect)) d
 
-  pub send-starts : (c : Command) → Starts r (named c) c (control g r (frameOf g k h (Send c p)))
+  pub send-starts : (c : Command) → Starts g r (named c) c (control g r (frameOf g k h (Send c p)))
   unfolding shapeOf opcodeOf frameByte tabulate operationOf rowDecided
   send-starts C.Program =
-      subst (λ (d : Decision). Starts r (named C.Program) C.Program d) (sym (by-row (frameOf g k h (Send C.Program p)) 4 (E.Program One) (decode-program _ _ _ [])))
-      (starts-on r (named C.Program) (O.Program One (named C.Program)))
+      subst (λ (d : Decision). Starts g r (named C.Program) C.Program d) (sym (by-row (frameOf g k h (Send C.Program p)) 4 (E.Program One) (decode-program _ _ _ [])))
+      (starts-on g r (named C.Program) (O.Program One (named C.Program)))
   send-starts C.Erase =
-      subst (λ (d : Decision). Starts r (named C.Erase) C.Erase d) (sym (by-row (frameOf g k h (Send C.Erase p)) 4 E.EraseBlock (decode-erase _ _ _ [])))
-      (starts-on r (named C.Erase) (O.EraseBlock (named C.Erase / 8)))
+      subst (λ (d : Decision). Starts g r (named C.Erase) C.Erase d) (sym (by-row (frameOf g k h (Send C.Erase p)) 4 E.EraseBlock (decode-erase _ _ _ [])))
+      (starts-on g r (named C.Erase) (O.EraseBlock (named C.Erase / 8)))
 
   -- the page is named by its address
   pub send-named : (n : ℕ) (c : Command) → partOf n ≡ Known g → Sized g n → p < g .pages → named c ≡ p
@@ -182,22 +174,22 @@ module _ (g : Geometry) (r : Registers) (k : Kind) (h : Holding) (p : ℕ) (y : 
   unfolding acted bufferWritten written
   send-memory m c = go (send-starts c)
     where
-      go : Starts r (named c) c (control g r (frameOf g k h (Send c p))) → sentMemory g r (frameOf g k h (Send c p)) m ≡ m
+      go : Starts g r (named c) c (control g r (frameOf g k h (Send c p))) → sentMemory g r (frameOf g k h (Send c p)) m ≡ m
       go (inl e) = sent-decided g r m (frameOf g k h (Send c p)) (started r (operationOf c (named c))) e
       go (inr e) = sent-decided g r m (frameOf g k h (Send c p)) (ignored r) (e .0)
 
   -- and once its busy end has come the registers are as they were
-  pub send-returns : (c : Command) → completed (control g r (frameOf g k h (Send c p)) .registers) ≡ r
+  pub send-returns : (c : Command) → completed g (control g r (frameOf g k h (Send c p)) .registers) ≡ r
   unfolding completed completedBy operationOf
   send-returns c = go (send-starts c)
     where
-      back : (c : Command) (q : ℕ) → completed (withOperation r (operationOf c q)) ≡ withOperation r O.Idle
+      back : (c : Command) (q : ℕ) → completed g (withOperation r (operationOf c q)) ≡ withOperation r O.Idle
       back C.Program q = refl
       back C.Erase q = refl
 
-      go : Starts r (named c) c (control g r (frameOf g k h (Send c p))) → completed (control g r (frameOf g k h (Send c p)) .registers) ≡ r
-      go (inl e) = ap (λ (d : Decision). completed (d .registers)) e ∙ back c (named c) ∙ λ i. withOperation r (sym (y .0) i)
-      go (inr e) = ap (λ (d : Decision). completed (d .registers)) (e .0) ∙ completed-idle r (y .0)
+      go : Starts g r (named c) c (control g r (frameOf g k h (Send c p))) → completed g (control g r (frameOf g k h (Send c p)) .registers) ≡ r
+      go (inl e) = ap (λ (d : Decision). completed g (d .registers)) e ∙ back c (named c) ∙ λ i. withOperation r (sym (y .0) i)
+      go (inr e) = ap (λ (d : Decision). completed g (d .registers)) (e .0) ∙ completed-idle g r (y .0)
 
 -- ---- waits
 
@@ -222,7 +214,7 @@ waits Q next limit c g r m eight nine again ready = deep (r .deep) refl
     deep : (b : Bool) → r .deep ≡ b → heard (pollHeard g r m)
     deep true e = subst (λ (l : List ℕ). heard (statusHeard (getD l 1 255))) (sym (reply-status-deep g r m (0 ∷ []) e)) eight
     deep false e =
-        subst heard (sym (ap statusHeard (status-byte g r m (0 ∷ []) 1 255 e (lit≤ tt) (lit< tt)) ∙ status-heard (isIdle (r .operation)) (m .compare) (guarded r)))
+        subst heard (sym (ap statusHeard (status-byte g r m (0 ∷ []) 1 255 e (lit≤ tt) (lit< tt)) ∙ status-heard g (isIdle (r .operation)) (m .compare) (guarded r)))
         (awake (isIdle (r .operation)) refl e)
 
 -- ---- 32 and 35
@@ -242,25 +234,35 @@ byte-free bytes told j f z e h = go (either-byte bytes j)
     go (inr q) = ap (λ (x : ℕ). not (eqb (f x) 0)) q ∙ ap (λ (x : ℕ). not (eqb x 0)) z
 
 -- a sector that the reply tells free is free
-bits-free : (bytes told : List ℕ) (s : ℕ) → s < 17 → ((j : ℕ) → j < 16 → getD told j 0 ≡ getD bytes j 255) → hasBits told s ≡ false → hasBits bytes s ≡ false
+bits-free : (g : Geometry) (bytes told : List ℕ) (s : ℕ) → s < registerRoom + 1 → Roomed g
+    → ((j : ℕ) → j < g .register → getD (registerOf g told) j 0 ≡ getD (registerOf g bytes) j 255) → hasBits g told s ≡ false → hasBits g bytes s ≡ false
 unfolding hasBits bitsOf
-bits-free bytes told zero l e h = byte-free bytes told 0 (λ x. x / 64) refl (e 0 (lit< tt)) h
-bits-free bytes told (suc zero) l e h = byte-free bytes told 0 (λ x. x / 16 % 4) refl (e 0 (lit< tt)) h
-bits-free bytes told (suc (suc j)) l e h = byte-free bytes told (suc j) (λ x. x) refl (e (suc j) (omega arith)) h
+bits-free g bytes told zero l r e h = byte-free (registerOf g bytes) (registerOf g told) 0 (λ x. x / 64) refl (e 0 (omega arith)) h
+bits-free g bytes told (suc zero) l r e h = byte-free (registerOf g bytes) (registerOf g told) 0 (λ x. x / 16 % 4) refl (e 0 (omega arith)) h
+bits-free g bytes told (suc (suc j)) l r e h = byte-free (registerOf g bytes) (registerOf g told) (suc j) (λ x. x) refl (e (suc j) (omega arith)) h
 
-register-free : (bytes reply : List ℕ) (s : ℕ) → s < 17 → reply ≡ replied 20 4 (onceData bytes) → hasBits (registerIn reply) s ≡ false → hasBits bytes s ≡ false
+register-free : (g : Geometry) (bytes reply : List ℕ) (s : ℕ) → s < registerRoom + 1 → Roomed g → (n : ℕ) → n ≡ 4 + g .register
+    → reply ≡ replied n 4 (onceData (registerOf g bytes)) → hasBits g (registerIn g reply) s ≡ false → hasBits g bytes s ≡ false
 unfolding registerIn
-register-free bytes reply s l e h =
-    bits-free bytes (tabulate 16 (λ j. getD reply (4 + j) 255)) s l
+register-free g bytes reply s l r n q e h =
+    let told = tabulate (g .register) (λ j. getD reply (4 + j) 255) in
+    bits-free g bytes told s l r
     (λ j k.
     let i : 4 + j - 4 ≡ j = omega arith in
-    getD-tabulate 16 (λ j. getD reply (4 + j) 255) j 0 k ∙ ap (λ (x : List ℕ). getD x (4 + j) 255) e
-    ∙ replied-data 20 4 (onceData bytes) (4 + j) 255 (omega arith) (omega arith) ∙ ap (λ (x : ℕ). getD bytes x 255) i)
+    byte-of g told j k ∙ getD-tabulate (g .register) (λ j. getD reply (4 + j) 255) j 0 k ∙ ap (λ (x : List ℕ). getD x (4 + j) 255) e
+    ∙ replied-data n 4 (onceData (registerOf g bytes)) (4 + j) 255 (omega arith) (omega arith) ∙ ap (λ (x : ℕ). getD (registerOf g bytes) x 255) i)
     h
 
-module _ (g : Geometry) (r : Registers) (m : Memory) (s : ℕ) (few : s < 17) (y : Ready r) where
-  pub protection-free : hasBits (registerIn (replyOf g r m (0x32 ∷ 0 ∷ 0 ∷ 0 ∷ replicate 16 0))) s ≡ false → hasBits (r .protection) s ≡ false
-  protection-free h = register-free (r .protection) (replyOf g r m (0x32 ∷ 0 ∷ 0 ∷ 0 ∷ replicate 16 0)) s few (reply-protection g r m 0 0 0 (replicate 16 0) y) h
+module _ (g : Geometry) (r : Registers) (m : Memory) (k : Kind) (d : Holding) (s : ℕ) (few : s < registerRoom + 1) (full : Roomed g) (y : Ready r) where
+  filled : (x : Step) → length (0 ∷ 0 ∷ 0 ∷ 0 ∷ filler g k d x) ≡ 4 + g .register
+  filled x = omega (arith, length-tabulate (g .register) (λ i. frameByte (shapeOf g x) (loaded g k d x) (4 + i)))
 
-  pub lockdown-free : hasBits (registerIn (replyOf g r m (0x35 ∷ 0 ∷ 0 ∷ 0 ∷ replicate 16 0))) s ≡ false → hasBits (r .lockdown) s ≡ false
-  lockdown-free h = register-free (r .lockdown) (replyOf g r m (0x35 ∷ 0 ∷ 0 ∷ 0 ∷ replicate 16 0)) s few (reply-lockdown g r m 0 0 0 (replicate 16 0) y) h
+  pub protection-free : hasBits g (registerIn g (replyOf g r m (frameOf g k d Protection))) s ≡ false → hasBits g (r .protection) s ≡ false
+  protection-free h =
+      register-free g (r .protection) (replyOf g r m (frameOf g k d Protection)) s few full _ (filled Protection)
+      (ap (replyOf g r m) (protection-form g k d) ∙ reply-protection g r m 0 0 0 (filler g k d Protection) y) h
+
+  pub lockdown-free : hasBits g (registerIn g (replyOf g r m (frameOf g k d Lockdown))) s ≡ false → hasBits g (r .lockdown) s ≡ false
+  lockdown-free h =
+      register-free g (r .lockdown) (replyOf g r m (frameOf g k d Lockdown)) s few full _ (filled Lockdown)
+      (ap (replyOf g r m) (lockdown-form g k d) ∙ reply-lockdown g r m 0 0 0 (filler g k d Lockdown) y) h

@@ -35,19 +35,19 @@ use Rattle.slots.proofs.Parts.{nextAt, next-at, cases}
 -- kept by whatever befalls a chip
 pub record Steady (Q : Registers → Memory → Type 0) : Type 0 where
   pub frames : (g : Geometry) (f : List ℕ) (r : Registers) (m : Memory) → Q r m → Q (control g r f .registers) (sentMemory g r f m)
-  pub ends : (g : Geometry) (r : Registers) (m : Memory) → Q r m → Q (completed r) (completedMemory g (r .operation) m)
-  pub cuts : (g : Geometry) (junk : List ℕ) (r : Registers) (m : Memory) → Q r m → Q (lost r (reaching g (r .operation) junk)) (lostMemory g (r .operation) junk m)
+  pub ends : (g : Geometry) (r : Registers) (m : Memory) → Q r m → Q (completed g r) (completedMemory g (r .operation) m)
+  pub cuts : (g : Geometry) (junk : List ℕ) (r : Registers) (m : Memory) → Q r m → Q (lost g r (reaching g (r .operation) junk)) (lostMemory g (r .operation) junk m)
   pub pins : (high : Bool) (r : Registers) (m : Memory) → Q r m → Q (withWp r high) m
 
 module _ (Q : Registers → Memory → Type 0) (w : Steady Q) where
   abbrev pub In : State → Type 0
   In s = Q (s .registers) (s .memory)
 
-  after-keeps : (g : Geometry) (b : ℕ) (r : Registers) (m : Memory) → Q r m → Q (registersAfter b r) (memoryAfter g b r m)
+  after-keeps : (g : Geometry) (b : ℕ) (r : Registers) (m : Memory) → Q r m → Q (registersAfter g b r) (memoryAfter g b r m)
   unfolding registersAfter memoryAfter
   after-keeps g b r m u = go (eqb b 0)
     where
-      go : (d : Bool) → Q (cond d (completed r) r) (cond d (completedMemory g (r .operation) m) m)
+      go : (d : Bool) → Q (cond d (completed g r) r) (cond d (completedMemory g (r .operation) m) m)
       go true = w .ends g r m u
       go false = u
 
@@ -72,7 +72,7 @@ module _ (Q : Registers → Memory → Type 0) (w : Steady Q) where
 
   pub ran-keeps : (g : Geometry) (v : Request) (x : Secret) (s : State) → In s → In (reached (ran g v x s))
   unfolding ran startOpen startClosed
-  ran-keeps g v x s u = run-keeps (bound g (v .asked)) g v (startOpen g (length (s .memory .array)) v (s .registers)) (startClosed g x (s .memory)) u
+  ran-keeps g v x s u = run-keeps (bound g (v .asked)) g v (startOpen g (length (s .memory .array)) v (s .registers)) (startClosed x (s .memory)) u
 
   cut-keeps : (g : Geometry) (junk : List ℕ) (s : State) → In s → In (cutState g junk s)
   unfolding cutState
@@ -169,13 +169,13 @@ whole-steady =
           };
       ends = λ g r m u.
           record {
-            registers = completed-lengths r (u .registers);
+            registers = completed-lengths g r (u .registers);
             buffer1 = completed-first-length g (r .operation) m ∙ u .buffer1;
             buffer2 = completed-second-length g (r .operation) m ∙ u .buffer2;
           };
       cuts = λ g junk r m u.
           record {
-            registers = lost-lengths r (reaching g (r .operation) junk) (u .registers);
+            registers = lost-lengths g r (reaching g (r .operation) junk) (u .registers);
             buffer1 = lost-first-length g (r .operation) junk m ∙ u .buffer1;
             buffer2 = lost-second-length g (r .operation) junk m ∙ u .buffer2;
           };

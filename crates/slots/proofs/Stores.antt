@@ -8,17 +8,17 @@ use mathlib.Core.Bool.{Bool, true, false, cond, _&&_, _||_}
 use mathlib.Core.List.{List, [], _∷_, _++_}
 use mathlib.Core.Logic.{_⊎_, inl, inr}
 use lib.ListN.{length, getD, take, replicate}
-use lib.Dec.{eqb, ltb, lit<}
+use lib.Dec.{eqb, lit<}
 use borrow.Author.Tests.{eqb-true, eqb-false}
 use Rattle.slices.specs.Lists.{tabulate}
 use Rattle.slices.proofs.Laws.{length-tabulate, tabulate-same, tabulate-const}
 use Rattle.geometry.specs.declared.Geometry.{Geometry}
 use Rattle.geometry.specs.declared.Part.the-variants.{Known}
-use Rattle.geometry.specs.Parts.{partOf, pageOf, run}
+use Rattle.geometry.specs.Parts.{partOf, registerRoom, Sized, pageOf, run}
 use Rattle.geometry.specs.Sectors.{sectorOf}
 use Rattle.geometry.proofs.Pages.{sized}
 use Rattle.geometry.proofs.Runs.{pages-run}
-use Rattle.geometry.proofs.Sectors.{block-sector}
+use Rattle.geometry.proofs.Sectors.{block-sector, sector-served}
 use Rattle.commands.specs.declared.Buffer.the-variants.{One}
 use Rattle.registers.specs.declared.Operation.{Operation}
 use Rattle.registers.specs.declared.Operation.the-variants as O
@@ -28,7 +28,6 @@ use Rattle.registers.specs.Protection.{hasBits, guarded, sealed}
 use Rattle.registers.proofs.Places.{placed-known}
 use Rattle.control.specs.Completion.{completed, completedBy}
 use Rattle.control.specs.Starts.{Ready}
-use Rattle.control.proofs.Frames.{protection-keeps, lockdown-keeps}
 use Rattle.memory.proofs.Pages.{erased-page}
 use Rattle.state.specs.declared.Answer.the-variants as Answers
 use Rattle.state.specs.Answers.{numberOf}
@@ -49,7 +48,7 @@ use Rattle.slots.specs.Driver.{Holding, shapeOf, frameByte, frameOf, sto
 use Rattle.slots.specs.Calls.{Request, Secret, Open, Closed, firstCourse, refusalOf, startOpen, startClosed, ran}
 use Rattle.slots.specs.Quiet.{pageIn}
 use Rattle.slots.proofs.Places.{never, known, restAt, rest-zero, rest-first}
-use Rattle.slots.proofs.Blind.{load-registers}
+use Rattle.slots.proofs.Blind.{load-registers, filler, protection-form, lockdown-form, protection-registers, lockdown-registers}
 use Rattle.slots.proofs.Bound.{begin-ok}
 use Rattle.slots.proofs.Sent.{read-keeps, read-memory, load-form, page-told, operationOf, protection-free, lockdown-free}
 use Rattle.slots.proofs.Steady.{Steady, array-steady, buffer-steady, both-steady}
@@ -57,10 +56,10 @@ use Rattle.slots.proofs.Track.{Facts, Next, Turned, idle-stays, stop, c
 
 -- ---- sealed or not
 
-free : (r : Registers) (s : ℕ) → hasBits (r .lockdown) s ≡ false → (hasBits (r .protection) s ≡ false) ⊎ (guarded r ≡ false) → sealed r s ≡ false
+free : (g : Geometry) (r : Registers) (s : ℕ) → hasBits g (r .lockdown) s ≡ false → (hasBits g (r .protection) s ≡ false) ⊎ (guarded r ≡ false) → sealed g r s ≡ false
 unfolding sealed
-free r s e (inl f) = λ i. e i || (f i && guarded r)
-free r s e (inr f) = (λ i. e i || (hasBits (r .protection) s && f i)) ∙ and-none (hasBits (r .protection) s)
+free g r s e (inl f) = λ i. e i || (f i && guarded r)
+free g r s e (inr f) = (λ i. e i || (hasBits g (r .protection) s && f i)) ∙ and-none (hasBits g (r .protection) s)
   where
     and-none : (b : Bool) → (b && false) ≡ false
     and-none true = refl
@@ -73,14 +72,10 @@ neither false true false e = (refl, inr refl)
 neither false false c e = (refl, inl refl)
 
 -- a slot's pages lie in its sector
-pub slot-inside : (g : Geometry) (slot : ℕ) → 8 * slot + 8 ≤ g .pages → (p : ℕ) → 8 * slot ≤ p → p < 8 * slot + 8 → (p < g .pages) × (sectorOf p ≡ sectorOf (8 * slot))
-slot-inside g slot h p l u =
+pub slot-inside : (g : Geometry) (slot : ℕ) → Sized g (g .pages * g .size) → 8 * slot + 8 ≤ g .pages → (p : ℕ) → 8 * slot ≤ p → p < 8 * slot + 8 → (p < g .pages) × (sectorOf g p ≡ sectorOf g (8 * slot))
+slot-inside g slot z h p l u =
     let e : 8 * slot + (p - 8 * slot) ≡ p = omega arith in
-    (omega arith, subst (λ (q : ℕ). sectorOf q ≡ sectorOf (8 * slot)) e (block-sector slot (p - 8 * slot) (omega arith)))
-
-pub slot-sector : (g : Geometry) (slot : ℕ) → g .pages ≤ 4096 → 8 * slot + 8 ≤ g .pages → sectorOf (8 * slot) < 17
-unfolding sectorOf
-slot-sector g slot h l = known (λ (s : ℕ). s < 17) (ltb (8 * slot) 8) (λ _. lit< tt) (λ _. omega arith)
+    (omega arith, subst (λ (q : ℕ). sectorOf g q ≡ sectorOf g (8 * slot)) e (block-sector g (z .wide) slot (p - 8 * slot) (z .parted) (omega arith)))
 
 -- ---- what is written
 
@@ -101,7 +96,7 @@ pub record Writer (g : Geometry) (K : Kind) (slot : ℕ) : Type 1 where
   pub Opens : Registers → Memory → Type 0
   pub Fresh : ℕ → Holding → Type 0
   pub Filled : ℕ → Holding → Type 0
-  pub ends : (r : Registers) (m : Memory) → Opens r m → Opens (completed r) (completedMemory g (r .operation) m)
+  pub ends : (r : Registers) (m : Memory) → Opens r m → Opens (completed g r) (completedMemory g (r .operation) m)
   pub rests : (r : Registers) (m : Memory) → Ready r → Opens r m → (p : ℕ) → 8 * slot ≤ p → p < 8 * slot + 8 → Was p (pageOf g p (m .array))
   pub reads : Loads → (p : ℕ) (h : Holding) (page : List ℕ) → 8 * slot ≤ p → p < 8 * slot + 8 → Was p page → Fresh p h → Filled p (readIn g K p h page)
   pub loads : Loads → (p : ℕ) (h : Holding) → 8 * slot ≤ p → p < 8 * slot + 8 → Filled p h → (i : ℕ) → i < g .size → storedBy K h (g .size * (p % 8) + i) ≡ bytes (g .size * (p % 8) + i)
@@ -117,7 +112,7 @@ pub data Know : Type 0 where
   wrote : (p : ℕ) → Know
   erased : Know
 
-module _ (g : Geometry) (K : Kind) (slot : ℕ) (W : Writer g K slot) (fits : 8 * slot + 8 ≤ g .pages) (few : sectorOf (8 * slot) < 17) where
+module _ (g : Geometry) (K : Kind) (slot : ℕ) (W : Writer g K slot) (fits : 8 * slot + 8 ≤ g .pages) (few : Sized g (g .pages * g .size)) where
   abbrev first : ℕ
   first = 8 * slot
 
@@ -125,7 +120,10 @@ module _ (g : Geometry) (K : Kind) (slot : ℕ) (W : Writer g K slot) (fits : 8 
   end = 8 * slot + 8
 
   abbrev S : ℕ
-  S = sectorOf (8 * slot)
+  S = sectorOf g (8 * slot)
+
+  served : S < registerRoom + 1
+  served = sector-served g (g .pages * g .size) (8 * slot) few (omega arith)
 
   abbrev In : ℕ → Type 0
   In p = (first ≤ p) × (p < end)
@@ -153,7 +151,7 @@ module _ (g : Geometry) (K : Kind) (slot : ℕ) (W : Writer g K slot) (fits : 8 
   Left n m = (q : ℕ) → n ≤ q → q < end → W .Was q (pageOf g q (m .array))
 
   abbrev Unsealed : Registers → Type 0
-  Unsealed r = sealed r S ≡ false
+  Unsealed r = sealed g r S ≡ false
 
   abbrev Loaded : ℕ → Memory → Type 0
   Loaded p m = take (g .size) (m .buffer1) ≡ pageIn g (W .bytes) p
@@ -161,7 +159,7 @@ module _ (g : Geometry) (K : Kind) (slot : ℕ) (W : Writer g K slot) (fits : 8 
   abbrev Holds : Know → Bool → Bool → Registers → Memory → Holding → Type 0
   Holds cold l d r m h = W .Opens r m × W .Fresh first h
   Holds opened l d r m h = Ready r × (d ≡ guarded r) × Left first m × W .Fresh first h
-  Holds asked l d r m h = Ready r × (d ≡ guarded r) × (l ≡ false → hasBits (r .protection) S ≡ false) × Left first m × W .Fresh first h
+  Holds asked l d r m h = Ready r × (d ≡ guarded r) × (l ≡ false → hasBits g (r .protection) S ≡ false) × Left first m × W .Fresh first h
   Holds (fresh p) l d r m h = Ready r × Unsealed r × Stored p m × Left p m × W .Fresh p h
   Holds (filled p) l d r m h = Ready r × Unsealed r × Stored p m × Left p m × W .Filled p h
   Holds (buffered p) l d r m h = Ready r × Unsealed r × Stored p m × Left p m × W .Fresh (suc p) h × Loaded p m
@@ -189,17 +187,17 @@ module _ (g : Geometry) (K : Kind) (slot : ℕ) (W : Writer g K slot) (fits : 8 
         go : (x : Bool) → eqb q p ≡ x → pageOf g q (done .array) ≡ pageIn g (W .bytes) q
         go true e =
             subst (λ (n : ℕ). pageOf g n (done .array) ≡ pageIn g (W .bytes) n) (sym (eqb-true q p e))
-            (program-page g One p m (sized (length (m .array)) g (b .0)) (slot-inside g slot fits p (i .0) (i .1) .0) (b .1) ∙ f)
+            (program-page g One p m (sized (length (m .array)) g (b .0)) (slot-inside g slot few fits p (i .0) (i .1) .0) (b .1) ∙ f)
         go false e = let x = eqb-false q p e in program-other g One p m q x ∙ s q l (omega (arith, x))
 
   blank-stored : (m : Memory) → Room g m → ((i : ℕ) → W .bytes i ≡ 255) → Stored end (completedMemory g (O.EraseBlock slot) m)
   blank-stored m b f q l u =
       ap (pageOf g q) (erase-block-array g slot m)
-      ∙ erased-page g (run (8 * slot) 8) (m .array) q (sized (length (m .array)) g (b .0)) (slot-inside g slot fits q l u .0) (pages-run (run (8 * slot) 8) q l u)
+      ∙ erased-page g (run (8 * slot) 8) (m .array) q (sized (length (m .array)) g (b .0)) (slot-inside g slot few fits q l u .0) (pages-run (run (8 * slot) 8) q l u)
       ∙ sym (tabulate-const (g .size) 255)
       ∙ sym (tabulate-same (g .size) (λ i. W .bytes (g .size * (q % 8) + i)) (λ _. 255) (λ i _. f (g .size * (q % 8) + i)))
 
-  stays : (k : Know) (l d : Bool) (r : Registers) (m : Memory) (h : Holding) → Room g m → Holds k l d r m h → Holds k l d (completed r) (completedMemory g (r .operation) m) h
+  stays : (k : Know) (l d : Bool) (r : Registers) (m : Memory) (h : Holding) → Room g m → Holds k l d r m h → Holds k l d (completed g r) (completedMemory g (r .operation) m) h
   unfolding completed completedBy sealed
   stays cold l d r m h b u = (W .ends r m (u .0), u .1)
   stays opened l d r m h b u = idle-stays g r m (λ t n. Holds opened l d t n h) (u .0 .0) u
@@ -209,11 +207,11 @@ module _ (g : Geometry) (K : Kind) (slot : ℕ) (W : Writer g K slot) (fits : 8 
   stays (buffered p) l d r m h b u = idle-stays g r m (λ t n. Holds (buffered p) l d t n h) (u .0 .0) u
   stays (wrote p) l d r m h b (i, a, s, w, f, inl e) = idle-stays g r m (λ t n. Holds (wrote p) l d t n h) (e .0) (i, a, s, w, f, inl e)
   stays (wrote p) l d r m h b (i, a, s, w, f, inr e) =
-      subst (λ (x : Operation). Holds (wrote p) l d (withOperation (completedBy x r) O.Idle) (completedMemory g x m) h) (sym (e .0))
+      subst (λ (x : Operation). Holds (wrote p) l d (withOperation (completedBy g x r) O.Idle) (completedMemory g x m) h) (sym (e .0))
       (i, a, s, done-left p m i b w, f, inl (refl, done-stored p m i b (e .1) (e .2)))
   stays erased l d r m h b (a, s, f, inl e) = idle-stays g r m (λ t n. Holds erased l d t n h) (e .0) (a, s, f, inl e)
   stays erased l d r m h b (a, s, f, inr e) =
-      subst (λ (x : Operation). Holds erased l d (withOperation (completedBy x r) O.Idle) (completedMemory g x m) h) (sym (e .0))
+      subst (λ (x : Operation). Holds erased l d (withOperation (completedBy g x r) O.Idle) (completedMemory g x m) h) (sym (e .0))
       (a, s, f, inl (refl, blank-stored m b (e .1)))
 
   -- ---- one step
@@ -263,13 +261,13 @@ module _ (g : Geometry) (K : Kind) (slot : ℕ) (W : Writer g K slot) (fits : 8 
     ended-erase (inr e) y = let z : O.EraseBlock slot ≡ O.Idle = sym (e .0) ∙ y .0 in never (λ i. isIdle (z i))
 
     -- the sector that the replies tell open
-    open-told : (l d : Bool) → Ready r → d ≡ guarded r → (l ≡ false → hasBits (r .protection) S ≡ false) → (hasBits (registerIn (replied Lockdown)) S || (l && d)) ≡ false → sealed r S ≡ false
+    open-told : (l d : Bool) → Ready r → d ≡ guarded r → (l ≡ false → hasBits g (r .protection) S ≡ false) → (hasBits g (registerIn g (replied Lockdown)) S || (l && d)) ≡ false → sealed g r S ≡ false
     unfolding shapeOf frameByte tabulate
     open-told l d y e f z =
-        let n = neither (hasBits (registerIn (replied Lockdown)) S) l d z in
-        free r S (lockdown-free g r m S few y (n .0)) (either (n .1))
+        let n = neither (hasBits g (registerIn g (replied Lockdown)) S) l d z in
+        free g r S (lockdown-free g r m K h S served (few .short) y (n .0)) (either (n .1))
       where
-        either : (l ≡ false) ⊎ (d ≡ false) → (hasBits (r .protection) S ≡ false) ⊎ (guarded r ≡ false)
+        either : (l ≡ false) ⊎ (d ≡ false) → (hasBits g (r .protection) S ≡ false) ⊎ (guarded r ≡ false)
         either (inl z) = inl (f z)
         either (inr z) = inr (sym e ∙ z)
 
@@ -277,27 +275,27 @@ module _ (g : Geometry) (K : Kind) (slot : ℕ) (W : Writer g K slot) (fits : 8 
     unfolding shapeOf frameByte tabulate heard courseBy takenBy operationOf isEnd numberOf sealed
     turned some e (opens l) v = wait-next facts g K S limit plan c r m h cold opened live e (opens l) v l (λ y. (y, refl, W .rests r m y (v .0), v .1))
     turned some e (lists l) v =
-        carry facts g K S limit plan c r m h Protection (moved next limit (noted (hasBits (registerIn (replied Protection)) S) c)) h (protection-keeps g r 0 0 0 (replicate 16 0)) (protection-memory g r m 0 0 0 (replicate 16 0))
-        (λ _. (asked, (v .0, v .1, protection-free g r m S few (v .0), v .2, v .3), l))
+        carry facts g K S limit plan c r m h Protection (moved next limit (noted (hasBits g (registerIn g (replied Protection)) S) c)) h (protection-registers g r K h) (ap (λ (f : List ℕ). sentMemory g r f m) (protection-form g K h) ∙ protection-memory g r m 0 0 0 (filler g K h Protection))
+        (λ _. (asked, (v .0, v .1, protection-free g r m K h S served (few .short) (v .0), v .2, v .3), l))
     turned some e (frees l) v =
-        carry facts g K S limit plan c r m h Lockdown (courseBy Lockdown next limit c (heard Lockdown S (replied Lockdown))) h (lockdown-keeps g r 0 0 0 (replicate 16 0)) (lockdown-memory g r m 0 0 0 (replicate 16 0))
-        (known (λ d. Next facts plan d r m h) (hasBits (registerIn (replied Lockdown)) S || (c .listed && c .guarded)) (λ _. stop facts g K S limit plan c r m h Answers.Sealed r m h (lit< tt))
+        carry facts g K S limit plan c r m h Lockdown (courseBy Lockdown next limit c (heard g Lockdown S (replied Lockdown))) h (lockdown-registers g r K h) (ap (λ (f : List ℕ). sentMemory g r f m) (lockdown-form g K h) ∙ lockdown-memory g r m 0 0 0 (filler g K h Lockdown))
+        (known (λ d. Next facts plan d r m h) (hasBits g (registerIn g (replied Lockdown)) S || (c .listed && c .guarded)) (λ _. stop facts g K S limit plan c r m h Answers.Sealed r m h (lit< tt))
         (λ z _. (fresh first, (v .0, open-told (c .listed) (c .guarded) (v .0) (v .1) (v .2) z, (λ q a u. absurd (omega arith)), v .3, v .4), l)))
     turned some e (reads {p} o i l) v =
         let page = tabulate (g .size) (λ j. getD (replied (Read p)) (8 + j) 255) in
-        let told = page-told g r m K h p (v .0) (b .0) (slot-inside g slot fits p (i .0) (i .1) .0) in
+        let told = page-told g r m K h p (v .0) (b .0) (slot-inside g slot few fits p (i .0) (i .1) .0) in
         let f : W .Filled p (readIn g K p h page) = W .reads o p h page (i .0) (i .1) (subst (W .Was p) (sym told) (v .3 p (omega arith) (i .1))) (v .4) in
         carry facts g K S limit plan c r m h (Read p) (moved next limit c) (readIn g K p h page) (read-keeps g r K h p) (read-memory g r m K h p) (λ _. (filled p, (v .0, v .1, v .2, v .3, f), l))
     turned some e (loads {p} o i l) v = load-next o p i (v .0) (v .1) (v .2) (v .3) (v .4) l
     turned some e (puts {p} o i f l) v = load-next o p i (v .0) (v .1) (v .2) (v .3) (f h (v .4)) l
     turned some e (programs {p} i l) v =
-        let n = slot-inside g slot fits p (i .0) (i .1) in
-        sent-next facts g K S limit plan c r m h C.Program p (wrote p) (b .0) (v .0) (n .0) (ap (sealed r) (n .1) ∙ v .1)
+        let n = slot-inside g slot few fits p (i .0) (i .1) in
+        sent-next facts g K S limit plan c r m h C.Program p (wrote p) (b .0) (v .0) (n .0) (ap (sealed g r) (n .1) ∙ v .1)
         (i, v .0 .1, v .1, (λ q a u. v .3 q (omega arith) u), v .4, inr (refl, v .2, v .5)) l
     turned some e (waited {p} l) v =
         wait-next facts g K S limit plan c r m h (wrote p) (fresh (suc p)) live e (waited l) v l (λ y. (y, v .2, ended-program p (v .5) y, v .3, v .4))
     turned some e (erases f w l) v =
-        let n = slot-inside g slot fits (8 * slot) (omega arith) (omega arith) in
+        let n = slot-inside g slot few fits (8 * slot) (omega arith) (omega arith) in
         let k : 8 * slot / 8 ≡ slot = omega arith in
         sent-next facts g K S limit plan c r m h C.Erase (8 * slot) erased (b .0) (v .0) (n .0) (v .1)
         (v .0 .1, v .1, w h (v .4), inr (ap (λ (x : ℕ). O.EraseBlock x) k, f)) l
@@ -341,9 +339,9 @@ pub record Wrote (g : Geometry) (K : Kind) (slot : ℕ) (W : Writer g K slot) (z
 module _ (g : Geometry) (v : Request) (W : Writer g (v .asked .kind) (v .asked .slot)) where
   pub call-stores : (x : Secret) (s : State) → partIn s ≡ Known g → g .size ≤ length (s .memory .buffer1)
       → eqb (numberOf (refusalOf g (length (s .memory .array)) v)) 0 ≡ true
-      → (fits : 8 * v .asked .slot + 8 ≤ g .pages) (few : sectorOf (8 * v .asked .slot) < 17)
+      → (fits : 8 * v .asked .slot + 8 ≤ g .pages) (few : Sized g (g .pages * g .size))
       → Lawful g (v .asked .kind) (v .asked .slot) W fits few cold (planOf g (v .asked))
-      → W .Opens (s .registers) (s .memory) → W .Fresh (8 * v .asked .slot) (startClosed g x (s .memory) .holding)
+      → W .Opens (s .registers) (s .memory) → W .Fresh (8 * v .asked .slot) (startClosed x (s .memory) .holding)
       → ran g v x s .0 .course .stage ≡ Ended Answers.Done → Wrote g (v .asked .kind) (v .asked .slot) W (ran g v x s)
   unfolding ran startOpen startClosed firstCourse isEnded
   call-stores x s p b e fits few law o f stage =
@@ -352,7 +350,7 @@ module _ (g : Geometry) (v : Request) (W : Writer g (v .asked .kind) (v .asked .
       let F = facts g (v .asked .kind) (v .asked .slot) W fits few in
       let t = run-tracked F g v (stays g (v .asked .kind) (v .asked .slot) W fits few)
       (λ c r m h b live x k some z l u. turned g (v .asked .kind) (v .asked .slot) W fits few (v .asked .limit) (planOf g (v .asked)) c r m h b live {x = x} {k = k} some z l u)
-      (bound g (v .asked)) (startOpen g n v (s .registers)) (startClosed g x (s .memory)) (begin-ok g n v e)
+      (bound g (v .asked)) (startOpen g n v (s .registers)) (startClosed x (s .memory)) (begin-ok g n v e)
       (record {
         room = (part, b);
         here = λ _. (cold, (o, f), subst (Lawful g (v .asked .kind) (v .asked .slot) W fits few cold) (sym (rest-zero (planOf g (v .asked)))) law);

@@ -64,8 +64,8 @@ abbrev pub Next : Facts → List Step → Course → Registers → Memory → Ho
 Next T plan d t n h = Alive (d .stage) → (k : T .Know) × T .Holds k (d .listed) (d .guarded) t n h × T .Lawful k (restAt plan (d .place))
 
 -- a busy end of an idle chip changes nothing
-pub idle-stays : (g : Geometry) (r : Registers) (m : Memory) (G : Registers → Memory → Type 0) → r .operation ≡ O.Idle → G r m → G (completed r) (completedMemory g (r .operation) m)
-idle-stays g r m G e u = subst (λ (t : Registers). G t (completedMemory g (r .operation) m)) (sym (completed-idle r e)) (subst (G r) (sym (idle-memory g (r .operation) m e)) u)
+pub idle-stays : (g : Geometry) (r : Registers) (m : Memory) (G : Registers → Memory → Type 0) → r .operation ≡ O.Idle → G r m → G (completed g r) (completedMemory g (r .operation) m)
+idle-stays g r m G e u = subst (λ (t : Registers). G t (completedMemory g (r .operation) m)) (sym (completed-idle g r e)) (subst (G r) (sym (idle-memory g (r .operation) m e)) u)
 
 -- ---- one step
 
@@ -80,7 +80,7 @@ module _ (T : Facts) (g : Geometry) (K : Kind) (S limit : ℕ) (plan : List Step
   replied x = replyOf g r m (frameOf g K h x)
 
   abbrev pub after : Step → Course
-  after x = courseBy x next limit c (heard x S (replied x))
+  after x = courseBy x next limit c (heard g x S (replied x))
 
   -- what is known after the step's frame
   abbrev pub Turned : Step → Type 0
@@ -107,18 +107,18 @@ module _ (T : Facts) (g : Geometry) (K : Kind) (S limit : ℕ) (plan : List Step
       (λ _. (k, u, subst (T .Lawful k) (sym e) l)) (λ y _. (k', u' y, l')))
 
   -- a frame that starts its operation
-  pub starting : (o : Command) (p : ℕ) → partOf (length (m .array)) ≡ Known g → Ready r → p < g .pages → sealed r (sectorOf p) ≡ false
+  pub starting : (o : Command) (p : ℕ) → partOf (length (m .array)) ≡ Known g → Ready r → p < g .pages → sealed g r (sectorOf g p) ≡ false
       → control g r (frameOf g K h (Send o p)) ≡ started r (operationOf o p)
   starting o p b y l s =
       let e = send-named g r K h p y (length (m .array)) o b (sized (length (m .array)) g b) l in
-      go (subst (λ (q : ℕ). (control g r (frameOf g K h (Send o p)) ≡ started r (operationOf o q)) ⊎ ((control g r (frameOf g K h (Send o p)) ≡ ignored r) × (sealed r (sectorOf q) ≡ true))) e (send-starts g r K h p y o))
+      go (subst (λ (q : ℕ). (control g r (frameOf g K h (Send o p)) ≡ started r (operationOf o q)) ⊎ ((control g r (frameOf g K h (Send o p)) ≡ ignored r) × (sealed g r (sectorOf g q) ≡ true))) e (send-starts g r K h p y o))
     where
-      go : ((control g r (frameOf g K h (Send o p)) ≡ started r (operationOf o p)) ⊎ ((control g r (frameOf g K h (Send o p)) ≡ ignored r) × (sealed r (sectorOf p) ≡ true)))
+      go : ((control g r (frameOf g K h (Send o p)) ≡ started r (operationOf o p)) ⊎ ((control g r (frameOf g K h (Send o p)) ≡ ignored r) × (sealed g r (sectorOf g p) ≡ true)))
           → control g r (frameOf g K h (Send o p)) ≡ started r (operationOf o p)
       go (inl z) = z
       go (inr z) = never (sym s ∙ z .1)
 
-  pub sent-next : (o : Command) (p : ℕ) (k : T .Know) → partOf (length (m .array)) ≡ Known g → Ready r → p < g .pages → sealed r (sectorOf p) ≡ false
+  pub sent-next : (o : Command) (p : ℕ) (k : T .Know) → partOf (length (m .array)) ≡ Known g → Ready r → p < g .pages → sealed g r (sectorOf g p) ≡ false
       → T .Holds k (c .listed) (c .guarded) (withOperation r (operationOf o p)) m h → T .Lawful k rest → Turned (Send o p)
   unfolding takenBy courseBy
   sent-next o p k b y l s u w = λ _. (
@@ -132,7 +132,7 @@ module _ (T : Facts) (g : Geometry) (K : Kind) (S limit : ℕ) (plan : List Step
 
 module _ (T : Facts) (g : Geometry) (v : Request) where
   abbrev S₀ : ℕ
-  S₀ = sectorFor (v .asked)
+  S₀ = sectorFor g (v .asked)
 
   abbrev plan₀ : List Step
   plan₀ = planOf g (v .asked)
@@ -146,7 +146,7 @@ module _ (T : Facts) (g : Geometry) (v : Request) where
   -- what a busy end keeps, and how a step goes on
   abbrev pub Stays : Type 0
   Stays = (k : T .Know) (l d : Bool) (r : Registers) (m : Memory) (h : Holding) → T .Room m → T .Holds k l d r m h
-      → T .Holds k l d (completed r) (completedMemory g (r .operation) m) h
+      → T .Holds k l d (completed g r) (completedMemory g (r .operation) m) h
 
   abbrev pub Turns : Type 0
   Turns = (c : Course) (r : Registers) (m : Memory) (h : Holding) → T .Room m → isEnded (c .stage) ≡ false → (x : Step) (k : T .Know) → isEnd x ≡ false
@@ -171,7 +171,7 @@ module _ (T : Facts) (g : Geometry) (v : Request) where
         on : Course
         on =
             courseBy (stepOf g (v .asked) (p .course)) (stepAt plan₀ (suc (p .course .place))) (v .asked .limit) (p .course)
-            (heard (stepOf g (v .asked) (p .course)) S₀ (replies g v p q))
+            (heard g (stepOf g (v .asked) (p .course)) S₀ (replies g v p q))
 
         held : Holding
         held = takenBy (stepOf g (v .asked) (p .course)) g (v .asked .kind) (q .holding) (replies g v p q)
@@ -185,7 +185,7 @@ module _ (T : Facts) (g : Geometry) (v : Request) where
         turn : Turned T g (v .asked .kind) S₀ (v .asked .limit) plan₀ (p .course) (p .registers) (q .memory) (q .holding) (stepOf g (v .asked) (p .course))
         turn = turns (p .course) (p .registers) (q .memory) (q .holding) (u .room) e (stepOf g (v .asked) (p .course)) (known .0) some next-rest (subst (T .Lawful (known .0)) next-rest (known .2)) (known .1)
 
-        go : (b d : Bool) → Next T plan₀ (cond b (ended Answers.Cut (p .course)) on) (cond d (completed (leaves g v p q)) (leaves g v p q))
+        go : (b d : Bool) → Next T plan₀ (cond b (ended Answers.Cut (p .course)) on) (cond d (completed g (leaves g v p q)) (leaves g v p q))
             (cond d (completedMemory g (leaves g v p q .operation) (sentMemory g (p .registers) (sends g v p q) (q .memory))) (sentMemory g (p .registers) (sends g v p q) (q .memory))) held
         go true d = stop T g (v .asked .kind) S₀ (v .asked .limit) plan₀ (p .course) (p .registers) (q .memory) (q .holding) Answers.Cut _ _ held (lit< tt)
         go false true = λ z.
@@ -203,7 +203,7 @@ module _ (T : Facts) (g : Geometry) (v : Request) where
 
         at-end : (b : Bool) → Over plan₀ (cond b (ended Answers.Cut (p .course)) on)
         at-end true = λ z. not-done Answers.Cut (lit< tt) z
-        at-end false = course-over plan₀ (v .asked .limit) (p .course) (heard (stepOf g (v .asked) (p .course)) S₀ (replies g v p q)) some e
+        at-end false = course-over plan₀ (v .asked .limit) (p .course) (heard g (stepOf g (v .asked) (p .course)) S₀ (replies g v p q)) some e
 
     pub run-tracked : (n : ℕ) (p : Open) (q : Closed) → Ok plan₀ (v .asked .limit) n (p .course) → Tracked p q → Tracked (run n g v p q .0) (run n g v p q .1)
     unfolding run

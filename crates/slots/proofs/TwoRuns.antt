@@ -67,8 +67,8 @@ answer-agree (Ended n) v w = weighed-agree n v w
 pub ran-blind : (g : Geometry) {v w : Request} (e : v ≡ w) (x y : Secret) (s t : State) → Twins s t → ran g v x s .0 ≡ ran g w y t .0
 unfolding ran
 ran-blind g {v} {w} e x y s t h =
-    run-blind (bound g (v .asked)) g v (startOpen g (length (s .memory .array)) v (s .registers)) (startClosed g x (s .memory)) (startClosed g y (t .memory))
-    ∙ λ i. run (bound g (e i .asked)) g (e i) (startOpen g (h .size i) (e i) (h .registers i)) (startClosed g y (t .memory)) .0
+    run-blind (bound g (v .asked)) g v (startOpen g (length (s .memory .array)) v (s .registers)) (startClosed x (s .memory)) (startClosed y (t .memory))
+    ∙ λ i. run (bound g (e i .asked)) g (e i) (startOpen g (h .size i) (e i) (h .registers i)) (startClosed y (t .memory)) .0
 
 call-same : (g : Geometry) {v w : Request} (e : v ≡ w) (x y : Secret) (s t : State) → Twins s t → Same (callOut g v x s) (callOut g w y t)
 unfolding callOut outFrom
@@ -85,7 +85,7 @@ call-same g {v} {w} e x y s t h =
 
 -- the registers after a run that may end in a cut
 cut-registers : (b : Bool) (g : Geometry) (junk : List ℕ) (s : State)
-    → (cond b (cutState g junk s) s) .registers ≡ cond b (lost (s .registers) (cond b (reaching g (s .registers .operation) junk) [])) (s .registers)
+    → (cond b (cutState g junk s) s) .registers ≡ cond b (lost g (s .registers) (cond b (reaching g (s .registers .operation) junk) [])) (s .registers)
 unfolding cutState
 cut-registers true g junk s = refl
 cut-registers false g junk s = refl
@@ -96,7 +96,7 @@ unfolding callNext callJunk
 call-registers g {v} {w} e x y s t h j =
     let b : ran g v x s .0 ≡ ran g w y t .0 = ran-blind g e x y s t h in
     cut-registers (ran g v x s .0 .cut) g (x .junk) (reached (ran g v x s))
-    ∙ (λ i. cond (b i .cut) (lost (b i .registers) (j i)) (b i .registers))
+    ∙ (λ i. cond (b i .cut) (lost g (b i .registers) (j i)) (b i .registers))
     ∙ sym (cut-registers (ran g w y t .0 .cut) g (y .junk) (reached (ran g w y t)))
 
 -- ---- raw
@@ -124,7 +124,7 @@ module _ (g : Geometry) (f script j k l m a b : List ℕ) (s t : State) (ej : le
 -- the registers after a raw frame: by whether it is sent, its script byte and the junk that reaches a register
 raw-registers : (b c : Bool) (g : Geometry) (n : ℕ) (f junk : List ℕ) (s : State)
     → (cond b (cond c (cutState g junk (sentState g f s)) (stateAfter g n (sentState g f s))) s) .registers
-    ≡ cond b (cond c (lost (control g (s .registers) f .registers) (cond (b && c) (reaching g (control g (s .registers) f .registers .operation) junk) [])) (registersAfter n (control g (s .registers) f .registers))) (s .registers)
+    ≡ cond b (cond c (lost g (control g (s .registers) f .registers) (cond (b && c) (reaching g (control g (s .registers) f .registers .operation) junk) [])) (registersAfter g n (control g (s .registers) f .registers))) (s .registers)
 unfolding cutState sentState stateAfter registersAfter
 raw-registers true true g n f junk s = refl
 raw-registers true false g n f junk s = refl
@@ -184,23 +184,23 @@ module _ (s t : State) (h : Twins s t) where
   registers-same (Known g) (raws frame script {j} {k} {l} {m} {a} {b} ej el ea) e z =
       let r = raw-refusal g frame script j k l m a b s t ej el ea h in
       raw-registers (eqb (numberOf (rawRefusal g (length (s .memory .array)) frame (length a) (length l) script (length j))) 0) (eqb (scripted script 0) 2) g (scripted script 0) frame j s
-      ∙ (λ i. cond (eqb (numberOf (r i)) 0) (cond (eqb (scripted script 0) 2) (lost (control g (h .registers i) frame .registers) (z i)) (registersAfter (scripted script 0) (control g (h .registers i) frame .registers))) (h .registers i))
+      ∙ (λ i. cond (eqb (numberOf (r i)) 0) (cond (eqb (scripted script 0) 2) (lost g (control g (h .registers i) frame .registers) (z i)) (registersAfter g (scripted script 0) (control g (h .registers i) frame .registers))) (h .registers i))
       ∙ sym (raw-registers (eqb (numberOf (rawRefusal g (length (t .memory .array)) frame (length b) (length m) script (length k))) 0) (eqb (scripted script 0) 2) g (scripted script 0) frame k t)
   registers-same (Known g) (straights frame {a} {b} ea) e z =
       pick-state (framed (length frame) (length a)) _ _
       ∙ (λ i. cond (framed (length frame) (ea i)) (control g (h .registers i) frame .registers) (h .registers i))
       ∙ sym (pick-state (framed (length frame) (length b)) _ _)
   registers-same (Known g) (pins high) e z = λ i. withWp (h .registers i) high
-  registers-same (Known g) ends e z = λ i. completed (h .registers i)
+  registers-same (Known g) ends e z = λ i. completed g (h .registers i)
   registers-same (Known g) (cuts {j} {k} ej) e z =
       pick-state (cutFits g (length (s .memory .array)) (length j)) _ _
       ∙ cut-kept (cutFits g (length (s .memory .array)) (length j)) (s .registers) (reaching g (s .registers .operation) j)
-      ∙ (λ i. cond (cutFits g (h .size i) (ej i)) (lost (h .registers i) (z i)) (h .registers i))
+      ∙ (λ i. cond (cutFits g (h .size i) (ej i)) (lost g (h .registers i) (z i)) (h .registers i))
       ∙ sym (cut-kept (cutFits g (length (t .memory .array)) (length k)) (t .registers) (reaching g (t .registers .operation) k))
       ∙ sym (pick-state (cutFits g (length (t .memory .array)) (length k)) _ _)
     where
       -- only a cut that is not refused takes junk
-      cut-kept : (b : Bool) (r : Registers) (w : List ℕ) → cond b (lost r w) r ≡ cond b (lost r (cond b w [])) r
+      cut-kept : (b : Bool) (r : Registers) (w : List ℕ) → cond b (lost g r w) r ≡ cond b (lost g r (cond b w [])) r
       cut-kept true r w = refl
       cut-kept false r w = refl
   registers-same Unknown (calls a script ej el ex) e z = h .registers

@@ -13,8 +13,8 @@ use lib.Dec.{eqb}
 use borrow.Author.Tests.{eqb-true, eqb-false}
 use Rattle.slices.specs.Lists.{tabulate}
 use Rattle.slices.proofs.Laws.{length-tabulate, getD-tabulate, length-splice, splice-at}
+use Rattle.geometry.specs.Parts.{Sized}
 use Rattle.geometry.specs.declared.Geometry.{Geometry}
-use Rattle.geometry.specs.Sectors.{sectorOf}
 use Rattle.slots.specs.declared.Kind.the-variants.{Put, Patch, Wipe}
 use Rattle.slots.specs.declared.Verdict.{Verdict}
 use Rattle.slots.specs.declared.Verdict.the-variants.{Good}
@@ -45,7 +45,7 @@ putWriter g slot recipe =
       next = λ _ _ u. u;
     }
 
-pub put-lawful : (g : Geometry) (slot : ℕ) (recipe : List ℕ) (fits : 8 * slot + 8 ≤ g .pages) (few : sectorOf (8 * slot) < 17)
+pub put-lawful : (g : Geometry) (slot : ℕ) (recipe : List ℕ) (fits : 8 * slot + 8 ≤ g .pages) (few : Sized g (g .pages * g .size))
     → Lawful g Put slot (putWriter g slot recipe) fits few cold (planBy Put g slot)
 unfolding planBy isAsking runBy pageSteps putWriter
 put-lawful g slot recipe fits few =
@@ -70,7 +70,7 @@ wipeWriter g slot =
       next = λ _ _ u. u;
     }
 
-pub wipe-lawful : (g : Geometry) (slot : ℕ) (fits : 8 * slot + 8 ≤ g .pages) (few : sectorOf (8 * slot) < 17)
+pub wipe-lawful : (g : Geometry) (slot : ℕ) (fits : 8 * slot + 8 ≤ g .pages) (few : Sized g (g .pages * g .size))
     → Lawful g Wipe slot (wipeWriter g slot) fits few cold (planBy Wipe g slot)
 unfolding planBy isAsking runBy pages pageSteps wipeWriter
 wipe-lawful g slot fits few = opens (lists (frees (erases (λ i. refl) (λ h u. u) (blanks finish))))
@@ -91,14 +91,14 @@ module _ (g : Geometry) (slot place : ℕ) (bytes : List ℕ) (old : ℕ → ℕ
     pub payload : h .payload ≡ bytes
     pub places : h .place ≡ place
     pub verdict : (p ≡ 8 * slot → ⊥) → h .verdict ≡ verdictOn
-    pub room : length (h .staged) ≡ 8 * g .size
+    pub room : 8 * g .size ≤ length (h .staged)
 
   -- and before its 84
   pub record Read (p : ℕ) (h : Holding) : Type 0 where
     pub payload : h .payload ≡ bytes
     pub places : h .place ≡ place
     pub verdict : h .verdict ≡ verdictOn
-    pub room : length (h .staged) ≡ 8 * g .size
+    pub room : 8 * g .size ≤ length (h .staged)
     pub here : (i : ℕ) → i < g .size → getD (h .staged) (g .size * (p % 8) + i) 0 ≡ old (g .size * (p % 8) + i)
 
   -- a D2 stages its page and judges the first
@@ -109,7 +109,7 @@ module _ (g : Geometry) (slot place : ℕ) (bytes : List ℕ) (old : ℕ → ℕ
         payload = u .payload;
         places = u .places;
         verdict = judges (h .place) (h .payload) (h .verdict) (u .places) (u .payload) (u .verdict) (eqb (p % 8) 0) refl;
-        room = length-splice (g .size * (p % 8)) page (h .staged) ∙ u .room;
+        room = omega (arith, length-splice (g .size * (p % 8)) page (h .staged), u .room);
         here = λ i j.
             splice-at (g .size * (p % 8)) page (h .staged) i 0 (omega (arith, ap (λ (x : List ℕ). length x) w, length-tabulate (g .size) (λ i. old (g .size * (p % 8) + i))))
             (omega (arith, u .room, slot-index (g .size) p i j))
@@ -139,7 +139,7 @@ module _ (g : Geometry) (slot place : ℕ) (bytes : List ℕ) (old : ℕ → ℕ
         next = λ p h u. record { payload = u .payload; places = u .places; verdict = λ _. u .verdict; room = u .room };
       }
 
-  pub patch-lawful : (fits : 8 * slot + 8 ≤ g .pages) (few : sectorOf (8 * slot) < 17) → Lawful g Patch slot patchWriter fits few cold (planBy Patch g slot)
+  pub patch-lawful : (fits : 8 * slot + 8 ≤ g .pages) (few : Sized g (g .pages * g .size)) → Lawful g Patch slot patchWriter fits few cold (planBy Patch g slot)
   unfolding planBy isAsking runBy pageSteps patchWriter
   patch-lawful fits few =
       opens (lists (frees (pages-lawful g Patch slot patchWriter fits few (pageSteps Patch) (λ p xs i l. reads tt i (loads tt i (programs i (waited l)))) 8 (8 * slot) (omega arith) refl)))

@@ -6,6 +6,7 @@ use mathlib.Core.Bool.{Bool, false, cond}
 use mathlib.Core.List.{List, [], _∷_, _++_}
 use lib.ListN.{length, getD, take, drop, replicate}
 use lib.Dec.{eqb}
+use Rattle.geometry.specs.Parts.{slotRoom}
 use Rattle.slices.specs.Lists.{over}
 use Rattle.geometry.specs.declared.Geometry.{Geometry}
 use Rattle.registers.specs.declared.Registers.{Registers}
@@ -26,7 +27,7 @@ use Rattle.slots.specs.declared.Told.the-variants.{Running, Answered}
 use Rattle.slots.specs.declared.Verdict.the-variants.{Good}
 use Rattle.state.specs.Outcomes.{sentState, cutState}
 use Rattle.slots.specs.Plans.{Asked, bound, isWait, sectorFor}
-use Rattle.slots.specs.Records.{slotSize, headSize, lengthIn}
+use Rattle.slots.specs.Records.{headSize, lengthIn}
 use Rattle.slots.specs.Driver.{Heard, Holding, frameOf, heard, ended, after, takenBy, stepOf, isEnded, toldBy}
 use Rattle.slots.specs.Refusals.{callRefusal, rawRefusal}
 
@@ -54,8 +55,8 @@ scripted script i = getD script i 0
 -- ---- one frame, with its script byte; a cut is left to the call's end
 
 -- (11.3) the registers after a frame's script byte: 0 is a busy end
-unfoldable pub registersAfter : ℕ → Registers → Registers
-registersAfter b r = cond (eqb b 0) (completed r) r
+unfoldable pub registersAfter : Geometry → ℕ → Registers → Registers
+registersAfter g b r = cond (eqb b 0) (completed g r) r
 
 -- (11.3) the memory
 unfoldable pub memoryAfter : Geometry → ℕ → Registers → Memory → Memory
@@ -63,7 +64,7 @@ memoryAfter g b r m = cond (eqb b 0) (completedMemory g (r .operation) m) m
 
 -- (11.3) both
 unfoldable pub stateAfter : Geometry → ℕ → State → State
-stateAfter g b s = record { registers = registersAfter b (s .registers); memory = memoryAfter g b (s .registers) (s .memory) }
+stateAfter g b s = record { registers = registersAfter g b (s .registers); memory = memoryAfter g b (s .registers) (s .memory) }
 
 -- ---- put, patch, get, wipe
 
@@ -110,7 +111,7 @@ replies g v p q = replyOf g (p .registers) (q .memory) (sends g v p q)
 
 -- Aid: what is heard of it
 abbrev pub hears : Geometry → Request → Open → Closed → Heard
-hears g v p q = heard (stepOf g (v .asked) (p .course)) (sectorFor (v .asked)) (replies g v p q)
+hears g v p q = heard g (stepOf g (v .asked) (p .course)) (sectorFor g (v .asked)) (replies g v p q)
 
 -- (11.1) the open half after a frame: from the open half, the frame's outline, the registers after it and what was heard
 -- (11.4) a cut ends the call with 11, whatever was heard
@@ -118,7 +119,7 @@ hears g v p q = heard (stepOf g (v .asked) (p .course)) (sectorFor (v .asked)) (
 unfoldable pub openAfter : Geometry → Request → Open → List ℕ → Registers → Heard → Open
 openAfter g v p line r o =
     record {
-      registers = registersAfter (scripted (v .script) (p .frames)) r;
+      registers = registersAfter g (scripted (v .script) (p .frames)) r;
       course = cond (eqb (scripted (v .script) (p .frames)) 2) (ended Answers.Cut (p .course)) (after g (v .asked) (p .course) o);
       lines = p .lines ++ line;
       frames = p .frames + 1;
@@ -166,15 +167,15 @@ unfoldable pub startOpen : Geometry → ℕ → Request → Registers → Open
 startOpen g array v r =
     record { registers = r; course = firstCourse (refusalOf g array v) (v .asked .limit); lines = []; frames = 0; polls = 0; cut = false }
 
--- (11.10) nothing is read yet
-unfoldable pub startClosed : Geometry → Secret → Memory → Closed
-startClosed g x m =
-    record { memory = m; holding = record { payload = x .payload; place = x .place; staged = replicate (slotSize g) 0; verdict = Good } }
+-- (11.10) nothing is read yet; there is room for the largest slot
+unfoldable pub startClosed : Secret → Memory → Closed
+startClosed x m =
+    record { memory = m; holding = record { payload = x .payload; place = x .place; staged = replicate slotRoom 0; verdict = Good } }
 
 -- (11.11) the run up to its end or its cut
 unfoldable pub ran : Geometry → Request → Secret → State → Open × Closed
 ran g v x s =
-    run (bound g (v .asked)) g v (startOpen g (length (s .memory .array)) v (s .registers)) (startClosed g x (s .memory))
+    run (bound g (v .asked)) g v (startOpen g (length (s .memory .array)) v (s .registers)) (startClosed x (s .memory))
 
 -- Aid: the chip as the run leaves it
 abbrev pub reached : Open × Closed → State

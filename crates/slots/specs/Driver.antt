@@ -6,6 +6,7 @@ use mathlib.Core.Bool.{Bool, true, false, cond, not, _&&_, _||_}
 use mathlib.Core.List.{List}
 use lib.ListN.{length, getD}
 use lib.Dec.{eqb, leb}
+use Rattle.geometry.specs.Parts.{pageRoom}
 use Rattle.slices.specs.Lists.{tabulate, splice}
 use Rattle.geometry.specs.declared.Geometry.{Geometry}
 use Rattle.registers.specs.Protection.{hasBits}
@@ -59,12 +60,16 @@ opcodeOf Erase = 0x50
 -- (10.7) a step's frame but for its data
 unfoldable pub shapeOf : Geometry → Step → Shape
 shapeOf g Wait = addressed 0xD7 0 2 false
-shapeOf g Protection = addressed 0x32 0 20 false
-shapeOf g Lockdown = addressed 0x35 0 20 false
+shapeOf g Protection = addressed 0x32 0 (4 + g .register) false
+shapeOf g Lockdown = addressed 0x35 0 (4 + g .register) false
 shapeOf g (Read p) = addressed 0xD2 (g .field * p) (8 + g .size) false
 shapeOf g (Load p) = addressed 0x84 0 (4 + g .size) true
 shapeOf g (Send c p) = addressed (opcodeOf c) (g .field * p) 4 false
 shapeOf g End = addressed 0 0 0 false
+
+-- Aid: the room that the longest of them takes: a D2 over the largest page
+abbrev pub frameRoom : ℕ
+frameRoom = 8 + pageRoom
 
 -- (10.9) byte i of a frame: opcode, address, then the data or 00
 unfoldable pub frameByte : Shape → (ℕ → ℕ) → ℕ → ℕ
@@ -110,19 +115,19 @@ abbrev pub registerHeard : Bool → Heard
 registerHeard b = record { density = true; ready = true; guarded = false; held = b }
 
 -- (10.11) what is missing of them counts as FFh
--- (10.13) a register's sixteen bytes in a reply to 32 or 35
-unfoldable pub registerIn : List ℕ → List ℕ
-registerIn reply = tabulate 16 (λ j. getD reply (4 + j) 255)
+-- (10.13) a register's bytes in a reply to 32 or 35
+unfoldable pub registerIn : Geometry → List ℕ → List ℕ
+registerIn g reply = tabulate (g .register) (λ j. getD reply (4 + j) 255)
 
 -- (10.11) what is heard of the reply to a step: a status that is missing counts as FFh
-unfoldable pub heard : Step → ℕ → List ℕ → Heard
-heard Wait sector reply = statusHeard (getD reply 1 255)
-heard Protection sector reply = registerHeard (hasBits (registerIn reply) sector)
-heard Lockdown sector reply = registerHeard (hasBits (registerIn reply) sector)
-heard (Read p) sector reply = registerHeard false
-heard (Load p) sector reply = registerHeard false
-heard (Send c p) sector reply = registerHeard false
-heard End sector reply = registerHeard false
+unfoldable pub heard : Geometry → Step → ℕ → List ℕ → Heard
+heard g Wait sector reply = statusHeard (getD reply 1 255)
+heard g Protection sector reply = registerHeard (hasBits g (registerIn g reply) sector)
+heard g Lockdown sector reply = registerHeard (hasBits g (registerIn g reply) sector)
+heard g (Read p) sector reply = registerHeard false
+heard g (Load p) sector reply = registerHeard false
+heard g (Send c p) sector reply = registerHeard false
+heard g End sector reply = registerHeard false
 
 -- ---- control
 

@@ -41,7 +41,7 @@ exchangesOf (suc n) g v p q =
 -- (14.11) all of a call
 unfoldable pub exchanges : Geometry → Request → Secret → State → List Exchange
 exchanges g v x s =
-    exchangesOf (bound g (v .asked)) g v (startOpen g (length (s .memory .array)) v (s .registers)) (startClosed g x (s .memory))
+    exchangesOf (bound g (v .asked)) g v (startOpen g (length (s .memory .array)) v (s .registers)) (startClosed x (s .memory))
 
 -- Aid: their lines in the log
 unfoldable pub outlines : List Exchange → List ℕ
@@ -120,7 +120,7 @@ module _ (g : Geometry) (a : Asked) where
 
   -- the sector's bits in a reply to 32 or 35 are not all 0
   abbrev pub heldIn : Exchange → Bool
-  heldIn e = hasBits (registerIn (e .reply)) (sectorFor a)
+  heldIn e = hasBits g (registerIn g (e .reply)) (sectorFor g a)
 
   -- (14.11) the exchanges follow the steps in order: polls left for a wait at their head; whether the sector is listed, bit 1 of the last status; the
   -- data; the exchanges, how many of them are polls, and the end
@@ -188,10 +188,10 @@ OneByOne g k h (x ∷ xs) [] h' = ⊥
 OneByOne g k h (x ∷ xs) (e ∷ es) h' = (e .frame ≡ frameOf g k h x) × OneByOne g k (takenBy x g k h (e .reply)) xs es h'
 
 -- (14.14) an idle, awake chip, its registers of their lengths, and the slot's sector not sealed where the call asks
-pub record Undisturbed (a : Asked) (r : Registers) : Type 0 where
+pub record Undisturbed (g : Geometry) (a : Asked) (r : Registers) : Type 0 where
   pub ready : Ready r
   pub lengths : Lengths r
-  pub unsealed : isAsking (a .kind) ≡ true → sealed r (sectorFor a) ≡ false
+  pub unsealed : isAsking (a .kind) ≡ true → sealed g r (sectorFor g a) ≡ false
 
 -- (14.15) frames, polls, log and answer of such a call; the data after its last step in `left`
 pub record AsListed (g : Geometry) (a : Asked) (h : Holding) (es : List Exchange) (o : Out) : Type 0 where

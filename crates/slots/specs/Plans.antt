@@ -66,8 +66,8 @@ abbrev pub planOf : Geometry → Asked → List Step
 planOf g a = planBy (a .kind) g (a .slot)
 
 -- (9.11) the slot's sector, which 32 and 35 are asked for
-abbrev pub sectorFor : Asked → ℕ
-sectorFor a = sectorOf (8 * a .slot)
+abbrev pub sectorFor : Geometry → Asked → ℕ
+sectorFor g a = sectorOf g (8 * a .slot)
 
 -- ---- places
 

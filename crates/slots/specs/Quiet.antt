@@ -73,7 +73,7 @@ QuietFrames first end (suc n) g v p q =
 -- (14.6) all frames of a call
 abbrev pub QuietCall : ℕ → ℕ → Geometry → Request → Secret → State → Type 0
 QuietCall first end g v x s =
-    QuietFrames first end (bound g (v .asked)) g v (startOpen g (length (s .memory .array)) v (s .registers)) (startClosed g x (s .memory))
+    QuietFrames first end (bound g (v .asked)) g v (startOpen g (length (s .memory .array)) v (s .registers)) (startClosed x (s .memory))
 
 -- (14.6) no obeyed frame of this call, if it is not refused, starts an operation that writes one of the pages; an event sends none
 abbrev pub QuietBy : ℕ → ℕ → Part → Op → State → Type 0

@@ -9,7 +9,7 @@ use Rattle.geometry.specs.declared.Geometry.{Geometry}
 use Rattle.slots.specs.declared.Verdict.{Verdict}
 use Rattle.slots.specs.declared.Verdict.the-variants.{Good, Blank, Beyond}
 
--- (9.1) a slot's bytes: 2,112
+-- (9.1) a slot's bytes: eight pages
 unfoldable pub slotSize : Geometry → ℕ
 slotSize g = 8 * g .size
 
@@ -17,7 +17,7 @@ slotSize g = 8 * g .size
 abbrev pub headSize : ℕ
 headSize = 3
 
--- (9.3) the longest recipe: 2,109
+-- (9.3) the longest recipe: what the head leaves of the slot
 unfoldable pub limitOf : Geometry → ℕ
 limitOf g = slotSize g - headSize
 

@@ -31,7 +31,7 @@ use Rattle.memory.specs.Pages.{inSectors}
 use Rattle.memory.specs.Replies.{replied}
 use Rattle.memory.proofs.Sectors.{inSectors-none}
 use Rattle.state.specs.Lent.{memoryIn, actedOn}
-use Rattle.state.specs.Memory.{Memory}
+use Rattle.state.specs.Memory.{bufferSize, Memory}
 use Rattle.state.specs.Frames.{dataOf, replyOf, acted, sentMemory}
 use Rattle.state.specs.Completion.{inTarget}
 use Rattle.state.proofs.Lent.{acted-lent}
@@ -96,7 +96,7 @@ module _ (g : Geometry) (r : Registers) (f : List ℕ) (d : Ruling) (e : applied
   unfolding applied
   decided-registers = ap (λ (z : Decision). z .registers) e
 
-  pub decided-memory : (m : Memory) (xs bs zs : List ℕ) (bit : Bool) → length bs ≡ 528 → memoryIn xs bs bit ≡ m
+  pub decided-memory : (m : Memory) (xs bs zs : List ℕ) (bit : Bool) → length bs ≡ 2 * bufferSize → memoryIn xs bs bit ≡ m
       → zs ≡ actedOn g (d .action) (take (length f - d .lead) (drop (d .lead) f)) bs → memoryIn xs zs bit ≡ sentMemory g r f m
   unfolding sentMemory
   decided-memory m xs bs zs bit l k p =

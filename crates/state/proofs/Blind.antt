@@ -51,7 +51,7 @@ module _ (s t : State) (e : s .registers ≡ t .registers) (l : length (s .memor
     where
       go : (p : Part) → Same (endedBy p s) (endedBy p t)
       go Unknown = record { answer = refl; registers = e }
-      go (Known g) = record { answer = refl; registers = λ i. completed (e i) }
+      go (Known g) = record { answer = refl; registers = λ i. completed g (e i) }
 
   pub pin-blind : (high : Bool) → Same (pinOutcome high s) (pinOutcome high t)
   unfolding pinOutcome pinnedState
@@ -68,4 +68,4 @@ module _ (s t : State) (e : s .registers ≡ t .registers) (l : length (s .memor
       go Unknown q = record { answer = refl; registers = e }
       go (Known g) q =
           picked (cutFits g (length (s .memory .array)) (length j)) (λ i. cutFits g (l i) (m i))
-          (record { answer = refl; registers = λ i. lost (e i) (h g q i) }) (record { answer = refl; registers = e })
+          (record { answer = refl; registers = λ i. lost g (e i) (h g q i) }) (record { answer = refl; registers = e })

@@ -31,19 +31,19 @@ neither false b e = (refl, e)
 module _ (g : Geometry) (o : Operation) (page : ℕ) (h : writes g o page ≡ false) where
   no-run : inRun (runOf g o) page ≡ false
   unfolding writes
-  no-run = (neither (inRun (runOf g o) page) (inSet (sectorsOf o) (sectorOf page)) h) .0
+  no-run = (neither (inRun (runOf g o) page) (inSet (sectorsOf o) (sectorOf g page)) h) .0
 
-  no-sector : inSet (sectorsOf o) (sectorOf page) ≡ false
+  no-sector : inSet (sectorsOf o) (sectorOf g page) ≡ false
   unfolding writes
-  no-sector = (neither (inRun (runOf g o) page) (inSet (sectorsOf o) (sectorOf page)) h) .1
+  no-sector = (neither (inRun (runOf g o) page) (inSet (sectorsOf o) (sectorOf g page)) h) .1
 
 -- what is seen of the array, as a byte of the page or the page, is left by what is done to other pages
-module _ {A : Type 0} (see : List ℕ → A) (g : Geometry) (q : ℕ) (few : q < g .pages) where
+module _ {A : Type 0} (see : List ℕ → A) (g : Geometry) (wide : 8 < g .span) (q : ℕ) (few : q < g .pages) where
   target-left : (f : Run → List ℕ → List ℕ) → ((r : Run) (xs : List ℕ) → inRun r q ≡ false → see (f r xs) ≡ see xs)
       → (o : Operation) (xs : List ℕ) → writes g o q ≡ false → see (inTarget f g o xs) ≡ see xs
   unfolding inTarget inSet
   target-left f leaves o xs h =
-      sectors-left see f g q few leaves (sectorsOf o) (f (runOf g o) xs) (no-sector g o q h) ∙ leaves (runOf g o) xs (no-run g o q h)
+      sectors-left see f g wide q few leaves (sectorsOf o) (f (runOf g o) xs) (no-sector g o q h) ∙ leaves (runOf g o) xs (no-run g o q h)
 
   module _ (programs : (page : ℕ) (buffer xs : List ℕ) → (q ≡ page → ⊥) → see (programmed g page buffer xs) ≡ see xs)
       (programs-over : (page : ℕ) (buffer xs : List ℕ) → (q ≡ page → ⊥) → see (programmedOver g page buffer xs) ≡ see xs)
@@ -66,23 +66,23 @@ module _ {A : Type 0} (see : List ℕ → A) (g : Geometry) (q : ℕ) (few : q <
     completed-left (ProgramSecurity d) h = refl
 
 -- ---- a busy end
-module _ (g : Geometry) (o : Operation) (m : Memory) where
+module _ (g : Geometry) (wide : 8 < g .span) (o : Operation) (m : Memory) where
   pub completed-keeps : (k : ℕ) → 0 < g .size → k / g .size < g .pages → writes g o (k / g .size) ≡ false → getD (completedMemory g o m .array) k 0 ≡ getD (m .array) k 0
   completed-keeps k s l =
-      completed-left (λ xs. getD xs k 0) g (k / g .size) l (λ page buffer xs. programmed-byte g page buffer xs k s) (λ page buffer xs. programmedOver-byte g page buffer xs k s)
+      completed-left (λ xs. getD xs k 0) g wide (k / g .size) l (λ page buffer xs. programmed-byte g page buffer xs k s) (λ page buffer xs. programmedOver-byte g page buffer xs k s)
       (λ r xs. erased-byte g r xs k s) m o
 
   pub completed-page : (q : ℕ) → q < g .pages → writes g o q ≡ false → pageOf g q (completedMemory g o m .array) ≡ pageOf g q (m .array)
   completed-page q l =
-      completed-left (pageOf g q) g q l (λ page buffer xs. programmed-other g page buffer xs q) (λ page buffer xs. programmedOver-other g page buffer xs q)
+      completed-left (pageOf g q) g wide q l (λ page buffer xs. programmed-other g page buffer xs q) (λ page buffer xs. programmedOver-other g page buffer xs q)
       (λ r xs. erased-other g r xs q) m o
 
 -- ---- a cut
-module _ (g : Geometry) (o : Operation) (junk : List ℕ) (m : Memory) where
+module _ (g : Geometry) (wide : 8 < g .span) (o : Operation) (junk : List ℕ) (m : Memory) where
   pub lost-keeps : (k : ℕ) → 0 < g .size → k / g .size < g .pages → writes g o (k / g .size) ≡ false → getD (lostMemory g o junk m .array) k 0 ≡ getD (m .array) k 0
   unfolding lostMemory arrayLost
-  lost-keeps k s l = target-left (λ xs. getD xs k 0) g (k / g .size) l (junked g junk) (λ r xs. junked-byte g junk r xs k s) o (m .array)
+  lost-keeps k s l = target-left (λ xs. getD xs k 0) g wide (k / g .size) l (junked g junk) (λ r xs. junked-byte g junk r xs k s) o (m .array)
 
   pub lost-page : (q : ℕ) → q < g .pages → writes g o q ≡ false → pageOf g q (lostMemory g o junk m .array) ≡ pageOf g q (m .array)
   unfolding lostMemory arrayLost
-  lost-page q l = target-left (pageOf g q) g q l (junked g junk) (λ r xs. junked-other g junk r xs q) o (m .array)
+  lost-page q l = target-left (pageOf g q) g wide q l (junked g junk) (λ r xs. junked-other g junk r xs q) o (m .array)

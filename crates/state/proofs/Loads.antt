@@ -34,8 +34,9 @@ use Rattle.control.specs.Starts.{Ready}
 use Rattle.control.proofs.Rows.{control-cases}
 use Rattle.control.proofs.Frames.{load-obeyed}
 use Rattle.control.proofs.Ends.{completed-idle}
-use Rattle.memory.specs.Pages.{programmed, erased, eachSector, inSectors}
+use Rattle.memory.specs.Pages.{programmed, erased}
 use Rattle.memory.proofs.Pages.{programmed-page, programmed-other}
+use Rattle.memory.proofs.Sectors.{inSectors-none}
 use Rattle.state.specs.declared.Answer.the-variants as Answers
 use Rattle.state.specs.Memory.{Memory, State, bufferIn, putBuffer}
 use Rattle.state.specs.Frames.{bufferWritten, written, acted, sentMemory}
@@ -99,9 +100,9 @@ module _ (g : Geometry) (r : Registers) (m : Memory) where
       (drop (rowOf g r f (decodeOf f .lead) (decodeOf f .effect) .lead) f))
 
   -- a program or erase only starts
-  started-silent : (page : ℕ) (o : Operation) (bytes : List ℕ) → acted g (startedOn r page o .action) bytes m ≡ m
+  started-silent : (page : ℕ) (o : Operation) (bytes : List ℕ) → acted g (startedOn g r page o .action) bytes m ≡ m
   unfolding startedOn
-  started-silent page o bytes = go (sealed r (sectorOf page))
+  started-silent page o bytes = go (sealed g r (sectorOf g page))
     where
       go : (b : Bool) → acted g (cond b (ignored r) (decided (record { protection = r .protection; lockdown = r .lockdown; user = r .user; factory = r .factory; used = r .used; protect = r .protect; wp = r .wp; deep = r .deep; operation = o }) A.Silent 0) .action) bytes m ≡ m
       go true = silent bytes
@@ -145,7 +146,7 @@ pub end-idle : (s : State) (g : Geometry) → partIn s ≡ Known g → s .regist
 unfolding endedState
 end-idle s g p e =
     end-done s g p
-    ∙ (λ i. left Answers.Done (record { registers = completed-idle (s .registers) e i; memory = idle-memory g (s .registers .operation) (s .memory) e i }) [])
+    ∙ (λ i. left Answers.Done (record { registers = completed-idle g (s .registers) e i; memory = idle-memory g (s .registers .operation) (s .memory) e i }) [])
 
 -- 83/86, 82/85: the page is the buffer, the other pages, the buffers and the compare bit are as they were
 module _ (g : Geometry) (b : Buffer) (page : ℕ) (m : Memory) where
@@ -167,5 +168,5 @@ program-rest g b page m = (refl, refl, refl)
 
 -- 50: the block's pages are FFh
 pub erase-block-array : (g : Geometry) (block : ℕ) (m : Memory) → completedMemory g (EraseBlock block) m .array ≡ erased g (run (8 * block) 8) (m .array)
-unfolding completedMemory inTarget runOf sectorsOf inSectors eachSector
-erase-block-array g block m = refl
+unfolding completedMemory inTarget runOf sectorsOf
+erase-block-array g block m = inSectors-none (erased g) g (erased g (run (8 * block) 8) (m .array))

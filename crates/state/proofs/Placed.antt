@@ -34,11 +34,11 @@ module _ (n : ℕ) (g : Geometry) where
       known-placed n (control g r f .registers .operation) g ((placed-known n (r .operation) g p) .0)
       (control-within g n r f (placed-sized n (r .operation) g p) ((placed-known n (r .operation) g p) .1))
 
-  pub completed-placed : (r : Registers) → placed n (r .operation) ≡ Known g → placed n (completed r .operation) ≡ Known g
-  completed-placed r p = idle-placed (r .operation) (completed r .operation) (completed-operation r) p
+  pub completed-placed : (r : Registers) → placed n (r .operation) ≡ Known g → placed n (completed g r .operation) ≡ Known g
+  completed-placed r p = idle-placed (r .operation) (completed g r .operation) (completed-operation g r) p
 
-  pub lost-placed : (r : Registers) (w : List ℕ) → placed n (r .operation) ≡ Known g → placed n (lost r w .operation) ≡ Known g
-  lost-placed r w p = idle-placed (r .operation) (lost r w .operation) (lost-operation r w) p
+  pub lost-placed : (r : Registers) (w : List ℕ) → placed n (r .operation) ≡ Known g → placed n (lost g r w .operation) ≡ Known g
+  lost-placed r w p = idle-placed (r .operation) (lost g r w .operation) (lost-operation g r w) p
 
 -- ---- of the entry points, refused or not
 module _ (s : State) where
@@ -59,7 +59,7 @@ module _ (s : State) where
   unfolding endedState
   end-placed =
       end-cases s (λ (o : Left). partIn (o .state) ≡ partIn s) (λ a. refl)
-      (λ g e. ap (λ (n : ℕ). placed n (completed (s .registers) .operation)) (completed-array-length g (s .registers .operation) (s .memory))
+      (λ g e. ap (λ (n : ℕ). placed n (completed g (s .registers) .operation)) (completed-array-length g (s .registers .operation) (s .memory))
       ∙ completed-placed (length (s .memory .array)) g (s .registers) e ∙ sym e)
 
   pub pin-placed : (high : Bool) → partIn (pinOutcome high s .state) ≡ partIn s
@@ -76,5 +76,5 @@ module _ (s : State) where
   unfolding cutState
   cut-placed junk =
       cut-cases s (λ (o : Left). partIn (o .state) ≡ partIn s) junk (λ a. refl)
-      (λ g e. ap (λ (n : ℕ). placed n (lost (s .registers) (reaching g (s .registers .operation) junk) .operation)) (lost-array-length g (s .registers .operation) junk (s .memory))
+      (λ g e. ap (λ (n : ℕ). placed n (lost g (s .registers) (reaching g (s .registers .operation) junk) .operation)) (lost-array-length g (s .registers .operation) junk (s .memory))
       ∙ lost-placed (length (s .memory .array)) g (s .registers) (reaching g (s .registers .operation) junk) e ∙ sym e)

@@ -8,7 +8,7 @@ use Prim.Native.Nat.{ℕ, zero, suc, _+_, _-_, _*_, _/_, _%_, _<_, _≤_}
 use native.Mathlib.Nat.{not-suc-le-zero, le-of-suc-le-suc}
 use native.Mathlib.Omega.{arith}
 use lib.ListN.{length, getD, drop, replicate, length-replicate}
-use lib.Seq.{drop-at}
+use lib.Seq.{drop-at, length-take-le}
 use Rattle.slices.specs.Lists.{tabulate, ringRead}
 use Rattle.slices.proofs.Rings.{ringRead-whole}
 use Rattle.geometry.specs.declared.Geometry.{Geometry}
@@ -16,7 +16,8 @@ use Rattle.geometry.specs.Parts.{Sized, addressAt, pageAt, byteAt, pageOf}
 use Rattle.geometry.proofs.Addresses.{page-named, page-address, byte-address, address-bytes}
 use Rattle.geometry.proofs.Pages.{length-pageOf}
 use Rattle.registers.specs.declared.Registers.{Registers}
-use Rattle.registers.specs.Protection.{guarded}
+use Rattle.registers.specs.Protection.{registerOf, guarded}
+use Rattle.registers.proofs.Protection.{byte-of}
 use Rattle.control.specs.declared.Action.the-variants as A
 use Rattle.control.specs.declared.Decision.{Decision}
 use Rattle.control.specs.Control.{decided, ignored, control}
@@ -46,26 +47,26 @@ module _ (g : Geometry) (r : Registers) (m : Memory) where
 
   -- ---- D7: every byte after the first is the status byte; a deep chip tells nothing
   pub reply-status : (t : List ℕ) → r .deep ≡ false
-      → replyOf g r m (0xD7 ∷ t) ≡ replied (suc (length t)) 1 (λ i. statusOf (isIdle (r .operation)) (m .compare) (guarded r))
+      → replyOf g r m (0xD7 ∷ t) ≡ replied (suc (length t)) 1 (λ i. statusOf g (isIdle (r .operation)) (m .compare) (guarded r))
   unfolding dataOf
   reply-status t h = reply-decided (0xD7 ∷ t) (decided r A.ReadStatus 1) (status-obeyed g r t h)
 
   pub status-byte : (t : List ℕ) (i d : ℕ) → r .deep ≡ false → 1 ≤ i → i < suc (length t)
-      → getD (replyOf g r m (0xD7 ∷ t)) i d ≡ statusOf (isIdle (r .operation)) (m .compare) (guarded r)
+      → getD (replyOf g r m (0xD7 ∷ t)) i d ≡ statusOf g (isIdle (r .operation)) (m .compare) (guarded r)
   status-byte t i d h a l =
       ap (λ (s : List ℕ). getD s i d) (reply-status t h)
-      ∙ replied-data (suc (length t)) 1 (λ _. statusOf (isIdle (r .operation)) (m .compare) (guarded r)) i d a l
+      ∙ replied-data (suc (length t)) 1 (λ _. statusOf g (isIdle (r .operation)) (m .compare) (guarded r)) i d a l
 
   pub reply-status-deep : (t : List ℕ) → r .deep ≡ true → replyOf g r m (0xD7 ∷ t) ≡ replicate (suc (length t)) 255
   reply-status-deep t h = reply-ignored (0xD7 ∷ t) (status-ignored g r t h)
 
   -- ---- 32 and 35: after the lead the register's bytes, then FFh
   module _ (a b c : ℕ) (t : List ℕ) (y : Ready r) where
-    pub reply-protection : replyOf g r m (0x32 ∷ a ∷ b ∷ c ∷ t) ≡ replied (length (0x32 ∷ a ∷ b ∷ c ∷ t)) 4 (onceData (r .protection))
+    pub reply-protection : replyOf g r m (0x32 ∷ a ∷ b ∷ c ∷ t) ≡ replied (length (0x32 ∷ a ∷ b ∷ c ∷ t)) 4 (onceData (registerOf g (r .protection)))
     unfolding dataOf
     reply-protection = reply-decided (0x32 ∷ a ∷ b ∷ c ∷ t) (decided r A.ReadProtection 4) (protection-obeyed g r a b c t y)
 
-    pub reply-lockdown : replyOf g r m (0x35 ∷ a ∷ b ∷ c ∷ t) ≡ replied (length (0x35 ∷ a ∷ b ∷ c ∷ t)) 4 (onceData (r .lockdown))
+    pub reply-lockdown : replyOf g r m (0x35 ∷ a ∷ b ∷ c ∷ t) ≡ replied (length (0x35 ∷ a ∷ b ∷ c ∷ t)) 4 (onceData (registerOf g (r .lockdown)))
     unfolding dataOf
     reply-lockdown = reply-decided (0x35 ∷ a ∷ b ∷ c ∷ t) (decided r A.ReadLockdown 4) (lockdown-obeyed g r a b c t y)
 
@@ -75,11 +76,17 @@ module _ (g : Geometry) (r : Registers) (m : Memory) where
         ap (λ (s : List ℕ). getD s (4 + j) d) e ∙ replied-data n 4 (onceData bytes) (4 + j) d (omega arith) h
         ∙ ap (λ (x : ℕ). getD bytes x 255) k ∙ getD-any bytes j 255 0 l
 
-    pub protection-byte : (j d : ℕ) → j < length t → j < length (r .protection) → getD (replyOf g r m (0x32 ∷ a ∷ b ∷ c ∷ t)) (4 + j) d ≡ getD (r .protection) j 0
-    protection-byte j d h l = register-byte (replyOf g r m (0x32 ∷ a ∷ b ∷ c ∷ t)) (r .protection) (length (0x32 ∷ a ∷ b ∷ c ∷ t)) reply-protection j d (omega arith) l
+    pub protection-byte : (j d : ℕ) → j < length t → j < g .register → g .register ≤ length (r .protection) → getD (replyOf g r m (0x32 ∷ a ∷ b ∷ c ∷ t)) (4 + j) d ≡ getD (r .protection) j 0
+    protection-byte j d h k l =
+        register-byte (replyOf g r m (0x32 ∷ a ∷ b ∷ c ∷ t)) (registerOf g (r .protection)) (length (0x32 ∷ a ∷ b ∷ c ∷ t)) reply-protection j d (omega arith)
+        (omega (arith, length-take-le (g .register) (r .protection) l))
+        ∙ byte-of g (r .protection) j k
 
-    pub lockdown-byte : (j d : ℕ) → j < length t → j < length (r .lockdown) → getD (replyOf g r m (0x35 ∷ a ∷ b ∷ c ∷ t)) (4 + j) d ≡ getD (r .lockdown) j 0
-    lockdown-byte j d h l = register-byte (replyOf g r m (0x35 ∷ a ∷ b ∷ c ∷ t)) (r .lockdown) (length (0x35 ∷ a ∷ b ∷ c ∷ t)) reply-lockdown j d (omega arith) l
+    pub lockdown-byte : (j d : ℕ) → j < length t → j < g .register → g .register ≤ length (r .lockdown) → getD (replyOf g r m (0x35 ∷ a ∷ b ∷ c ∷ t)) (4 + j) d ≡ getD (r .lockdown) j 0
+    lockdown-byte j d h k l =
+        register-byte (replyOf g r m (0x35 ∷ a ∷ b ∷ c ∷ t)) (registerOf g (r .lockdown)) (length (0x35 ∷ a ∷ b ∷ c ∷ t)) reply-lockdown j d (omega arith)
+        (omega (arith, length-take-le (g .register) (r .lockdown) l))
+        ∙ byte-of g (r .lockdown) j k
 
   -- ---- D2: after the lead the page from the byte on, wrapping
   module _ (a b c h i j k : ℕ) (t : List ℕ) (y : Ready r) where

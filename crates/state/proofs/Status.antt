@@ -1,9 +1,10 @@
--- The status byte's bits, read one by one: the compare bit reaches none but bit 6. Eight cases each, computed.
+-- The status byte's bits, read one by one: the compare bit reaches none but bit 6. Eight cases each.
 -- Assumes nothing.
 use mathlib.Core.Path.{_≡_, refl}
 use mathlib.Core.Bool.{Bool, true, false, cond}
-use Prim.Native.Nat.{_/_, _%_, _<_}
+use Prim.Native.Nat.{_/_, _%_, _≤_, _<_}
 use native.Mathlib.Omega.{arith}
+use Rattle.geometry.specs.declared.Geometry.{Geometry}
 use Rattle.registers.specs.declared.Operation.{Operation}
 use Rattle.registers.specs.declared.Operation.the-variants.{Idle}
 use Rattle.registers.specs.declared.Usage.{Usage}
@@ -12,53 +13,57 @@ use Rattle.registers.specs.Facts.{factsOf}
 use Rattle.registers.proofs.Operations.{free-idle}
 use Rattle.state.specs.Frames.{isFree, isIdle, statusOf}
 
+bit-small : (b : Bool) → cond b 1 0 ≤ 1
+bit-small true = omega arith
+bit-small false = omega arith
+
 -- bit 7: ready
-pub status-ready : (ready compare protect : Bool) → statusOf ready compare protect / 128 ≡ cond ready 1 0
+pub status-ready : (g : Geometry) (ready compare protect : Bool) → statusOf g ready compare protect / 128 ≡ cond ready 1 0
 unfolding statusOf
-status-ready true true true = refl
-status-ready true true false = refl
-status-ready true false true = refl
-status-ready true false false = refl
-status-ready false true true = refl
-status-ready false true false = refl
-status-ready false false true = refl
-status-ready false false false = refl
+status-ready g true true true = omega (arith, bit-small (g .binary))
+status-ready g true true false = omega (arith, bit-small (g .binary))
+status-ready g true false true = omega (arith, bit-small (g .binary))
+status-ready g true false false = omega (arith, bit-small (g .binary))
+status-ready g false true true = omega (arith, bit-small (g .binary))
+status-ready g false true false = omega (arith, bit-small (g .binary))
+status-ready g false false true = omega (arith, bit-small (g .binary))
+status-ready g false false false = omega (arith, bit-small (g .binary))
 
 -- bits 5-2: 1001
-pub status-density : (ready compare protect : Bool) → statusOf ready compare protect / 4 % 16 ≡ 9
+pub status-density : (g : Geometry) (ready compare protect : Bool) → statusOf g ready compare protect / 4 % 16 ≡ 9
 unfolding statusOf
-status-density true true true = refl
-status-density true true false = refl
-status-density true false true = refl
-status-density true false false = refl
-status-density false true true = refl
-status-density false true false = refl
-status-density false false true = refl
-status-density false false false = refl
+status-density g true true true = omega (arith, bit-small (g .binary))
+status-density g true true false = omega (arith, bit-small (g .binary))
+status-density g true false true = omega (arith, bit-small (g .binary))
+status-density g true false false = omega (arith, bit-small (g .binary))
+status-density g false true true = omega (arith, bit-small (g .binary))
+status-density g false true false = omega (arith, bit-small (g .binary))
+status-density g false false true = omega (arith, bit-small (g .binary))
+status-density g false false false = omega (arith, bit-small (g .binary))
 
 -- bit 1: guarded
-pub status-protect : (ready compare protect : Bool) → statusOf ready compare protect / 2 % 2 ≡ cond protect 1 0
+pub status-protect : (g : Geometry) (ready compare protect : Bool) → statusOf g ready compare protect / 2 % 2 ≡ cond protect 1 0
 unfolding statusOf
-status-protect true true true = refl
-status-protect true true false = refl
-status-protect true false true = refl
-status-protect true false false = refl
-status-protect false true true = refl
-status-protect false true false = refl
-status-protect false false true = refl
-status-protect false false false = refl
+status-protect g true true true = omega (arith, bit-small (g .binary))
+status-protect g true true false = omega (arith, bit-small (g .binary))
+status-protect g true false true = omega (arith, bit-small (g .binary))
+status-protect g true false false = omega (arith, bit-small (g .binary))
+status-protect g false true true = omega (arith, bit-small (g .binary))
+status-protect g false true false = omega (arith, bit-small (g .binary))
+status-protect g false false true = omega (arith, bit-small (g .binary))
+status-protect g false false false = omega (arith, bit-small (g .binary))
 
 -- a byte
-pub status-small : (ready compare protect : Bool) → statusOf ready compare protect < 256
+pub status-small : (g : Geometry) (ready compare protect : Bool) → statusOf g ready compare protect < 256
 unfolding statusOf
-status-small true true true = omega arith
-status-small true true false = omega arith
-status-small true false true = omega arith
-status-small true false false = omega arith
-status-small false true true = omega arith
-status-small false true false = omega arith
-status-small false false true = omega arith
-status-small false false false = omega arith
+status-small g true true true = omega (arith, bit-small (g .binary))
+status-small g true true false = omega (arith, bit-small (g .binary))
+status-small g true false true = omega (arith, bit-small (g .binary))
+status-small g true false false = omega (arith, bit-small (g .binary))
+status-small g false true true = omega (arith, bit-small (g .binary))
+status-small g false true false = omega (arith, bit-small (g .binary))
+status-small g false false true = omega (arith, bit-small (g .binary))
+status-small g false false false = omega (arith, bit-small (g .binary))
 
 -- ---- idle
 free : (u : Usage) → isFree u ≡ true → u ≡ Free

@@ -34,7 +34,7 @@ module _ (s : State) (w : Whole (chipIn s)) where
   unfolding endedState
   ended-whole g =
       record {
-        registers = completed-lengths (s .registers) (w .registers);
+        registers = completed-lengths g (s .registers) (w .registers);
         buffer1 = completed-first-length g (s .registers .operation) (s .memory) ∙ w .buffer1;
         buffer2 = completed-second-length g (s .registers .operation) (s .memory) ∙ w .buffer2;
       }
@@ -49,7 +49,7 @@ module _ (s : State) (w : Whole (chipIn s)) where
   unfolding cutState
   cut-whole g junk =
       record {
-        registers = lost-lengths (s .registers) (reaching g (s .registers .operation) junk) (w .registers);
+        registers = lost-lengths g (s .registers) (reaching g (s .registers .operation) junk) (w .registers);
         buffer1 = lost-first-length g (s .registers .operation) junk (s .memory) ∙ w .buffer1;
         buffer2 = lost-second-length g (s .registers .operation) junk (s .memory) ∙ w .buffer2;
       }

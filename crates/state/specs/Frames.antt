@@ -15,7 +15,7 @@ use Rattle.registers.specs.declared.Usage.{Usage}
 use Rattle.registers.specs.declared.Usage.the-variants.{Free, Uses, NoBuffer, Exclusive}
 use Rattle.registers.specs.Data.{bytes16, bytes64}
 use Rattle.registers.specs.Facts.{factsOf}
-use Rattle.registers.specs.Protection.{guarded}
+use Rattle.registers.specs.Protection.{registerOf, guarded}
 use Rattle.control.specs.declared.Action.{Action}
 use Rattle.control.specs.declared.Action.the-variants.{Silent, ReadPage, ReadArray, ReadBuffer, WriteBuffer, LoadProtection, LoadSecurity, ReadProtection, ReadLockdown, ReadSecurity, ReadStatus, ReadId}
 use Rattle.control.specs.Control.{control}
@@ -33,9 +33,9 @@ isFree Exclusive = false
 unfoldable pub isIdle : Operation → Bool
 isIdle o = isFree (factsOf o .usage)
 
--- (3.21) the status: bit 7 idle, bit 6 compare bit, bits 5-2 at 1001, bit 1 guarded, bit 0 clear
-unfoldable pub statusOf : Bool → Bool → Bool → ℕ
-statusOf ready compare protect = cond ready 0x80 0 + cond compare 0x40 0 + 0x24 + cond protect 0x02 0
+-- (3.21) the status: bit 7 idle, bit 6 compare bit, bits 5-2 at 1001, bit 1 guarded, bit 0 by the part
+unfoldable pub statusOf : Geometry → Bool → Bool → Bool → ℕ
+statusOf g ready compare protect = cond ready 0x80 0 + cond compare 0x40 0 + 0x24 + cond protect 0x02 0 + cond (g .binary) 0x01 0
 
 -- (3.22) the bytes that 9F reads
 abbrev pub identity : List ℕ
@@ -54,10 +54,10 @@ dataOf g r m (ReadBuffer b start) = ringData (g .size) start (bufferIn b m)
 dataOf g r m (WriteBuffer b start) = noData
 dataOf g r m (LoadProtection d) = noData
 dataOf g r m (LoadSecurity d) = noData
-dataOf g r m ReadProtection = onceData (r .protection)
-dataOf g r m ReadLockdown = onceData (r .lockdown)
+dataOf g r m ReadProtection = onceData (registerOf g (r .protection))
+dataOf g r m ReadLockdown = onceData (registerOf g (r .lockdown))
 dataOf g r m ReadSecurity = onceData (r .user ++ r .factory)
-dataOf g r m ReadStatus = λ i. statusOf (isIdle (r .operation)) (m .compare) (guarded r)
+dataOf g r m ReadStatus = λ i. statusOf g (isIdle (r .operation)) (m .compare) (guarded r)
 dataOf g r m ReadId = onceData identity
 
 -- (3.12) the reply to a frame, from registers and memory as they were before it

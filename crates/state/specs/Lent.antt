@@ -1,4 +1,4 @@
--- Aid: the two buffers as one list of 528 bytes, as the code lends them; no rule of the chip.
+-- Aid: the two buffers as one list, as the code lends them; no rule of the chip.
 -- Assumes nothing.
 use Prim.Native.Nat.{ℕ}
 use mathlib.Core.Bool.{Bool}

@@ -3,14 +3,15 @@
 use Prim.Native.Nat.{ℕ}
 use mathlib.Core.Bool.{Bool}
 use mathlib.Core.List.{List}
+use Rattle.geometry.specs.Parts.{pageRoom}
 use Rattle.commands.specs.declared.Buffer.{Buffer}
 use Rattle.commands.specs.declared.Buffer.the-variants.{One, Two}
 use Rattle.registers.specs.declared.Registers.{Registers}
 use Rattle.state.specs.declared.Chip.{Chip}
 
--- (2.2) the bytes of a buffer
+-- (2.2) the bytes of a buffer in the record: as many as the largest page has
 abbrev pub bufferSize : ℕ
-bufferSize = 264
+bufferSize = pageRoom
 
 -- (2.1) what is no register
 pub record Memory : Type 0 where

@@ -9,7 +9,7 @@ use lib.Dec.{eqb, leb}
 use Rattle.geometry.specs.declared.Geometry.{Geometry}
 use Rattle.geometry.specs.declared.Part.{Part}
 use Rattle.geometry.specs.declared.Part.the-variants.{Known, Unknown}
-use Rattle.geometry.specs.Parts.{partOf}
+use Rattle.geometry.specs.Parts.{registerRoom, partOf}
 use Rattle.registers.specs.declared.Operation.the-variants.{Idle}
 use Rattle.registers.specs.declared.Registers.{Registers}
 use Rattle.registers.specs.Fields.{withWp}
@@ -52,8 +52,8 @@ partIn s = placed (length (s .memory .array)) (s .registers .operation)
 unfoldable pub freshRegisters : List ℕ → Registers
 freshRegisters factory =
     record {
-      protection = replicate 16 0;
-      lockdown = replicate 16 0;
+      protection = replicate registerRoom 0;
+      lockdown = replicate registerRoom 0;
       user = replicate 64 255;
       factory = factory;
       used = false;
@@ -107,7 +107,7 @@ sendOutcome s f reply = sentBy (partIn s) s f reply
 
 -- (7.1) registers and memory after a busy end
 unfoldable pub endedState : Geometry → State → State
-endedState g s = record { registers = completed (s .registers); memory = completedMemory g (s .registers .operation) (s .memory) }
+endedState g s = record { registers = completed g (s .registers); memory = completedMemory g (s .registers .operation) (s .memory) }
 
 -- (12.12) answer 1, or the busy end
 unfoldable pub endedBy : Part → State → Left
@@ -134,7 +134,7 @@ pinOutcome high s = left Answers.Done (pinnedState high s) []
 unfoldable pub cutState : Geometry → List ℕ → State → State
 cutState g junk s =
     record {
-      registers = lost (s .registers) (reaching g (s .registers .operation) junk);
+      registers = lost g (s .registers) (reaching g (s .registers .operation) junk);
       memory = lostMemory g (s .registers .operation) junk (s .memory);
     }
 

@@ -5,7 +5,7 @@ ghost use mathlib.Core.List.{[], _++_};
 ghost use Prim.Native.Nat.{_≤_};
 ghost use Rattle.state.specs.Answers.{numberOf};
 ghost use Rattle.state.specs.Lent.{bufferStart, memoryIn};
-ghost use Rattle.state.specs.Memory.{chipOf, withRegisters};
+ghost use Rattle.state.specs.Memory.{bufferSize, chipOf, withRegisters};
 use commands::Buffer;
 use registers::Registers;
 
@@ -73,7 +73,7 @@ pub fn with_registers(c: Chip, r: Registers) -> Chip
 
 // Where a buffer begins in the two of them.
 pub fn buffer_start(b: Buffer) -> usize
-    ensures { λ r. ⌜ (r ≡ bufferStart b) × (r ≤ 264) ⌝ }
+    ensures { λ r. ⌜ (r ≡ bufferStart b) × (r ≤ bufferSize) ⌝ }
 {
     match b {
         Buffer::One => 0,

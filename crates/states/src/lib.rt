@@ -1,7 +1,7 @@
 // The stage of a driver's state as it counts: one that no call comes to has ended.
 // Internal to this repository: a caller here meets each `requires`; no entry point is in this crate.
 ghost use mathlib.Core.Path.{_≡_};
-ghost use Prim.Native.Nat.{_<_};
+ghost use Prim.Native.Nat.{_<_, _*_};
 ghost use Rattle.geometry.specs.declared.Geometry.{Geometry};
 ghost use Rattle.geometry.specs.Parts.{partOf};
 ghost use Rattle.slots.specs.Driver.{isEnded};
@@ -15,7 +15,7 @@ use state::Answer;
 
 // The polls left, and the place.
 fn stray_refusal(d: Driver) -> Answer
-    requires { ⌜ d .slot < 512 ⌝ }
+    requires { ⌜ 8 * d .slot < 4096 ⌝ }
     ensures { λ r. ⌜ ((g : Geometry) → r ≡ strayRefusal g d) ⌝ }
 {
     let c = d.course;

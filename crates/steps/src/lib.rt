@@ -3,7 +3,7 @@
 ghost use mathlib.Core.Path.{_≡_};
 ghost use mathlib.Core.Bool.{Bool};
 ghost use mathlib.Core.List.{[], _∷_};
-ghost use Prim.Native.Nat.{ℕ, suc, _/_, _≤_, _<_};
+ghost use Prim.Native.Nat.{ℕ, suc, _/_, _≤_, _<_, _*_};
 ghost use lib.ListN.{length};
 ghost use Rattle.geometry.specs.declared.Geometry.{Geometry};
 ghost use Rattle.slots.specs.declared.Step.the-variants.{Wait, Send};
@@ -126,7 +126,7 @@ fn opening_step(i: usize) -> Step
 
 // The step at place i of a call's plan; the page that it names, if it names one, is below 4,096.
 pub fn step_at(kind: Kind, slot: usize, i: usize) -> Step
-    requires { ⌜ slot < 512 ⌝ }
+    requires { ⌜ 8 * slot < 4096 ⌝ }
     ensures { λ r. ⌜ ((g : Geometry) → r ≡ stepAt (planBy kind g slot) i) × (pageBy r < 4096) ⌝ }
 {
     let n = opening_length(kind);

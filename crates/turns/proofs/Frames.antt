@@ -76,13 +76,13 @@ module _ (g : Geometry) (k : Kind) (h : Holding) where
   unfolding shapeOf frameByte tabulate
   wait-form = refl
 
-  pub protection-form : 0x32 ∷ 0 ∷ 0 ∷ 0 ∷ replicate 16 0 ≡ frameOf g k h Protection
+  pub protection-form : 0x32 ∷ 0 ∷ 0 ∷ 0 ∷ replicate (4 + g .register - 4) 0 ≡ frameOf g k h Protection
   unfolding shapeOf
-  protection-form = plain-form 0x32 0 20 (loaded g k h Protection) (omega arith)
+  protection-form = plain-form 0x32 0 (4 + g .register) (loaded g k h Protection) (omega arith)
 
-  pub lockdown-form : 0x35 ∷ 0 ∷ 0 ∷ 0 ∷ replicate 16 0 ≡ frameOf g k h Lockdown
+  pub lockdown-form : 0x35 ∷ 0 ∷ 0 ∷ 0 ∷ replicate (4 + g .register - 4) 0 ≡ frameOf g k h Lockdown
   unfolding shapeOf
-  lockdown-form = plain-form 0x35 0 20 (loaded g k h Lockdown) (omega arith)
+  lockdown-form = plain-form 0x35 0 (4 + g .register) (loaded g k h Lockdown) (omega arith)
 
   pub read-form : (p : ℕ) → 0xD2 ∷ g .field * p / 65536 % 256 ∷ g .field * p / 256 % 256 ∷ g .field * p % 256 ∷ replicate (8 + g .size - 4) 0 ≡ frameOf g k h (Read p)
   unfolding shapeOf
@@ -97,7 +97,7 @@ module _ (g : Geometry) (k : Kind) (h : Holding) where
   end-form = refl
 
 -- an address fits a word
-pub address-fits : (field page : ℕ) → field ≤ 512 → page < 4096 → Fits w64 (field * page)
+pub address-fits : (field page : ℕ) → field ≤ 16777216 → page < 4096 → Fits w64 (field * page)
 address-fits field page h l =
     let n : page ≤ 4096 = omega arith in
     omega (arith, mul-le-mul h n)

@@ -7,9 +7,11 @@ use mathlib.Core.Bool.{cond}
 use mathlib.Core.List.{List, [], _∷_}
 use types.Run.{OneOf, miss}
 use denote.Enum.Declared.{tagOf}
+use Rattle.geometry.specs.Parts.{registerRoom, Sized}
 use Rattle.geometry.specs.declared.Geometry.{Geometry}
 use Rattle.geometry.specs.Sectors.{sectorOf}
-use Rattle.geometry.proofs.Pages.{sized}
+use Rattle.geometry.proofs.Pages.{sized, sized-own}
+use Rattle.geometry.proofs.Sectors.{sector-served}
 use Rattle.slots.specs.declared.Driver.{Driver}
 use Rattle.slots.specs.declared.Kind.{Kind}
 use Rattle.slots.specs.declared.Step.{Step}
@@ -26,15 +28,18 @@ module _ {g : Geometry} {d : Driver} (s : Sound g d) where
   pub sound-pages : Pages g
   sound-pages = part-pages (d .array) g (s .part)
 
-  pub sound-slot : d .slot < 512
-  sound-slot = let z = sized (d .array) g (s .part) in omega (arith, s .slot, z .few)
+  pub sound-sized : Sized g (g .pages * g .size)
+  sound-sized = sized-own g (d .array) (sized (d .array) g (s .part))
+
+  pub sound-slot : 8 * d .slot < 4096
+  sound-slot = omega (arith, s .slot, sound-sized .few)
+
+  -- its sector is one that the registers serve
+  pub sound-sector : {t : ℕ} → t ≡ sectorOf g (8 * d .slot) → t < registerRoom + 1
+  sound-sector e = omega (arith, e, sector-served g (g .pages * g .size) (8 * d .slot) sound-sized (omega (arith, s .slot)))
 
   pub sound-place : d .course .place < 1000
   sound-place = omega (arith, place-few (d .kind) g (d .slot) (d .course .place) (s .step))
-
--- its sector is one of seventeen
-pub sector-few : {s : ℕ} {slot : ℕ} → (s ≡ sectorOf (8 * slot)) × (s ≤ 8 * slot / 256 + 1) → slot < 512 → s < 17
-sector-few e h = omega (arith, e .1)
 
 -- ---- steps by their form
 

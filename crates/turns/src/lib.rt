@@ -5,9 +5,10 @@ ghost use Prim.Native.Nat.{_+_, _-_, _*_, _/_, _%_, _≤_, _<_};
 ghost use mathlib.Core.Bool.{cond};
 ghost use mathlib.Core.List.{[], _∷_};
 ghost use lib.ListN.{length, replicate};
+ghost use Rattle.geometry.specs.Parts.{slotRoom};
 ghost use Rattle.slices.specs.Lists.{over};
 ghost use Rattle.slots.specs.Plans.{isWait};
-ghost use Rattle.slots.specs.Driver.{opcodeOf, shapeOf, frameOf, takenBy};
+ghost use Rattle.slots.specs.Driver.{opcodeOf, shapeOf, frameOf, takenBy, frameRoom};
 ghost use Rattle.records.specs.Held.{held, Pages};
 ghost use Rattle.steps.specs.Places.{pageBy};
 ghost use Rattle.worlds.specs.Turns.{holdingOf, stepIn, Sound, dataAfter, tookOn};
@@ -77,7 +78,7 @@ fn write_load(
     staged: &[u8],
     frame: &mut [u8],
 ) -> usize
-    requires { ⌜ (Pages g) × (length (now staged) ≡ 2112) × (length (now frame) ≡ 272) ⌝ }
+    requires { ⌜ (Pages g) × (length (now staged) ≡ slotRoom) × (length (now frame) ≡ frameRoom) ⌝ }
     ensures { λ r. ⌜ (r ≡ 4 + g .size) × (now (frame .exit) ≡ over (frameOf g (d .kind) (holdingOf d (now (payload .entry)) (now (staged .entry))) (Step.Load page)) (now (frame .entry))) ⌝ }
 {
     let k = d.kind;
@@ -97,15 +98,16 @@ pub fn write_step(
     staged: &[u8],
     frame: &mut [u8],
 ) -> usize
-    requires { ⌜ (Pages g) × (g .field ≤ 512) × (pageBy x < 4096) × (length (now staged) ≡ 2112) × (length (now frame) ≡ 272) ⌝ }
+    requires { ⌜ (Pages g) × (pageBy x < 4096) × (length (now staged) ≡ slotRoom) × (length (now frame) ≡ frameRoom) ⌝ }
     ensures { λ r. ⌜ (r ≡ shapeOf g x .length) × (now (frame .exit) ≡ over (frameOf g (d .kind) (holdingOf d (now (payload .entry)) (now (staged .entry))) x) (now (frame .entry))) ⌝ }
 {
     let size = g.size;
     let field = g.field;
+    let register = g.register;
     match x {
         Step::Wait => write_poll(frame),
-        Step::Protection => write_long(0x32, 0, 20, frame),
-        Step::Lockdown => write_long(0x35, 0, 20, frame),
+        Step::Protection => write_long(0x32, 0, 4 + register, frame),
+        Step::Lockdown => write_long(0x35, 0, 4 + register, frame),
         Step::Read { page: p } => write_long(0xD2, field * p, 8 + size, frame),
         Step::Load { page: p } => write_load(g, d, p, payload, staged, frame),
         Step::Send {
@@ -137,7 +139,7 @@ fn take_data(
     reply: &[u8],
     staged: &mut [u8],
 ) -> Verdict
-    requires { ⌜ (Pages g) × (length (now staged) ≡ 2112) ⌝ }
+    requires { ⌜ (Pages g) × (length (now staged) ≡ slotRoom) ⌝ }
     ensures { λ r. ⌜ held r (d .place) (now (payload .entry)) (now (staged .exit)) ≡ takenBy x g (d .kind) (holdingOf d (now (payload .entry)) (now (staged .entry))) (now (reply .entry)) ⌝ }
 {
     let k = d.kind;
@@ -157,12 +159,12 @@ pub fn take_step(
     reply: &[u8],
     staged: &mut [u8],
 ) -> Driver
-    requires { ⌜ (Sound g d) × (x ≡ stepIn g d) × (length (now staged) ≡ 2112) ⌝ }
+    requires { ⌜ (Sound g d) × (x ≡ stepIn g d) × (length (now staged) ≡ slotRoom) ⌝ }
     ensures { λ r. ⌜ (r ≡ tookOn g d (now (payload .entry)) (now (staged .entry)) (now (reply .entry))) × (now (staged .exit) ≡ dataAfter g d (now (payload .entry)) (now (staged .entry)) (now (reply .entry)) .staged) ⌝ }
 {
     let k = d.kind;
     let c = d.course;
-    let sector = geometry::sector_of(8 * d.slot);
+    let sector = geometry::sector_of(g, 8 * d.slot);
     let last = steps::is_last(k, c.place);
     let course = courses::take_course(c, x, last, d.limit, sector, reply);
     let verdict = take_data(g, d, x, payload, reply, staged);

@@ -2,7 +2,8 @@
 -- Assumes nothing.
 use Prim.Native.Nat.{ℕ, _%_}
 use mathlib.Core.Bool.{cond}
-use mathlib.Core.List.{List}
+use Prim.Native.String.{String}
+use mathlib.Core.List.{List, [], _∷_}
 use lib.ListN.{length}
 use lib.Dec.{eqb}
 use Rattle.slices.specs.Lists.{same}
@@ -24,15 +25,19 @@ use Rattle.word_values.specs.declared.Numbered.the-variants as Numbered
 use Rattle.word_values.specs.declared.Tested.{Tested}
 use Rattle.word_values.specs.declared.Tested.the-variants as Tested
 
+-- what a word is, if there is one; no word is an empty one
+abbrev pub ifGiven : List ℕ → Name → Numbered → Numbered
+ifGiven word name given = cond (eqb (length word) 0) (Numbered.Fault (Fault.Missing name)) given
+
 -- a word's number, or the fault that it has none
 abbrev pub numbered : Name → Number → Numbered
 numbered name (Number.Value v) = Numbered.Value v
 numbered name Number.NotNumber = Numbered.Fault (Fault.NotNumber name)
 numbered name Number.TooLarge = Numbered.Fault (Fault.TooLarge name)
 
--- a decimal number; no word is an empty one
+-- a decimal number
 abbrev pub decimalOf : List ℕ → Name → Numbered
-decimalOf word name = cond (eqb (length word) 0) (Numbered.Fault (Fault.Missing name)) (numbered name (numberOf word))
+decimalOf word name = ifGiven word name (numbered name (numberOf word))
 
 -- modulo 256
 abbrev pub reduced : Numbered → Numbered
@@ -43,26 +48,57 @@ reduced (Numbered.Fault f) = Numbered.Fault f
 abbrev pub seedOf : List ℕ → Numbered
 seedOf word = reduced (decimalOf word Name.Seed)
 
--- the word is one of two numbers, or there is this fault
-abbrev pub eitherOf : List ℕ → Name → Fault → List ℕ → ℕ → List ℕ → ℕ → Numbered
-eitherOf word name fault a x b y =
-    cond (eqb (length word) 0) (Numbered.Fault (Fault.Missing name))
-    (cond (same word a) (Numbered.Value x) (cond (same word b) (Numbered.Value y) (Numbered.Fault fault)))
+-- ---- words that stand for numbers
+
+-- a row of a table: a word, and the number that it stands for
+pub record Row : Type 0 where
+  pub word : List ℕ
+  pub number : ℕ
+
+-- Aid: the same, of a text
+abbrev pub row : String → ℕ → Row
+row s n = record { word = bytes s; number = n }
+
+-- the number, where the word is this one; else the other
+abbrev pub ifWord : List ℕ → List ℕ → ℕ → Numbered → Numbered
+ifWord word w n other = cond (same word w) (Numbered.Value n) other
+
+-- the number that the table has for the word, or this fault
+abbrev pub inTable : List ℕ → List Row → Fault → Numbered
+inTable word [] fault = Numbered.Fault fault
+inTable word (r ∷ rs) fault = ifWord word (r .word) (r .number) (inTable word rs fault)
+
+-- the levels of a pin
+abbrev pub levels : List Row
+levels = row "0" 0 ∷ row "1" 1 ∷ []
+
+-- the length of the array of the part that the program starts with
+abbrev pub firstLength : ℕ
+firstLength = 33792
+
+-- the parts: each by its word, with the length of its array
+abbrev pub parts : List Row
+parts =
+    row "128" firstLength
+    ∷ row "4096" 1081344
+    ∷ row "128x256" 32768
+    ∷ row "4096x256" 1048576
+    ∷ []
 
 -- 0 or 1
 abbrev pub levelOf : List ℕ → Numbered
-levelOf word = eitherOf word Name.Level Fault.NotLevel (bytes "0") 0 (bytes "1") 1
+levelOf word = ifGiven word Name.Level (inTable word levels Fault.NotLevel)
 
--- 128 or 4096
-abbrev pub pagesOf : List ℕ → Numbered
-pagesOf word = eitherOf word Name.Pages Fault.NotPages (bytes "128") 128 (bytes "4096") 4096
+-- the length of the array of the part that the word names
+abbrev pub lengthOf : List ℕ → Numbered
+lengthOf word = ifGiven word Name.Part (inTable word parts Fault.NotPart)
 
 -- the number behind a command
 unfoldable pub numberAs : List ℕ → First → Numbered
 numberAs word First.Slot = decimalOf word Name.Slot
 numberAs word First.Seed = seedOf word
 numberAs word First.Level = levelOf word
-numberAs word First.Pages = pagesOf word
+numberAs word First.Part = lengthOf word
 numberAs word First.Nothing = Numbered.Value 0
 
 -- a word's digits make bytes, or the fault that they do not

@@ -1,6 +1,6 @@
 // What a word of a line is as a number or as HEX, or what is wrong with it. Every function named here takes any input.
 ghost use mathlib.Core.Path.{_≡_};
-ghost use Rattle.word_values.specs.Values.{decimalOf, seedOf, eitherOf, levelOf, pagesOf, numberAs, testHex};
+ghost use Rattle.word_values.specs.Values.{decimalOf, seedOf, ifWord, ifGiven, levelOf, lengthOf, numberAs, testHex};
 use faults::Fault;
 use faults::Name;
 use text::Hex;
@@ -11,7 +11,7 @@ pub enum First {
     Slot,
     Seed,
     Level,
-    Pages,
+    Part,
     Nothing,
 }
 
@@ -52,40 +52,45 @@ fn seed(word: &[u8]) -> Numbered
     }
 }
 
-// One of two numbers, `a` for `x` and `b` for `y`.
-fn either(word: &[u8], name: Name, fault: Fault, a: &[u8], x: usize, b: &[u8], y: usize) -> Numbered
-    ensures { λ r. ⌜ r ≡ eitherOf (now (word .entry)) name fault (now (a .entry)) x (now (b .entry)) y ⌝ }
+// The number `n` where the word is `w`, else the other.
+fn if_word(word: &[u8], w: &[u8], n: usize, other: Numbered) -> Numbered
+    ensures { λ r. ⌜ r ≡ ifWord (now (word .entry)) (now (w .entry)) n other ⌝ }
+{
+    if text::is_same(word, w) {
+        return Numbered::Value(n);
+    }
+    other
+}
+
+// What the word is, where there is one.
+fn if_given(word: &[u8], name: Name, given: Numbered) -> Numbered
+    ensures { λ r. ⌜ r ≡ ifGiven (now (word .entry)) name given ⌝ }
 {
     if word.len() == 0 {
         return Numbered::Fault(Fault::Missing(name));
     }
-    if text::is_same(word, a) {
-        return Numbered::Value(x);
-    }
-    if text::is_same(word, b) {
-        return Numbered::Value(y);
-    }
-    Numbered::Fault(fault)
+    given
 }
 
 fn level(word: &[u8]) -> Numbered
     ensures { λ r. ⌜ r ≡ levelOf (now (word .entry)) ⌝ }
 {
-    either(word, Name::Level, Fault::NotLevel, b"0", 0, b"1", 1)
+    let r = Numbered::Fault(Fault::NotLevel);
+    let r = if_word(word, b"1", 1, r);
+    let r = if_word(word, b"0", 0, r);
+    if_given(word, Name::Level, r)
 }
 
-fn pages(word: &[u8]) -> Numbered
-    ensures { λ r. ⌜ r ≡ pagesOf (now (word .entry)) ⌝ }
+// The length of the array of the part that the word names. The words differ, so that the order does not matter.
+fn array_length(word: &[u8]) -> Numbered
+    ensures { λ r. ⌜ r ≡ lengthOf (now (word .entry)) ⌝ }
 {
-    either(
-        word,
-        Name::Pages,
-        Fault::NotPages,
-        b"128",
-        128,
-        b"4096",
-        4096,
-    )
+    let r = Numbered::Fault(Fault::NotPart);
+    let r = if_word(word, b"4096x256", 1048576, r);
+    let r = if_word(word, b"128x256", 32768, r);
+    let r = if_word(word, b"4096", 1081344, r);
+    let r = if_word(word, b"128", 33792, r);
+    if_given(word, Name::Part, r)
 }
 
 pub fn number_of(word: &[u8], k: First) -> Numbered
@@ -95,7 +100,7 @@ pub fn number_of(word: &[u8], k: First) -> Numbered
         First::Slot => decimal(word, Name::Slot),
         First::Seed => seed(word),
         First::Level => level(word),
-        First::Pages => pages(word),
+        First::Part => array_length(word),
         First::Nothing => Numbered::Value(0),
     }
 }

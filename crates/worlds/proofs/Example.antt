@@ -5,7 +5,7 @@ use mathlib.Core.Path.{_≡_, refl}
 use mathlib.Core.List.{List, [], _∷_}
 use lib.ListN.{replicate}
 use Rattle.slices.specs.Lists.{tabulate}
-use Rattle.geometry.specs.Parts.{partOf}
+use Rattle.geometry.specs.Parts.{partOf, parts, partAmong}
 use Rattle.geometry.specs.Sectors.{sectorOf}
 use Rattle.registers.specs.Protection.{hasBits, bitsOf}
 use Rattle.state.specs.Answers.{numberOf}
@@ -60,5 +60,5 @@ pub record WipeTwo : Type 0 where
   pub answer : toldIn done ≡ Answered Done
 
 pub wipe-two : WipeTwo
-unfolding startDriver startRefusal earlyRefusal isOver isShort orElse firstCourse numberOf partOf strayRefusal faultBy stageBy stageIn isAsking pageSteps runBy pages planBy stepAt isEnd frameIn frameBy tabulate opcodeOf shapeOf frameByte loaded tookIn tookBy takenBy courseBy heard registerIn hasBits bitsOf sectorOf isEnded toldIn toldBy weighed verdictAnswer
+unfolding startDriver startRefusal earlyRefusal isOver isShort orElse firstCourse numberOf parts partAmong partOf strayRefusal faultBy stageBy stageIn isAsking pageSteps runBy pages planBy stepAt isEnd frameIn frameBy tabulate opcodeOf shapeOf frameByte loaded tookIn tookBy takenBy courseBy heard registerIn hasBits bitsOf sectorOf isEnded toldIn toldBy weighed verdictAnswer
 wipe-two = record { first = refl; second = refl; third = refl; fourth = refl; fifth = refl; none = refl; answer = refl }

@@ -1,6 +1,6 @@
--- A state that counts as going is sound: the test of states asks for a slot of the part and for a step at the place, and a part has at most 512 slots.
+-- A state that counts as going is sound: the test of states asks for a slot of the part and for a step at the place, and a part has at most 4,096 pages.
 -- Assumes nothing.
-use Prim.Native.Nat.{ℕ, _<_}
+use Prim.Native.Nat.{ℕ, _<_, _*_}
 use native.Mathlib.Omega.{arith}
 use mathlib.Core.Path.{_≡_, sym, _∙_}
 use mathlib.Core.Bool.{true, false}
@@ -31,7 +31,7 @@ some a e z = ne-eqb (numberOf a) 0 (λ h. z (e ∙ h))
 -- ---- states
 
 module _ (g : Geometry) (d : Driver) (p : partOf (d .array) ≡ Known g) where
-  pub asked-slot : eqb (numberOf (earlyRefusal g (askedOf d) false)) 0 ≡ true → d .slot < 512
+  pub asked-slot : eqb (numberOf (earlyRefusal g (askedOf d) false)) 0 ≡ true → 8 * d .slot < 4096
   asked-slot e = let z = sized (d .array) g p in omega (arith, early g (askedOf d) false e .fits, z .few)
 
   pub going-sound : isEnded (stageBy (Known g) d) ≡ false → Sound g d

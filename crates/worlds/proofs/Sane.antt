@@ -126,7 +126,7 @@ module _ (g : Geometry) (d : Driver) (w : Facts g d) where
 
   took-sane : (payload staged reply : List ℕ) → partOf (d .array) ≡ Known g → isEnded (d .course .stage) ≡ false → Sane g (tookOn g d payload staged reply)
   took-sane payload staged reply p e =
-      let o = heard (stepIn g d) (sectorFor (askedOf d)) reply in
+      let o = heard g (stepIn g d) (sectorFor g (askedOf d)) reply in
       record {
         part = p;
         facts = λ h. record { asked = w .asked; some = after-few o .0; most = after-few o .1; step = after-step o e h };

@@ -54,7 +54,7 @@ module _ (g : Geometry) (a : Asked) where
           subst (λ (x : Talk). Open x (talked g a others u)) (sym (picked (isEnded (t .course .stage)) t _ z))
           (subst (Open t) (sym (picked (isEnded (u .course .stage)) u _ (y ∙ z))) e)
       go false z y =
-          let w : hearing g a replies t ≡ hearing g a others u = h z ∙ λ i. heard (stepOf g a (e .course i)) (sectorFor a) (others (e .frames i)) in
+          let w : hearing g a replies t ≡ hearing g a others u = h z ∙ λ i. heard g (stepOf g a (e .course i)) (sectorFor g a) (others (e .frames i)) in
           subst (λ (x : Talk). Open x (talked g a others u)) (sym (other (isEnded (t .course .stage)) t _ z))
           (subst (Open (record { course = after g a (t .course) (hearing g a replies t); holding = takenBy (stepOf g a (t .course)) g (a .kind) (t .holding) (replies (t .frames)); lines = t .lines ++ outline (frameOf g (a .kind) (t .holding) (stepOf g a (t .course))); frames = t .frames + 1; polls = t .polls + cond (isWait (stepOf g a (t .course))) 1 0 }))
           (sym (other (isEnded (u .course .stage)) u _ (y ∙ z)))

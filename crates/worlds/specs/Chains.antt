@@ -50,7 +50,7 @@ chain (suc n) payload replies z = chain n payload replies (linked payload replie
 
 -- Aid: what is heard of a reply to the driver's frame
 abbrev pub heardIn : Geometry → Driver → List ℕ → Heard
-heardIn g d reply = heard (stepIn g d) (sectorFor (askedOf d)) reply
+heardIn g d reply = heard g (stepIn g d) (sectorFor g (askedOf d)) reply
 
 -- (14.26) the replies of two worlds agree in what is heard of each of the next n frames; frame by frame, as the first world has them
 abbrev pub AgreeIn : ℕ → Geometry → List ℕ → (replies others : ℕ → List ℕ) → Chain → Type 0

@@ -29,7 +29,7 @@ opened g a oversize h = record { course = firstCourse (earlyRefusal g a oversize
 
 -- Aid: what is heard of the next reply
 abbrev pub hearing : Geometry → Asked → (ℕ → List ℕ) → Talk → Heard
-hearing g a replies t = heard (stepOf g a (t .course)) (sectorFor a) (replies (t .frames))
+hearing g a replies t = heard g (stepOf g a (t .course)) (sectorFor g a) (replies (t .frames))
 
 -- (14.25) one frame and its reply; after the end nothing
 unfoldable pub talked : Geometry → Asked → (ℕ → List ℕ) → Talk → Talk

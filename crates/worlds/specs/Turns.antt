@@ -36,7 +36,7 @@ abbrev pub dataAfter : Geometry → Driver → (payload staged reply : List ℕ)
 dataAfter g d payload staged reply = takenBy (stepIn g d) g (d .kind) (holdingOf d payload staged) reply
 
 abbrev pub courseAfter : Geometry → Driver → List ℕ → Course
-courseAfter g d reply = after g (askedOf d) (d .course) (heard (stepIn g d) (sectorFor (askedOf d)) reply)
+courseAfter g d reply = after g (askedOf d) (d .course) (heard g (stepIn g d) (sectorFor g (askedOf d)) reply)
 
 abbrev pub tookOn : Geometry → Driver → (payload staged reply : List ℕ) → Driver
 tookOn g d payload staged reply = with d (dataAfter g d payload staged reply .verdict) (courseAfter g d reply)

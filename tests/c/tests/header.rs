@@ -83,19 +83,29 @@ fn every_function_is_declared_and_called() {
     assert!(uncalled.is_empty(), "not called: {uncalled:?}");
 }
 
+/// With pages of 264 bytes, and of 256.
+const PARTS: [(&str, &[&str]); 2] = [("264", &[]), ("256", &["-DPAGES_256"])];
+
+/// On a part of either page size every check holds.
+fn passes(compiler: &str, language: &[&str]) {
+    for (name, part) in PARTS {
+        let name = format!("calls-{compiler}-{name}");
+        let words = [language, part].concat();
+        let object = object(&format!("{name}.o"), compiler, &words);
+        let (passed, said) = linked(&name, compiler, &[], vec![object]);
+        assert!(passed, "{name}: {said}");
+    }
+}
+
 #[test]
 fn calls_from_c() {
-    let object = object("calls-c.o", "cc", &["-std=c99"]);
-    let (passed, said) = linked("calls-c", "cc", &[], vec![object]);
-    assert!(passed, "{said}");
+    passes("cc", &["-std=c99"]);
 }
 
 /// The same file as C++: every function is linked by its plain name.
 #[test]
 fn calls_from_cpp() {
-    let object = object("calls-cpp.o", "g++", &["-std=c++11", "-x", "c++"]);
-    let (passed, said) = linked("calls-cpp", "g++", &[], vec![object]);
-    assert!(passed, "{said}");
+    passes("g++", &["-std=c++11", "-x", "c++"]);
 }
 
 /// A function that does nothing and returns 77 is noticed, whichever it is.

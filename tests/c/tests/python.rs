@@ -1,4 +1,5 @@
-//! The Python example in `include/slipknoll.h`, run as it stands there.
+//! The library from Python's ctypes: the example in `include/slipknoll.h` as it
+//! stands there, and `tests/c/parts.py` on every part.
 
 use std::fs;
 use std::path::{Path, PathBuf};
@@ -12,17 +13,20 @@ fn in_repository(path: &str) -> PathBuf {
         .join(path)
 }
 
-#[test]
-fn the_example_prints_the_status() {
+/// The header's command for a shared object, and its program.
+fn example() -> [String; 2] {
     let header = fs::read_to_string(in_repository("include/slipknoll.h")).expect("the header");
     let examples = examples(&header, "Python: make a shared object");
-    let [command, program] = <[String; 2]>::try_from(examples).expect("a command and a program");
+    <[String; 2]>::try_from(examples).expect("a command and a program")
+}
 
-    // Beside the archive, as the command has it.
-    let directory = Path::new(env!("CARGO_TARGET_TMPDIR")).join("python");
+/// What a program prints beside the shared object, in a directory of this name.
+fn printed(name: &str, program: &str) -> String {
+    let directory = Path::new(env!("CARGO_TARGET_TMPDIR")).join(name);
     fs::create_dir_all(&directory).expect("a directory");
     let archive = in_repository("target/staticlib/libslipknoll.a");
     fs::copy(archive, directory.join("libslipknoll.a")).expect("the archive");
+    let [command, _] = example();
     let mut shell = Command::new("sh");
     let made = shell
         .args(["-c", &command])
@@ -31,15 +35,33 @@ fn the_example_prints_the_status() {
     assert!(made.expect("a shell").success(), "{command}");
 
     let mut python = Command::new("python3");
-    let run = python
-        .args(["-c", &program])
-        .current_dir(&directory)
-        .output();
-    let output = run.expect("python3 runs");
+    let run = python.args(["-c", program]).current_dir(&directory);
+    let output = run.output().expect("python3 runs");
     let said = String::from_utf8_lossy(&output.stderr);
     assert!(output.status.success(), "{said}");
-    // A fresh chip is ready: A4h.
-    assert_eq!(String::from_utf8_lossy(&output.stdout), "A4\n");
+    String::from_utf8_lossy(&output.stdout).into_owned()
+}
+
+#[test]
+fn the_example_prints_the_status() {
+    let [_, program] = example();
+    // Fresh chips are ready: A4h, and with 256-byte pages A5h.
+    assert_eq!(printed("python", &program), "A4\nA5\n");
+}
+
+/// Put and get refuse what is over 2,109 or 2,045 with 5, and a cut junk of the
+/// other page size with 7.
+const EVERY_PART: &str = "\
+4096 264 A4 5 0 5 True True 7 0
+4096 256 A5 5 0 5 True True 7 0
+128 264 A4 5 0 5 True True 7 0
+128 256 A5 5 0 5 True True 7 0
+";
+
+#[test]
+fn calls_on_every_part() {
+    let program = fs::read_to_string(in_repository("tests/c/parts.py")).expect("the program");
+    assert_eq!(printed("python-parts", &program), EVERY_PART);
 }
 
 #[test]

@@ -1,12 +1,11 @@
 //! The slot driver alone, step by step: a reply in, a frame out, until the end.
 //! Replies come from a chip or from nowhere.
 
-use at45db081d_model::calls::Call;
 use at45db081d_model::driver::Link;
-use at45db081d_model::slot::MAX_RECIPE;
+use at45db081d_model::slot::SLOT_ROOM;
 use at45db081d_model::{answer, Part};
 use slipknoll::ffi::driver;
-use slipknoll::{DRIVER_FRAME_LEN, SLOT_LEN};
+use slipknoll::DRIVER_FRAME_LEN;
 
 use crate::request::Request;
 
@@ -29,7 +28,8 @@ pub trait Driver {
 #[derive(Default)]
 pub struct ModelDriver {
     request: Option<Request>,
-    refusal: Option<u8>,
+    /// The part, or why the call is refused.
+    part: Option<Result<Part, u8>>,
     replies: Vec<Vec<u8>>,
     recipe: Vec<u8>,
 }
@@ -63,16 +63,17 @@ impl Link for Replay<'_> {
 impl ModelDriver {
     fn turn(&mut self) -> Turn {
         let request = self.request.as_ref().expect("a driver that was started");
-        if let Some(answer) = self.refusal {
-            return Turn::End(answer);
-        }
-        let mut buffer = [0; MAX_RECIPE];
+        let part = match self.part.expect("a driver that was started") {
+            Ok(part) => part,
+            Err(answer) => return Turn::End(answer),
+        };
+        let mut buffer = [0; SLOT_ROOM];
         let mut replay = Replay {
             replies: self.replies.iter(),
             waiting: Vec::new(),
         };
         let call = request.with_lent(&mut buffer);
-        let (result, _) = call.drive(&mut replay);
+        let (result, _) = call.drive(part, &mut replay);
         match result {
             Err(NO_REPLY) => Turn::Frame(replay.waiting),
             Err(answer) => Turn::End(answer),
@@ -84,28 +85,20 @@ impl ModelDriver {
     }
 }
 
-/// What of 1 to 7 a driver can meet without chip, log and script.
-fn refusal(array_len: usize, request: &Request) -> Option<u8> {
-    let part = match Part::from_array_len(array_len) {
-        Some(part) => part,
-        None => return Some(answer::PART),
-    };
-    let call = request.with_lent(&mut []);
+/// The part, or what of 1 to 7 a driver can meet without chip, log and script.
+fn part_of(array_len: usize, request: &Request) -> Result<Part, u8> {
+    let part = Part::from_array_len(array_len).ok_or(answer::PART)?;
+    let mut buffer = vec![0; request.lent_len()];
+    let call = request.with_lent(&mut buffer);
     let (slot, poll_limit) = call.target().expect("a call with a slot");
-    let too_long = match (&call, request) {
-        (Call::Put { recipe, .. }, _) => recipe.len() > MAX_RECIPE,
-        (Call::Patch { place, bytes, .. }, _) => place.saturating_add(bytes.len()) > MAX_RECIPE,
-        (_, Request::Get { buffer_len, .. }) => *buffer_len < MAX_RECIPE,
-        _ => false,
-    };
     if slot >= part.blocks() {
-        Some(answer::SLOT)
+        Err(answer::SLOT)
     } else if !(1..=1000).contains(&poll_limit) {
-        Some(answer::LIMIT)
-    } else if too_long {
-        Some(answer::SIZE)
+        Err(answer::LIMIT)
+    } else if !call.size_fits(part) {
+        Err(answer::SIZE)
     } else {
-        None
+        Ok(part)
     }
 }
 
@@ -113,7 +106,7 @@ impl Driver for ModelDriver {
     fn start(&mut self, array_len: usize, request: &Request) -> Turn {
         *self = ModelDriver {
             request: Some(request.clone()),
-            refusal: refusal(array_len, request),
+            part: Some(part_of(array_len, request)),
             ..ModelDriver::default()
         };
         self.turn()
@@ -133,7 +126,7 @@ impl Driver for ModelDriver {
 pub struct LibraryDriver {
     state: driver::State,
     payload: Vec<u8>,
-    staged: [u8; SLOT_LEN],
+    staged: [u8; SLOT_ROOM],
     frame: [u8; DRIVER_FRAME_LEN],
 }
 
@@ -143,7 +136,7 @@ impl LibraryDriver {
         LibraryDriver {
             state: [stale; driver::STATE_LEN],
             payload: Vec::new(),
-            staged: [stale; SLOT_LEN],
+            staged: [stale; SLOT_ROOM],
             frame: [stale; DRIVER_FRAME_LEN],
         }
     }

@@ -1,6 +1,8 @@
 //! Frames: the rows of the command table (4.2, 4.3), typed once more, and
 //! openings that it does not list.
 
+use at45db081d_model::Part;
+
 use crate::rng::Rng;
 
 /// An opcode or fixed opening, with the number of bytes before data.
@@ -79,13 +81,16 @@ pub const UNLISTED: [Row; 18] = [
     row(&[0xFF], 1),
 ];
 
-/// Lengths at the edges: around the leads, around a page, around the limit.
-pub const LENGTHS: [usize; 21] = [
-    0, 1, 2, 3, 4, 5, 6, 7, 8, 264, 265, 266, 267, 268, 269, 270, 271, 272, 1099, 1100, 1101,
+/// Lengths at the edges: around the leads, around a page of either size, around
+/// the limit.
+pub const LENGTHS: [usize; 25] = [
+    0, 1, 2, 3, 4, 5, 6, 7, 8, 256, 257, 260, 261, 264, 265, 266, 267, 268, 269, 270, 271, 272,
+    1099, 1100, 1101,
 ];
 
-/// Byte fields at the edges of a page and of the field.
-pub const BYTE_FIELDS: [u32; 7] = [0, 1, 262, 263, 264, 265, 511];
+/// The low nine bits of an address, at the edges of a page of either size and of
+/// the byte field.
+pub const BYTE_FIELDS: [u32; 11] = [0, 1, 254, 255, 256, 257, 262, 263, 264, 265, 511];
 
 /// The index in [`ROWS`] of the row that a frame's beginning names.
 pub fn row_of(frame: &[u8]) -> Option<usize> {
@@ -101,7 +106,7 @@ pub fn row_ending(byte: u8) -> usize {
 
 impl Row {
     /// Where the address stands, if the row has room for one.
-    fn address_place(&self) -> Option<usize> {
+    pub fn address_place(&self) -> Option<usize> {
         match (self.opening.len(), self.lead) {
             (1, 4..) => Some(1),
             (4, 7) => Some(4),
@@ -122,8 +127,10 @@ impl Row {
     }
 }
 
-/// An address with any bits above those that the part uses.
-pub fn address(rng: &mut Rng, page: usize, byte_field: u32, pages: usize) -> u32 {
-    let top = rng.below(32768 / pages) * pages;
-    ((page + top) as u32) << 9 | byte_field
+/// An address of a page of the part with any bits above those that the part
+/// uses; of the byte field as many bits as the part has for it.
+pub fn address(rng: &mut Rng, page: usize, byte_field: u32, part: Part) -> u32 {
+    let tops = (0x100_0000 >> part.byte_bits) / part.pages;
+    let top = rng.below(tops) * part.pages;
+    ((page + top) as u32) << part.byte_bits | byte_field & ((1 << part.byte_bits) - 1)
 }

@@ -9,8 +9,8 @@
 //! SLIPKNOLL_SEED=random_runs:short:1234 cargo test -p conformance --test library
 //! ```
 //!
-//! `short` or `full` is the part, the number is the case; of a random run it is
-//! the seed. The line to use is printed when a case fails.
+//! `short`, `short256`, `full` or `full256` is the part, the number is the case;
+//! of a random run it is the seed. The line to use is printed when a case fails.
 //!
 //! Beside the comparison: [`lists`] has the runs that do on compiled code what
 //! the theorems say, [`driving`] and [`replies`] the driver alone, and [`slips`]
@@ -23,6 +23,7 @@ pub mod frames;
 pub mod lists;
 pub mod mismatch;
 pub mod pair;
+pub mod parts;
 pub mod records;
 pub mod replies;
 pub mod request;

@@ -4,25 +4,27 @@ use std::collections::VecDeque;
 use std::ops::Range;
 
 use at45db081d_model::command::decode;
+use at45db081d_model::record::field;
 use at45db081d_model::{Chip, Operation, Outcome, Part, Record, RECORD_LEN};
 
 use crate::coverage::Coverage;
 use crate::device::Device;
 use crate::frames::{row_of, ROWS};
 use crate::mismatch::{difference, Mismatch};
+use crate::parts;
 use crate::records::operation_of;
 use crate::request::{CallStep, Request};
 use crate::rng::Rng;
 use crate::side::{inside, Side, GUARD};
 use crate::step::Step;
 
-/// Where the junk for registers ends; a cut makes all before it anew.
-const JUNK_HEAD: usize = 528 + 64;
+/// Where the junk for registers ends in any part; a cut makes all before it anew.
+const JUNK_HEAD: usize = Part::FULL.array_junk() + 64;
 
 /// How many steps are kept for a report.
 const REMEMBERED: usize = 12;
 
-/// In the full part the whole array is compared after each busy end and cut,
+/// In a full part the whole array is compared after each busy end and cut,
 /// and once in so many steps after the others; a call's own part of it always.
 pub const WHOLE_EVERY: u64 = 64;
 
@@ -47,7 +49,7 @@ pub struct Pair<'a> {
 impl<'a> Pair<'a> {
     pub fn new(part: Part, model: &'a mut dyn Device, subject: &'a mut dyn Device) -> Pair<'a> {
         let mut rng = Rng::new(part.pages as u64);
-        let mut pristine = vec![0; part.array_len() + 2 * GUARD];
+        let mut pristine = vec![0; parts::room(part) + 2 * GUARD];
         rng.fill(&mut pristine);
         let mut junk = vec![0; Part::FULL.junk_len() + GUARD];
         rng.fill(&mut junk);
@@ -118,8 +120,10 @@ impl<'a> Pair<'a> {
             self.coverage.count_answer(function, expected.answer);
             self.count_row(&step, expected.answer, &before);
         }
+        let part = step.array_len().and_then(Part::from_array_len);
         self.remember(step);
         self.compare(expected, outcome)?;
+        self.compare_spare(part, &before)?;
         Ok(expected)
     }
 
@@ -186,13 +190,21 @@ impl<'a> Pair<'a> {
     /// something stale.
     fn prepare(&mut self, step: &Step) {
         let junk = match *step {
-            Step::Cut { seed, register, .. } => Some((seed, register)),
-            Step::Call(ref call) if call.script.contains(&2) => Some((call.seed, call.register)),
+            Step::Cut {
+                array_len,
+                seed,
+                register,
+                ..
+            } => Some((array_len, seed, register)),
+            Step::Call(ref call) if call.script.contains(&2) => {
+                Some((call.array_len, call.seed, call.register))
+            }
             _ => None,
         };
-        if let Some((seed, register)) = junk {
+        if let Some((array_len, seed, register)) = junk {
             Rng::new(seed).fill(&mut self.junk[..JUNK_HEAD]);
-            self.junk[528] = register;
+            let part = Part::from_array_len(array_len).unwrap_or(self.part);
+            self.junk[part.array_junk()] = register;
         }
         let stale = (self.calls as u8).wrapping_mul(0x35);
         self.model.make_stale(step, stale);
@@ -254,6 +266,20 @@ impl<'a> Pair<'a> {
         }
     }
 
+    /// What the buffers have behind a page of the part is as it was, whatever the
+    /// model does.
+    fn compare_spare(&self, part: Option<Part>, before: &Record) -> Result<(), Mismatch> {
+        let after = &self.subject.record[inside(RECORD_LEN)];
+        let kept = [field::BUFFER_1, field::BUFFER_2].into_iter().all(|it| {
+            let spare = it.start + part.map_or(0, |part| part.page_size)..it.end;
+            part.is_none() || after[spare.clone()] == before[spare]
+        });
+        match kept {
+            true => Ok(()),
+            false => Err(self.mismatch("a buffer changed behind a page's bytes".into())),
+        }
+    }
+
     fn compare_replies(&self, name: &str, len: usize) -> Result<(), Mismatch> {
         let lent = ..len + 2 * GUARD;
         self.alike(name, &self.model.reply[lent], &self.subject.reply[lent])
@@ -272,7 +298,7 @@ impl<'a> Pair<'a> {
     }
 
     fn compare_arrays_now_and_then(&self) -> Result<(), Mismatch> {
-        if self.part == Part::SHORT || self.calls % WHOLE_EVERY == 0 {
+        if parts::is_short(self.part) || self.calls % WHOLE_EVERY == 0 {
             return self.compare_arrays();
         }
         Ok(())

@@ -1,11 +1,12 @@
 //! Compares two drivers under replies of a chip and replies from nowhere.
 
 use at45db081d_model::record::field;
-use at45db081d_model::slot::{with_recipe, MAX_RECIPE, SLOT_SIZE};
+use at45db081d_model::slot::store;
 use at45db081d_model::{Chip, Part};
 
 use crate::driving::{Driver, ModelDriver, Turn};
 use crate::lists::Broken;
+use crate::parts;
 use crate::records;
 use crate::request::Request;
 use crate::rng::Rng;
@@ -26,14 +27,10 @@ enum Source {
 /// Runs one case; hands back the number of frames that were compared.
 pub fn check(subject: &mut dyn Driver, seed: u64) -> Result<u64, Broken> {
     let mut rng = Rng::new(seed.wrapping_mul(0xA076_1D64_78BD_642F));
-    let part = if rng.one_in(20) {
-        Part::FULL
-    } else {
-        Part::SHORT
-    };
+    let part = parts::pick(&mut rng, 20);
     let request = any_request(&mut rng, part);
     let array_len = match rng.below(40) {
-        0 => rng.pick(&[0, 33_791, 33_793, 1_081_345, usize::MAX]),
+        0 => rng.pick(&[0, 32_769, 33_791, 33_793, 1_048_575, 1_081_345, usize::MAX]),
         _ => part.array_len(),
     };
     let mut source = source(&mut rng, part, &request);
@@ -108,12 +105,12 @@ fn any_request(rng: &mut Rng, part: Part) -> Request {
         _ => rng.pick(&[1, 2, 3, 5, 1000]),
     };
     match rng.below(40) {
-        0 => Request::put(slot, limit, vec![7; MAX_RECIPE + 1]),
+        0 => Request::put(slot, limit, vec![7; part.max_recipe() + 1]),
         1 => Request::patch(slot, limit, usize::MAX, vec![7]),
-        2 => Request::get(slot, limit, MAX_RECIPE - 1),
+        2 => Request::get(slot, limit, part.max_recipe() - 1),
         _ => {
             let kind = rng.below(SLOT_KINDS);
-            request(rng, kind, slot, limit)
+            request(rng, part, kind, slot, limit)
         }
     }
 }
@@ -129,10 +126,10 @@ fn source(rng: &mut Rng, part: Part, request: &Request) -> Source {
     }
     let mut array = vec![0xFF; part.array_len()];
     let slot = request.slot().unwrap_or(0);
-    if let Some(bytes) = array.chunks_exact_mut(SLOT_SIZE).nth(slot) {
-        let mut recipe = vec![0; rng.below(MAX_RECIPE + 1)];
+    if let Some(bytes) = array.chunks_exact_mut(part.slot_size()).nth(slot) {
+        let mut recipe = vec![0; rng.below(part.max_recipe() + 1)];
         rng.fill(&mut recipe);
-        bytes.copy_from_slice(&with_recipe(&recipe));
+        store(bytes, &recipe);
     }
     Source::Chip(Box::new(Chip::from_record(&record)), array)
 }
@@ -153,6 +150,9 @@ impl Source {
     }
 }
 
+/// Statuses of chips with pages of either size; none ends the call with 8.
+const STATUSES: [u8; 9] = [0xA4, 0xA6, 0xE4, 0x24, 0x66, 0xA5, 0xA7, 0x25, 0x67];
+
 /// Any bytes; mostly such that the driver goes on.
 fn from_nowhere(rng: &mut Rng, frame: &[u8]) -> Vec<u8> {
     let len = match rng.below(12) {
@@ -164,7 +164,7 @@ fn from_nowhere(rng: &mut Rng, frame: &[u8]) -> Vec<u8> {
     let mut reply = vec![0; len];
     rng.fill(&mut reply);
     match frame[0] {
-        0xD7 if !rng.one_in(10) => set(&mut reply, 1, &[rng.pick(&[0xA4, 0xA6, 0xE4, 0x24, 0x66])]),
+        0xD7 if !rng.one_in(10) => set(&mut reply, 1, &[rng.pick(&STATUSES)]),
         0x32 | 0x35 if !rng.one_in(4) => reply.fill(0x00),
         0xD2 if rng.one_in(2) => {
             let high = rng.below(10) as u8;

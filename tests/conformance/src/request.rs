@@ -184,7 +184,8 @@ pub struct CallStep {
     pub request: Request,
     pub script: Vec<u8>,
     pub junk_len: usize,
-    /// What the junk's beginning is made from, and its byte at index 528.
+    /// What the junk's beginning is made from, and the first byte of it that may
+    /// reach a register.
     pub seed: u64,
     pub register: u8,
     pub log_len: usize,
@@ -209,7 +210,7 @@ impl CallStep {
         CallStep { script, ..self }
     }
 
-    /// Junk made from this seed, with this byte at index 528.
+    /// Junk made from this seed, with this byte where a register's begins.
     pub fn with_junk(self, seed: u64, register: u8) -> CallStep {
         CallStep {
             seed,
@@ -222,7 +223,11 @@ impl CallStep {
 impl fmt::Display for CallStep {
     fn fmt(&self, f: &mut fmt::Formatter) -> fmt::Result {
         write!(f, "{}, script {}", self.request, runs(&self.script))?;
-        write!(f, ", junk {}, J[528] {:02X}", self.junk_len, self.register)?;
+        write!(
+            f,
+            ", junk {}, register's {:02X}",
+            self.junk_len, self.register
+        )?;
         write!(f, ", log {}, array {}", self.log_len, self.array_len)
     }
 }

@@ -11,6 +11,7 @@ use crate::coverage::Coverage;
 use crate::device::{Device, Model};
 use crate::mismatch::Mismatch;
 use crate::pair::{Pair, WHOLE_EVERY};
+use crate::parts;
 
 /// A numbered list of cases.
 #[derive(Clone, Copy)]
@@ -52,6 +53,14 @@ impl Cases {
         }
     }
 
+    /// Every case on the short parts, and one in about `rate` on the full ones.
+    pub fn on_every_part(scenario: &Scenario, rate: u64) -> [Cases; 4] {
+        parts::NAMED.map(|(_, part)| match rate {
+            2.. if !parts::is_short(part) => Cases::share(scenario, part, rate),
+            _ => Cases::all(scenario, part),
+        })
+    }
+
     fn numbers(self, total: u64) -> impl Iterator<Item = u64> {
         (0..self.count).map(move |i| (i as u128 * self.stride as u128 % total as u128) as u64)
     }
@@ -85,7 +94,7 @@ pub struct Failure {
 
 impl fmt::Display for Failure {
     fn fmt(&self, f: &mut fmt::Formatter) -> fmt::Result {
-        let part = part_name(self.part);
+        let part = parts::name(self.part);
         writeln!(
             f,
             "device and model differ: {} {part}:{}",
@@ -130,7 +139,7 @@ fn run_numbers(
     println!(
         "{} {}: {calls} steps compared in {:.1} s",
         scenario.name,
-        part_name(part),
+        parts::name(part),
         begin.elapsed().as_secs_f64()
     );
     Ok((calls, coverage))
@@ -192,21 +201,16 @@ pub fn runs_one_case() -> bool {
 /// Reads `SLIPKNOLL_SEED`: scenario, part and case.
 fn chosen_case() -> Option<(String, Part, u64)> {
     let text = env::var("SLIPKNOLL_SEED").ok()?;
-    let words: Vec<&str> = text.split(':').collect();
-    let chosen = match words[..] {
-        [name, "short", case] => case.parse().ok().map(|case| (Part::SHORT, name, case)),
-        [name, "full", case] => case.parse().ok().map(|case| (Part::FULL, name, case)),
-        _ => None,
-    };
-    let (part, name, case) =
-        chosen.expect("SLIPKNOLL_SEED is <scenario>:short:<number> or <scenario>:full:<number>");
-    Some((name.to_string(), part, case))
+    let chosen = chosen_in(&text);
+    let form =
+        "SLIPKNOLL_SEED is <scenario>:<part>:<number>, the part short, short256, full or full256";
+    Some(chosen.expect(form))
 }
 
-pub fn part_name(part: Part) -> &'static str {
-    if part == Part::SHORT {
-        "short"
-    } else {
-        "full"
+fn chosen_in(text: &str) -> Option<(String, Part, u64)> {
+    let words: Vec<&str> = text.split(':').collect();
+    match words[..] {
+        [name, part, case] => Some((name.into(), parts::named(part)?, case.parse().ok()?)),
+        _ => None,
     }
 }

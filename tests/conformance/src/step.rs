@@ -33,8 +33,8 @@ pub enum Step {
     MovePin {
         high: bool,
     },
-    /// A cut whose junk has a beginning made from `seed` and `register` at
-    /// index 528.
+    /// A cut whose junk has a beginning made from `seed`, and `register` where a
+    /// register's begins.
     Cut {
         array_len: usize,
         junk_len: usize,
@@ -60,6 +60,17 @@ impl Step {
             array_len,
             frame,
             reply_len,
+        }
+    }
+
+    /// The length of the array that the step is lent for a chip that is there.
+    pub fn array_len(&self) -> Option<usize> {
+        match self {
+            Step::Send { array_len, .. }
+            | Step::EndBusy { array_len }
+            | Step::Cut { array_len, .. } => Some(*array_len),
+            Step::Call(call) => Some(call.array_len),
+            _ => None,
         }
     }
 
@@ -109,7 +120,7 @@ impl fmt::Display for Step {
                 ..
             } => write!(
                 f,
-                "cut, junk {junk_len}, J[528] {register:02X}, array {array_len}"
+                "cut, junk {junk_len}, register's {register:02X}, array {array_len}"
             ),
         }
     }

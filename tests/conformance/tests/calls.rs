@@ -10,7 +10,6 @@
 use std::io::Write;
 use std::time::Instant;
 
-use at45db081d_model::Part;
 use conformance::request::{ANSWERS, KINDS};
 use conformance::runner::runs_one_case;
 use conformance::scenarios::CALLS;
@@ -18,21 +17,18 @@ use conformance::step::CHIP_FUNCTIONS;
 use conformance::{run_cases, Cases, Coverage, Device, Library};
 
 /// Calls of each kind that are compared at least: 95 in 100 of those that are.
-const LEAST: [u64; KINDS.len()] = [59_000, 71_000, 100_000, 54_000, 60_000];
+const LEAST: [u64; KINDS.len()] = [131_000, 158_000, 227_000, 109_000, 134_000];
 
 /// Says something even when the test passes.
 fn say(line: &str) {
     writeln!(std::io::stdout(), "{line}").expect("standard output");
 }
 
-/// Runs every scenario on both parts.
+/// Runs every scenario on every part.
 fn compare(subject: &mut dyn Device) -> Coverage {
     let mut reached = Coverage::default();
     for (scenario, rate) in CALLS {
-        for cases in [
-            Cases::all(&scenario, Part::SHORT),
-            Cases::share(&scenario, Part::FULL, rate),
-        ] {
+        for cases in Cases::on_every_part(&scenario, rate) {
             let (_, coverage) =
                 run_cases(&scenario, cases, subject).unwrap_or_else(|failure| panic!("{failure}"));
             reached.add(&coverage);

@@ -128,18 +128,14 @@ impl Device for Faulty {
     fn cut(&mut self, record: &mut Record, array: &mut [u8], junk: &[u8]) -> u8 {
         let before = *record;
         let mut junk = junk.to_vec();
-        let fits = [Part::SHORT, Part::FULL]
-            .map(Part::junk_len)
-            .contains(&junk.len());
+        let fits = Part::ALL.map(Part::junk_len).contains(&junk.len());
         if self.0 == Fault::CutTestsJunkFirst && !fits {
             return answer::SCRIPT;
         }
-        if self.0 == Fault::CutLocksLate && junk.get(528) == Some(&0x80) {
-            junk[528] = if before[field::TAG] == tag::LOCK_SECTOR {
-                0
-            } else {
-                0x80
-            };
+        let at = Part::from_array_len(array.len()).map_or(0, Part::array_junk);
+        let locks = before[field::TAG] == tag::LOCK_SECTOR;
+        if self.0 == Fault::CutLocksLate && locks && junk.get(at) == Some(&0x80) {
+            junk[at] = 0;
         }
         self.spoil_sectors(record);
         let answer = Model.cut(record, array, &junk);
@@ -244,14 +240,14 @@ fn tidy_marks(record: &mut Record) {
     }
 }
 
-/// Runs a share of every scenario on the short part; the first failure.
-fn first_failure(fault: Fault) -> Option<Failure> {
+/// Runs a share of every scenario on a short part; the first failure.
+fn first_failure(part: Part, fault: Fault) -> Option<Failure> {
     scenarios::ALL.iter().find_map(|scenario| {
-        let rate = match (scenario.cases)(Part::SHORT) {
+        let rate = match (scenario.cases)(part) {
             1_000..=40_000 => 5,
             _ => 100,
         };
-        let cases = Cases::share(scenario, Part::SHORT, rate);
+        let cases = Cases::share(scenario, part, rate);
         run_cases(scenario, cases, &mut Faulty(fault)).err()
     })
 }
@@ -261,12 +257,15 @@ fn harness_notices_faults() {
     if runs_one_case() {
         return;
     }
-    if let Some(failure) = first_failure(Fault::None) {
-        panic!("the model differs from itself: {failure}");
-    }
-    for fault in FAULTS {
-        let failure = first_failure(fault).unwrap_or_else(|| panic!("{fault:?} not noticed"));
-        let (scenario, case) = (failure.scenario, failure.case);
-        println!("{fault:?}: {scenario} {case}: {}", failure.mismatch.what);
+    for part in [Part::SHORT, Part::SHORT_256] {
+        if let Some(failure) = first_failure(part, Fault::None) {
+            panic!("the model differs from itself: {failure}");
+        }
+        for fault in FAULTS {
+            let failure = first_failure(part, fault);
+            let failure = failure.unwrap_or_else(|| panic!("{fault:?} not noticed"));
+            let (scenario, case) = (failure.scenario, failure.case);
+            println!("{fault:?}: {scenario} {case}: {}", failure.mismatch.what);
+        }
     }
 }

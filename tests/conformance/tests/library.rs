@@ -10,7 +10,6 @@
 use std::io::Write;
 
 use at45db081d_model::record::tag;
-use at45db081d_model::Part;
 use conformance::frames::ROWS;
 use conformance::records::OPERATIONS;
 use conformance::runner::runs_one_case;
@@ -18,13 +17,14 @@ use conformance::{run_cases, scenarios, Cases, Coverage, Library, Scenario};
 
 /// The steps that each test compares at least: 95 in 100 of those that it does.
 mod least {
-    pub const ROWS: u64 = 606_000;
-    pub const SEALS: u64 = 468_000;
-    pub const ADDRESSES: u64 = 161_000;
-    pub const BUSY_ENDS: u64 = 155_000;
-    pub const CALLER_RECORDS: u64 = 77_000;
-    pub const REFUSALS: u64 = 142_000;
-    pub const RANDOM_RUNS: u64 = 754_000;
+    pub const ROWS: u64 = 1_445_000;
+    pub const SEALS: u64 = 936_000;
+    pub const ADDRESSES: u64 = 866_000;
+    pub const BUSY_ENDS: u64 = 311_000;
+    pub const CALLER_RECORDS: u64 = 154_000;
+    pub const REFUSALS: u64 = 447_000;
+    pub const OTHER_PARTS: u64 = 86_000;
+    pub const RANDOM_RUNS: u64 = 1_507_000;
 }
 
 /// Says something even when the test passes.
@@ -32,15 +32,11 @@ fn say(line: &str) {
     writeln!(std::io::stdout(), "{line}").expect("standard output");
 }
 
-/// Runs the cases against the library; on each part what they reached is
-/// handed back, or None if one case was run alone.
-fn compare<const N: usize>(
-    scenario: Scenario,
-    cases: [Cases; N],
-    least: u64,
-) -> Option<[Coverage; N]> {
+/// Runs a scenario against the library, on the full parts one case in `rate`; on
+/// each part what they reached is handed back, or None if one case was run alone.
+fn compare(scenario: Scenario, rate: u64, least: u64) -> Option<[Coverage; 4]> {
     let mut calls = 0;
-    let coverage = cases.map(|cases| {
+    let coverage = Cases::on_every_part(&scenario, rate).map(|cases| {
         let (more, coverage) =
             run_cases(&scenario, cases, &mut Library).unwrap_or_else(|failure| panic!("{failure}"));
         calls += more;
@@ -71,24 +67,21 @@ fn may_be_obeyed(opening: &[u8], (tag, buffer): (u8, u8)) -> bool {
 
 #[test]
 fn every_row_under_every_operation() {
-    let scenario = scenarios::ROWS;
-    let cases = [
-        Cases::all(&scenario, Part::SHORT),
-        Cases::share(&scenario, Part::FULL, 10),
-    ];
-    let reached = match compare(scenario, cases, least::ROWS) {
+    let reached = match compare(scenarios::ROWS, 10, least::ROWS) {
         Some(reached) => reached,
         None => return,
     };
     for (i, row) in ROWS.iter().enumerate() {
         for (j, &operation) in OPERATIONS.iter().enumerate() {
             let case = format!("{:02X?} under {operation:02X?}", row.opening);
-            let count = reached[0].rows[i][j];
             let expected = may_be_obeyed(row.opening, operation);
-            assert_eq!(count.obeyed > 0, expected, "obeyed: {case}");
             // AB wakes an idle chip whatever else holds.
             let always = row.opening == [0xAB] && operation.0 == tag::IDLE;
-            assert_eq!(count.ignored > 0, !always, "ignored: {case}");
+            // On the short parts, which have every case.
+            for count in reached[..2].iter().map(|reached| reached.rows[i][j]) {
+                assert_eq!(count.obeyed > 0, expected, "obeyed: {case}");
+                assert_eq!(count.ignored > 0, !always, "ignored: {case}");
+            }
         }
         for reached in &reached {
             assert!(reached.obeyed(i) > 0, "{:02X?} never obeyed", row.opening);
@@ -99,42 +92,22 @@ fn every_row_under_every_operation() {
 
 #[test]
 fn every_seal_of_every_sector() {
-    let scenario = scenarios::SEALS;
-    let cases = [
-        Cases::all(&scenario, Part::SHORT),
-        Cases::all(&scenario, Part::FULL),
-    ];
-    compare(scenario, cases, least::SEALS);
+    compare(scenarios::SEALS, 1, least::SEALS);
 }
 
 #[test]
 fn every_address_edge() {
-    let scenario = scenarios::ADDRESSES;
-    let cases = [
-        Cases::all(&scenario, Part::SHORT),
-        Cases::share(&scenario, Part::FULL, 4),
-    ];
-    compare(scenario, cases, least::ADDRESSES);
+    compare(scenarios::ADDRESSES, 4, least::ADDRESSES);
 }
 
 #[test]
 fn every_busy_end_and_cut() {
-    let scenario = scenarios::BUSY_ENDS;
-    let cases = [
-        Cases::all(&scenario, Part::SHORT),
-        Cases::share(&scenario, Part::FULL, 8),
-    ];
-    compare(scenario, cases, least::BUSY_ENDS);
+    compare(scenarios::BUSY_ENDS, 8, least::BUSY_ENDS);
 }
 
 #[test]
 fn every_tag_of_a_callers_record() {
-    let scenario = scenarios::CALLER_RECORDS;
-    let cases = [
-        Cases::all(&scenario, Part::SHORT),
-        Cases::all(&scenario, Part::FULL),
-    ];
-    let reached = match compare(scenario, cases, least::CALLER_RECORDS) {
+    let reached = match compare(scenarios::CALLER_RECORDS, 1, least::CALLER_RECORDS) {
         Some(reached) => reached,
         None => return,
     };
@@ -149,12 +122,7 @@ fn every_tag_of_a_callers_record() {
 
 #[test]
 fn every_length_refused() {
-    let scenario = scenarios::REFUSALS;
-    let cases = [
-        Cases::all(&scenario, Part::SHORT),
-        Cases::share(&scenario, Part::FULL, 10),
-    ];
-    let reached = match compare(scenario, cases, least::REFUSALS) {
+    let reached = match compare(scenarios::REFUSALS, 10, least::REFUSALS) {
         Some(reached) => reached,
         None => return,
     };
@@ -167,14 +135,22 @@ fn every_length_refused() {
     }
 }
 
+/// The full parts' pairs have room for every part.
+#[test]
+fn operations_met_by_other_parts() {
+    let reached = match compare(scenarios::OTHER_PARTS, 1, least::OTHER_PARTS) {
+        Some(reached) => reached,
+        None => return,
+    };
+    for reached in &reached[2..] {
+        let answers = [1, 2, 4].map(|call| reached.answers_of(call));
+        assert_eq!(answers, [vec![0, 1], vec![0, 1], vec![0, 1, 7]]);
+    }
+}
+
 #[test]
 fn random_runs() {
-    let scenario = scenarios::RANDOM_RUN;
-    let cases = [
-        Cases::all(&scenario, Part::SHORT),
-        Cases::all(&scenario, Part::FULL),
-    ];
-    let reached = match compare(scenario, cases, least::RANDOM_RUNS) {
+    let reached = match compare(scenarios::RANDOM_RUN, 1, least::RANDOM_RUNS) {
         Some(reached) => reached,
         None => return,
     };

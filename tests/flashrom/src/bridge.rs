@@ -1,7 +1,7 @@
 //! One SPI transaction is one frame of the chip.
 
-use crate::device::{Device, ARRAY_LEN};
-use slipknoll::{Chip, Error, FACTORY_LEN};
+use crate::device::Device;
+use slipknoll::{Chip, Error, Part, FACTORY_LEN};
 
 /// The longest frame that the chip takes.
 pub const FRAME_MAX: usize = 1100;
@@ -64,8 +64,9 @@ impl std::fmt::Display for Traffic {
     }
 }
 
-/// A chip of the full part, the memory lent to it, and its bus.
+/// A chip of a full part, the memory lent to it, and its bus.
 pub struct Bridge<'a> {
+    pub part: Part,
     device: &'a mut dyn Device,
     chip: Chip,
     array: Vec<u8>,
@@ -79,10 +80,11 @@ pub struct Bridge<'a> {
 
 impl<'a> Bridge<'a> {
     /// A bridge to a fresh chip.
-    pub fn new(device: &'a mut dyn Device) -> Bridge<'a> {
-        let mut array = vec![0; ARRAY_LEN];
-        let chip = Chip::fresh(&[0; FACTORY_LEN], &mut array).expect("a fresh full part");
+    pub fn new(device: &'a mut dyn Device, part: Part) -> Bridge<'a> {
+        let mut array = vec![0; part.array_len()];
+        let chip = Chip::fresh(&[0; FACTORY_LEN], &mut array).expect("a fresh part");
         Bridge {
+            part,
             device,
             chip,
             array,

@@ -1,13 +1,6 @@
 //! What stands behind the bridge: a chip, and the slot driver above it.
 
-use slipknoll::{log_len, Chip, Error, Run, RECIPE_MAX};
-
-/// Bytes of a page.
-pub const PAGE_LEN: usize = 264;
-/// Pages of the full part.
-pub const PAGES: usize = 4096;
-/// Bytes of the full part's array.
-pub const ARRAY_LEN: usize = PAGES * PAGE_LEN;
+use slipknoll::{log_len, Chip, Error, Run, SLOT_ROOM};
 
 /// The poll limit of a call: an empty script ends each busy period at once.
 const POLL_LIMIT: usize = 1;
@@ -68,7 +61,7 @@ impl Device for Library {
 
     fn get(&mut self, chip: &mut Chip, array: &mut [u8], slot: usize) -> Result<Vec<u8>, Error> {
         let mut log = [0; log_len::get(POLL_LIMIT)];
-        let mut buffer = [0; RECIPE_MAX];
+        let mut buffer = [0; SLOT_ROOM];
         let mut run = Run::new(&mut log);
         let recipe = chip.get(array, slot, POLL_LIMIT, &mut buffer, &mut run)?;
         Ok(recipe.to_vec())

@@ -1,28 +1,29 @@
 //! What flashrom writes.
 
-use crate::device::{ARRAY_LEN, PAGE_LEN};
 use conformance::Rng;
+use slipknoll::Part;
 
-/// The longest stretch of one kind.
-const STRETCH_MAX: usize = 40 * PAGE_LEN;
+/// Pages of the longest stretch of one kind.
+const STRETCH_PAGES: usize = 40;
 
 /// The image that is written to an erased array.
-pub fn written() -> Vec<u8> {
-    random(0)
+pub fn written(part: Part) -> Vec<u8> {
+    random(part, 0)
 }
 
 /// The image that is then written over what is there, by one of the erases.
-pub fn overwritten(erase: usize) -> Vec<u8> {
-    random(1 + erase as u64)
+pub fn overwritten(part: Part, erase: usize) -> Vec<u8> {
+    random(part, 1 + erase as u64)
 }
 
 /// An image of erased and of programmed stretches, of any length and at any
 /// place in a page: random bytes, zeros, and erased ones with a few others.
-pub fn random(seed: u64) -> Vec<u8> {
+pub fn random(part: Part, seed: u64) -> Vec<u8> {
     let mut rng = Rng::new(seed);
-    let mut image = Vec::with_capacity(ARRAY_LEN);
-    while image.len() < ARRAY_LEN {
-        let most = STRETCH_MAX.min(ARRAY_LEN - image.len());
+    let mut image = Vec::with_capacity(part.array_len());
+    while image.len() < part.array_len() {
+        let rest = part.array_len() - image.len();
+        let most = rest.min(STRETCH_PAGES * part.page_len());
         let mut stretch = vec![0xFF; 1 + rng.below(most)];
         match rng.below(5) {
             0 | 1 => rng.fill(&mut stretch),
@@ -41,9 +42,9 @@ pub fn random(seed: u64) -> Vec<u8> {
 }
 
 /// The number of pages that are not erased.
-pub fn programmed_pages(image: &[u8]) -> u64 {
+pub fn programmed_pages(part: Part, image: &[u8]) -> u64 {
     let erased = |page: &&[u8]| page.iter().all(|&byte| byte == 0xFF);
-    let pages = image.chunks(PAGE_LEN);
+    let pages = image.chunks(part.page_len());
     pages.filter(|page| !erased(page)).count() as u64
 }
 
@@ -56,11 +57,8 @@ pub fn compare(what: &str, found: &[u8], expected: &[u8]) -> Result<(), String> 
     match found.iter().zip(expected).position(|(x, y)| x != y) {
         None => Ok(()),
         Some(at) => Err(format!(
-            "{what}: byte {at} (page {}, byte {}) is {:02X} instead of {:02X}",
-            at / PAGE_LEN,
-            at % PAGE_LEN,
-            found[at],
-            expected[at]
+            "{what}: byte {at} is {:02X} instead of {:02X}",
+            found[at], expected[at]
         )),
     }
 }
@@ -72,14 +70,22 @@ mod tests {
     /// The images have pages that are erased, full and both.
     #[test]
     fn all_kinds_of_pages() {
-        for image in (0..5).map(random) {
-            assert_eq!(image.len(), ARRAY_LEN);
-            let erased = |page: &[u8]| page.iter().filter(|&&byte| byte == 0xFF).count();
-            let counts: Vec<_> = image.chunks(PAGE_LEN).map(erased).collect();
-            let number = |test: fn(usize) -> bool| counts.iter().filter(|&&n| test(n)).count();
-            assert!(number(|n| n == PAGE_LEN) > 500, "erased");
-            assert!(number(|n| n < 16) > 500, "full");
-            assert!(number(|n| (16..PAGE_LEN).contains(&n)) > 100, "both");
+        for part in [Part::Full, Part::Full256] {
+            for seed in 0..5 {
+                kinds_of_pages(part, &random(part, seed));
+            }
         }
+    }
+
+    fn kinds_of_pages(part: Part, image: &[u8]) {
+        assert_eq!(image.len(), part.array_len());
+        let erased = |page: &[u8]| page.iter().filter(|&&byte| byte == 0xFF).count();
+        let counts: Vec<_> = image.chunks(part.page_len()).map(erased).collect();
+        let number = |kind: std::ops::RangeInclusive<usize>| {
+            counts.iter().filter(|count| kind.contains(count)).count()
+        };
+        assert!(number(part.page_len()..=part.page_len()) > 500, "erased");
+        assert!(number(0..=15) > 500, "full");
+        assert!(number(16..=part.page_len() - 1) > 100, "both");
     }
 }

@@ -6,7 +6,7 @@
 //! protocol; each SPI transaction becomes one frame of the chip. [`session`]
 //! is what the tests have flashrom do.
 //!
-//! flashrom 1.3 knows the chip by 9F and D7, looks at its seals by 32 and 35,
+//! flashrom 1.3 knows the chip by 9F and D7 (bit 0 tells it the page size), looks at its seals by 32 and 35,
 //! clears the protect mark by 3D 2A 7F 9A, reads by 03, erases by 81 (or by
 //! 50, 7C or C7 94 80 9A where it can't), writes by 84 and 88, and polls by D7.
 //!

@@ -5,9 +5,8 @@
 
 use crate::bridge::{Bridge, FRAME_MAX};
 use crate::client::{self, Run};
-use crate::device::{ARRAY_LEN, PAGES};
 use crate::image::{self, compare};
-use crate::slots::{self, RECIPE_MAX, SLOT_LEN};
+use crate::slots;
 use conformance::Rng;
 use slipknoll::Error;
 use std::ffi::OsStr;
@@ -93,36 +92,38 @@ impl<'b, 'a> Session<'b, 'a> {
     }
 
     fn take(&mut self, step: Step) -> Result<(), String> {
+        let part = self.bridge.part;
         match step {
             Step::Probe => self.probe(),
-            Step::Write => self.write_fresh(&image::written()),
-            Step::Read => self.read(&image::written()),
-            Step::Verify => self.verify(&image::written()),
-            Step::Overwrite(erase) => self.overwrite(&image::overwritten(erase), erase),
+            Step::Write => self.write_fresh(&image::written(part)),
+            Step::Read => self.read(&image::written(part)),
+            Step::Verify => self.verify(&image::written(part)),
+            Step::Overwrite(erase) => self.overwrite(&image::overwritten(part, erase), erase),
             Step::Erase => self.erase(),
             Step::Put => self.put(),
             Step::Get => self.get(),
         }
     }
 
-    /// flashrom finds the chip by its name, with 4,096 pages of 264 bytes.
+    /// flashrom finds the chip by its name, with 4,096 pages of 264 or 256 bytes:
+    /// which of them, it reads in the status.
     fn probe(&mut self) -> Result<(), String> {
+        let part = self.bridge.part;
         let run = self.flashrom(&["-VV".as_ref()])?;
-        says(&run, "page size 264 B")?;
-        says(
-            &run,
-            "Found Atmel flash chip \"AT45DB081D\" (1056 kB, SPI) on serprog.",
-        )?;
+        says(&run, &format!("page size {} B", part.page_len()))?;
+        let size = part.array_len() / 1024;
+        let found = format!("Found Atmel flash chip \"AT45DB081D\" ({size} kB, SPI) on serprog.");
+        says(&run, &found)?;
         says(&run, "No Sector is locked.")?;
         let run = self.flashrom(&["--flash-size".as_ref()])?;
-        says(&run, &format!("\n{ARRAY_LEN}\n"))
+        says(&run, &format!("\n{}\n", part.array_len()))
     }
 
     /// Writes an image to an erased array: each page that it programs once,
     /// and nothing erased.
     fn write_fresh(&mut self, image: &[u8]) -> Result<(), String> {
         let run = self.write(image)?;
-        let programmed = image::programmed_pages(image);
+        let programmed = image::programmed_pages(self.bridge.part, image);
         counts(&run, &[(0x84, programmed), (0x88, programmed)])?;
         counts(&run, &ERASES.map(|erase| (erase, 0)))
     }
@@ -174,24 +175,26 @@ impl<'b, 'a> Session<'b, 'a> {
     /// Erases the whole part, page by page.
     fn erase(&mut self) -> Result<(), String> {
         let run = self.flashrom(&["-E".as_ref()])?;
-        compare("the array", self.bridge.array(), &[0xFF; ARRAY_LEN])?;
-        counts(&run, &[(0x81, PAGES as u64)])
+        let part = self.bridge.part;
+        let erased = vec![0xFF; part.array_len()];
+        compare("the array", self.bridge.array(), &erased)?;
+        counts(&run, &[(0x81, part.pages() as u64)])
     }
 
     /// Recipes that are put in slots are found there by flashrom, alone and in
     /// a copy of everything.
     fn put(&mut self) -> Result<(), String> {
+        let part = self.bridge.part;
         let mut expected = self.bridge.array().to_vec();
         let mut rng = Rng::new(9);
         // The first slot, one that is put twice, and the last.
-        for (slot, len) in [(0, 2), (300, RECIPE_MAX), (300, 0), (511, 700)] {
+        for (slot, len) in [(0, 2), (300, part.recipe_max()), (300, 0), (511, 700)] {
             let mut recipe = vec![0; len];
             rng.fill(&mut recipe);
             let result = self.bridge.put(slot, &recipe);
             result.map_err(|error| format!("put into slot {slot}: {error}"))?;
-            let stored = slots::stored(&recipe);
-            let begin = slot * SLOT_LEN;
-            expected[begin..begin + SLOT_LEN].copy_from_slice(&stored);
+            let stored = slots::stored(part, &recipe);
+            expected[slot * part.slot_len()..][..part.slot_len()].copy_from_slice(&stored);
             compare(&format!("slot {slot}"), &self.read_slot(slot)?, &stored)?;
         }
         self.read(&expected)
@@ -200,15 +203,17 @@ impl<'b, 'a> Session<'b, 'a> {
     /// Recipes that flashrom writes into slots are read by a get; a slot that it
     /// leaves erased is blank.
     fn get(&mut self) -> Result<(), String> {
+        let part = self.bridge.part;
         let mut image = self.bridge.array().to_vec();
+        let mut slots: Vec<&mut [u8]> = image.chunks_mut(part.slot_len()).collect();
         let mut rng = Rng::new(10);
-        let recipes = [(5, 2), (299, RECIPE_MAX), (510, 0)].map(|(slot, len)| {
+        let recipes = [(5, 2), (299, part.recipe_max()), (510, 0)].map(|(slot, len)| {
             let mut recipe = vec![0; len];
             rng.fill(&mut recipe);
-            image[slot * SLOT_LEN..][..SLOT_LEN].copy_from_slice(&slots::stored(&recipe));
+            slots[slot].copy_from_slice(&slots::stored(part, &recipe));
             (slot, Ok(recipe))
         });
-        image[4 * SLOT_LEN..][..SLOT_LEN].fill(0xFF);
+        slots[4].fill(0xFF);
         self.write(&image)?;
         for (slot, expected) in recipes.into_iter().chain([(4, Err(Error::Blank))]) {
             let got = self.bridge.get(slot);
@@ -222,7 +227,8 @@ impl<'b, 'a> Session<'b, 'a> {
 
     /// Has flashrom read one slot, by a layout that says where it lies.
     fn read_slot(&mut self, slot: usize) -> Result<Vec<u8>, String> {
-        let (begin, end) = (slot * SLOT_LEN, (slot + 1) * SLOT_LEN);
+        let len = self.bridge.part.slot_len();
+        let (begin, end) = (slot * len, (slot + 1) * len);
         let line = format!("{begin:x}:{:x} slot\n", end - 1);
         let layout = self.save("layout.txt", line.as_bytes())?;
         let file = self.directory.join("slot.bin");

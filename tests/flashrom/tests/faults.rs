@@ -1,13 +1,14 @@
 //! Shows that the steps notice faults: the proved library but for one slip.
 
-use flashrom::device::PAGE_LEN;
 use flashrom::session::{Step, ERASES};
 use flashrom::{image, Bridge, Device, Failure, Library, Session};
-use slipknoll::{Chip, Error};
+use slipknoll::{Chip, Error, Part};
 use std::path::Path;
 
 /// A byte that the first image leaves erased.
-const BYTE: usize = 1000 * PAGE_LEN + 77;
+fn byte(part: Part) -> usize {
+    1000 * part.page_len() + 77
+}
 
 /// The record's byte that tells which operation is under way, and the tag of
 /// an 88; the tag of an erase is its opcode.
@@ -19,8 +20,8 @@ enum Fault {
     None,
     /// 9F names another chip.
     AnotherName,
-    /// The status says that pages have 256 bytes.
-    PowerOfTwo,
+    /// The status says that pages have the other size.
+    AnotherPageSize,
     /// One bit of one byte is read the wrong way.
     FlippedBit,
     /// The same, but only when it is first read.
@@ -60,15 +61,16 @@ impl Device for Faulty {
         let mut frame = frame.to_vec();
         let names_page = [0x03, 0x81, 0x88].contains(&frame[0]) && frame.len() >= 4;
         if self.0 == Fault::NextPage && names_page {
-            let next = u16::from_be_bytes([frame[1], frame[2]]).wrapping_add(2);
+            let pages = u16::from_be_bytes([frame[1], frame[2]]);
+            let next = pages.wrapping_add(address_of_page(part_of(array), 1) as u16 / 256);
             frame[1..3].copy_from_slice(&next.to_be_bytes());
         }
         let result = Library.send(chip, array, &frame, reply);
         match self.0 {
             Fault::AnotherName if frame[0] == 0x9F => reply[2] = 0x26,
-            Fault::PowerOfTwo if frame[0] == 0xD7 => reply[1] |= 1,
+            Fault::AnotherPageSize if frame[0] == 0xD7 => reply[1] ^= 1,
             Fault::FlippedBit | Fault::FlippedOnce if frame[0] == 0x03 => {
-                let flipped = flip(&frame, reply);
+                let flipped = flip(part_of(array), &frame, reply);
                 if flipped && self.0 == Fault::FlippedOnce {
                     self.0 = Fault::None;
                 }
@@ -86,7 +88,7 @@ impl Device for Faulty {
                 keeping(array, page, |array| Library.end_busy(chip, array))
             }
             Fault::StrayProgram if tag == PROGRAM_OVER => {
-                array[BYTE] &= 0xFE;
+                array[byte(part_of(array))] &= 0xFE;
                 Library.end_busy(chip, array)
             }
             _ => Library.end_busy(chip, array),
@@ -119,26 +121,47 @@ impl Device for Faulty {
 
 /// Does something to the array, but for one page.
 fn keeping<T>(array: &mut [u8], page: usize, something: impl FnOnce(&mut [u8]) -> T) -> T {
-    let page = page * PAGE_LEN..(page + 1) * PAGE_LEN;
+    let len = part_of(array).page_len();
+    let page = page * len..(page + 1) * len;
     let before = array[page.clone()].to_vec();
     let result = something(array);
     array[page].copy_from_slice(&before);
     result
 }
 
-/// Flips a bit of the byte at `BYTE`, if this read reaches it; says so.
-fn flip(frame: &[u8], reply: &mut [u8]) -> bool {
+fn part_of(array: &[u8]) -> Part {
+    Part::from_array_len(array.len()).expect("a part")
+}
+
+/// The address of a page's first byte.
+fn address_of_page(part: Part, page: usize) -> usize {
+    match part.page_len() {
+        256 => page * 256,
+        _ => page * 512,
+    }
+}
+
+/// Flips a bit of the byte at `byte`, if this read reaches it; says so.
+fn flip(part: Part, frame: &[u8], reply: &mut [u8]) -> bool {
     let address = u32::from_be_bytes([0, frame[1], frame[2], frame[3]]) as usize;
-    let begin = address / 512 * PAGE_LEN + address % 512;
-    let place = (4 + BYTE).checked_sub(begin).filter(|place| *place >= 4);
+    let apart = address_of_page(part, 1);
+    let begin = address / apart * part.page_len() + address % apart;
+    let place = (4 + byte(part))
+        .checked_sub(begin)
+        .filter(|place| *place >= 4);
     let byte = place.and_then(|place| reply.get_mut(place));
     byte.map(|byte| *byte ^= 0x10).is_some()
 }
 
-/// Takes the steps with a fault; how the last of them fails.
+/// Takes the steps with a fault, with pages of 264 bytes; how the last of them
+/// fails.
 fn failure(name: &str, fault: Fault, steps: &[Step]) -> Failure {
+    failure_on(Part::Full, name, fault, steps)
+}
+
+fn failure_on(part: Part, name: &str, fault: Fault, steps: &[Step]) -> Failure {
     let mut device = Faulty(fault);
-    failure_over(name, &mut Bridge::new(&mut device), steps)
+    failure_over(name, &mut Bridge::new(&mut device, part), steps)
 }
 
 /// Takes the steps over a bridge; how the last of them fails.
@@ -158,9 +181,49 @@ fn another_name() {
 }
 
 #[test]
-fn power_of_two() {
-    let failure = failure("power-of-two", Fault::PowerOfTwo, &[Step::Probe]);
-    assert!(failure.why.contains("\"page size 264 B\""));
+fn another_page_size() {
+    for (part, name, words) in [
+        (Part::Full, "said-to-have-256", "\"page size 264 B\""),
+        (Part::Full256, "said-to-have-264", "\"page size 256 B\""),
+    ] {
+        let failure = failure_on(part, name, Fault::AnotherPageSize, &[Step::Probe]);
+        assert!(failure.why.contains(words), "{failure}");
+    }
+}
+
+/// The faults that have to do with places, with pages of 256 bytes.
+#[test]
+fn places_with_pages_of_256() {
+    for (name, fault, step, words) in [
+        ("flipped-bit-256", Fault::FlippedBit, Step::Write, ""),
+        (
+            "next-page-256",
+            Fault::NextPage,
+            Step::Write,
+            "the array: byte ",
+        ),
+        (
+            "next-slot-256",
+            Fault::NextSlot,
+            Step::Put,
+            "slot 0: byte 0 ",
+        ),
+        (
+            "short-put-256",
+            Fault::ShortPut,
+            Step::Put,
+            "slot 0: byte 1792 ",
+        ),
+        (
+            "gets-next-256",
+            Fault::GetsNextSlot,
+            Step::Get,
+            "get of slot 5: Err(Blank)",
+        ),
+    ] {
+        let failure = failure_on(Part::Full256, name, fault, &[step]);
+        assert!(failure.why.starts_with(words), "{failure}");
+    }
 }
 
 #[test]
@@ -232,10 +295,11 @@ fn page_left(name: &str, erase: usize) {
 
 /// A page that this overwriting has to erase.
 fn page_to_erase(erase: usize) -> usize {
-    let [before, after] = [image::written(), image::overwritten(erase)];
+    let part = Part::Full;
+    let [before, after] = [image::written(part), image::overwritten(part, erase)];
     let mut bytes = before.iter().zip(&after);
     let place = bytes.position(|(before, after)| before & after != *after);
-    place.expect("such a page") / PAGE_LEN
+    place.expect("such a page") / part.page_len()
 }
 
 #[test]
@@ -265,7 +329,7 @@ fn gets_next_slot() {
 #[test]
 fn long_reads() {
     let mut library = Library;
-    let mut bridge = Bridge::new(&mut library);
+    let mut bridge = Bridge::new(&mut library, Part::Full);
     bridge.data_max += 1;
     let failure = failure_over("long-reads", &mut bridge, &[Step::Write]);
     assert!(failure.why.contains("error sending read command"));
@@ -275,7 +339,7 @@ fn long_reads() {
 #[test]
 fn short_reads() {
     let mut library = Library;
-    let mut bridge = Bridge::new(&mut library);
+    let mut bridge = Bridge::new(&mut library, Part::Full);
     bridge.data_max -= 1;
     let failure = failure_over("short-reads", &mut bridge, &[Step::Write, Step::Read]);
     assert_eq!(failure.why, "the longest frame has 1099 bytes");

@@ -1,6 +1,7 @@
 //! The bridge by itself: commands of the protocol, and their answers.
 
 use flashrom::{serprog, Bridge, Library};
+use slipknoll::Part;
 use std::io::{self, Cursor, Read, Write};
 
 const ACK: u8 = 0x06;
@@ -48,7 +49,7 @@ fn spi(sent: &[u8], read_len: u32) -> Vec<u8> {
 #[test]
 fn queries() {
     let mut library = Library;
-    let mut bridge = Bridge::new(&mut library);
+    let mut bridge = Bridge::new(&mut library, Part::Full);
     let mut ask = |sent: &[u8]| answers(&mut bridge, sent).expect("a whole command");
     assert_eq!(ask(&[0x10]), [NAK, ACK]);
     assert_eq!(ask(&[0x01]), [ACK, 1, 0]);
@@ -68,17 +69,22 @@ fn queries() {
 
 #[test]
 fn busy_for_three_polls() {
+    busy_on(Part::Full, [0x24, 0xA4], 264);
+    busy_on(Part::Full256, [0x25, 0xA5], 512);
+}
+
+/// Busy and ready, and where N = 512 begins in the array.
+fn busy_on(part: Part, [busy, ready]: [u8; 2], place: usize) {
     let mut library = Library;
-    let mut bridge = Bridge::new(&mut library);
+    let mut bridge = Bridge::new(&mut library, part);
     let poll = spi(&[0xD7], 1);
     let load = spi(&[0x84, 0, 0, 0, 0x42], 0);
     let program = spi(&[0x83, 0, 2, 0], 0);
     let sent = [&load, &program, &poll, &poll, &poll, &poll].map(|it| &it[..]);
     let answers = answers(&mut bridge, &sent.concat()).expect("whole commands");
-    let [busy, ready] = [0x24, 0xA4];
     let polls = [ACK, busy, ACK, busy, ACK, busy, ACK, ready];
     assert_eq!(answers, [&[ACK, ACK], &polls[..]].concat());
-    assert_eq!(bridge.array()[264], 0x42);
+    assert_eq!(bridge.array()[place], 0x42);
     let traffic = bridge.take_traffic();
     assert_eq!([0x84, 0x83, 0xD7].map(|it| traffic.count(it)), [1, 1, 4]);
     assert_eq!((traffic.longest, traffic.refused), (5, 0));
@@ -87,7 +93,7 @@ fn busy_for_three_polls() {
 #[test]
 fn frames_of_1100_bytes_at_most() {
     let mut library = Library;
-    let mut bridge = Bridge::new(&mut library);
+    let mut bridge = Bridge::new(&mut library, Part::Full);
     let longest = spi(&[0x03, 0, 0, 0], 1096);
     let longer = spi(&[0x03, 0, 0, 0], 1097);
     let empty = spi(&[], 0);
@@ -103,7 +109,7 @@ fn frames_of_1100_bytes_at_most() {
 #[test]
 fn withheld_opcodes() {
     let mut library = Library;
-    let mut bridge = Bridge::new(&mut library);
+    let mut bridge = Bridge::new(&mut library, Part::Full);
     bridge.withheld = vec![0x81];
     let erase = spi(&[0x81, 0, 0, 0], 0);
     let poll = spi(&[0xD7], 1);
@@ -114,7 +120,7 @@ fn withheld_opcodes() {
 #[test]
 fn half_a_command() {
     let mut library = Library;
-    let mut bridge = Bridge::new(&mut library);
+    let mut bridge = Bridge::new(&mut library, Part::Full);
     let poll = spi(&[0xD7], 1);
     let error = answers(&mut bridge, &poll[..poll.len() - 1]).expect_err("half a command");
     assert_eq!(error.kind(), io::ErrorKind::UnexpectedEof);

@@ -4,7 +4,7 @@
 use random::Rng;
 
 /// Numbers, good and bad, for any place.
-const NUMBERS: [&str; 12] = [
+const NUMBERS: [&str; 14] = [
     "",
     "x",
     "-1",
@@ -12,6 +12,8 @@ const NUMBERS: [&str; 12] = [
     "1x",
     "0x1",
     "007",
+    "2044",
+    "2045",
     "2108",
     "2109",
     "18446744073709551615",
@@ -19,9 +21,24 @@ const NUMBERS: [&str; 12] = [
     "99999999999999999999999",
 ];
 
-/// Levels of the pin and pages of a part, good and bad.
+/// Levels of the pin and words for a part, good and bad.
 const LEVELS: [&str; 7] = ["0", "1", "1", "1", "2", "01", "x"];
-const PAGES: [&str; 6] = ["128", "128", "128", "4096", "127", "0128"];
+const PARTS: [&str; 14] = [
+    "128",
+    "128",
+    "128",
+    "128x256",
+    "128x256",
+    "128x256",
+    "4096",
+    "4096x256",
+    "127",
+    "0128",
+    "128x264",
+    "128X256",
+    "4096x2560",
+    "256",
+];
 
 /// The options with values that are numbers; those of script are made.
 const VALUES: [(&str, &[&str]); 7] = [
@@ -33,18 +50,27 @@ const VALUES: [(&str, &[&str]); 7] = [
     ),
     (
         "junklen",
-        &["34320", "1081872", "0", "34319", "1114112", "1114113"],
+        &[
+            "34320", "33280", "1081872", "1049088", "0", "34319", "33281", "1114112", "1114113",
+        ],
     ),
     ("log", &["162", "54", "30", "6", "5", "0", "65536", "65537"]),
-    ("buffer", &["2109", "2108", "2110", "0", "65536", "65537"]),
+    (
+        "buffer",
+        &[
+            "2109", "2108", "2110", "2044", "2045", "2046", "0", "65536", "65537",
+        ],
+    ),
     ("reply", &["2", "4", "0", "300", "65536", "65537"]),
 ];
 
 /// Lengths of recipes and patches: around the pages' ends and the longest.
-const RECIPE_LENS: [usize; 12] = [0, 1, 2, 5, 100, 260, 261, 262, 2000, 2108, 2109, 2110];
+const RECIPE_LENS: [usize; 18] = [
+    0, 1, 2, 5, 100, 252, 253, 254, 260, 261, 262, 2000, 2044, 2045, 2046, 2108, 2109, 2110,
+];
 
 /// Lengths of a frame's data.
-const DATA_LENS: [usize; 11] = [0, 1, 2, 3, 16, 17, 64, 264, 300, 1096, 1097];
+const DATA_LENS: [usize; 12] = [0, 1, 2, 3, 16, 17, 64, 256, 264, 300, 1096, 1097];
 
 /// Lines that are brief.
 const BRIEF: [&[u8]; 10] = [
@@ -113,7 +139,7 @@ const FRAMES: [&[u8]; 10] = [
 ];
 
 /// As many inputs as the tests take, from seed 0 on.
-pub const INPUTS: u64 = 400;
+pub const INPUTS: u64 = 800;
 
 /// The input with this seed.
 pub fn input(seed: u64) -> Vec<u8> {
@@ -140,10 +166,14 @@ fn noise(rng: &mut Rng) -> Vec<u8> {
 fn lines(rng: &mut Rng, damaged: bool) -> Vec<u8> {
     let end: &[u8] = if rng.one_in(3) { b"\r\n" } else { b"\n" };
     let mut input = Vec::new();
-    if rng.one_in(8) {
-        input.extend(b"part 4096");
-        input.extend(end);
-    }
+    let first: &[u8] = match rng.below(16) {
+        0 => b"part 4096",
+        1 => b"part 4096x256",
+        2..=8 => b"part 128x256",
+        _ => b"part 128",
+    };
+    input.extend(first);
+    input.extend(end);
     for _ in 0..=rng.below(24) {
         let mut line = line(rng).into_bytes();
         if damaged && rng.one_in(2) {
@@ -174,7 +204,7 @@ fn line(rng: &mut Rng) -> String {
         14 => return "end".into(),
         15 => return format!("pin {}", rng.pick(&LEVELS)),
         16 => return format!("cut {}", number(rng, 300)),
-        _ => return format!("part {}", rng.pick(&PAGES)),
+        _ => return format!("part {}", rng.pick(&PARTS)),
     };
     line + &options(rng)
 }
@@ -202,7 +232,9 @@ fn place(rng: &mut Rng) -> String {
         1 => rng
             .pick(&["x", "18446744073709551615", "18446744073709551616"])
             .into(),
-        _ => rng.pick(&["0", "1", "4", "258", "2009"]).into(),
+        _ => rng
+            .pick(&["0", "1", "4", "250", "258", "1945", "2009"])
+            .into(),
     }
 }
 

@@ -8,6 +8,14 @@ use crate::rules::Rules;
 const OUTPUT_ROOM: usize = 65_536;
 const JUNK_ROOM: usize = 1_114_112;
 
+/// The words behind `part`, and the parts that they name.
+pub const PARTS: [(&str, Part); 4] = [
+    ("128", Part::SHORT),
+    ("4096", Part::FULL),
+    ("128x256", Part::SHORT_256),
+    ("4096x256", Part::FULL_256),
+];
+
 const OPTIONS: [&str; 7] = ["b", "script", "junk", "junklen", "log", "buffer", "reply"];
 
 /// What a line says.
@@ -138,11 +146,14 @@ fn read_other<'a>(
             _ => Err("level is not 0 or 1".into()),
         },
         b"cut" => Ok(Order::Cut(next_number("SEED", words)?)),
-        b"part" => match words.next().ok_or("pages are missing")? {
-            b"128" => Ok(Order::Part(Part::SHORT)),
-            b"4096" => Ok(Order::Part(Part::FULL)),
-            _ => Err("pages are not 128 or 4096".into()),
-        },
+        b"part" => {
+            let word = words.next().ok_or("part is missing")?;
+            let named = PARTS.iter().find(|(it, _)| it.as_bytes() == word);
+            match named {
+                Some((_, part)) => Ok(Order::Part(*part)),
+                None => Err("part is not 128, 4096, 128x256 or 4096x256".into()),
+            }
+        }
         b"sum" => Ok(Order::Sum),
         _ => Err("unknown command".into()),
     }

@@ -1,11 +1,14 @@
 //! Pairs of inputs that differ in everything that must not show: recipes,
 //! patches and junk. Their outlines are alike.
 
+use at45db081d_model::Part;
 use random::Rng;
 
+use crate::order::PARTS;
 use crate::rules;
 
-/// A pair of inputs, line by line alike in call, slot, b and script.
+/// A pair of inputs, alike in the part and line by line in call, slot, b and
+/// script.
 #[derive(Clone, Debug)]
 pub struct Pair {
     /// With recipes of at most 20 bytes.
@@ -31,21 +34,22 @@ const REGISTER_LINES: [&str; 12] = [
 ];
 
 /// As many pairs as the tests take, from seed 0 on.
-pub const PAIRS: u64 = 400;
+pub const PAIRS: u64 = 800;
 
 /// The pair with this seed.
 pub fn pair(seed: u64) -> Pair {
     let mut rng = Rng::new(seed);
     // Junk that can reach a register is alike.
     let with_registers = rng.one_in(2);
+    let (word, part) = part(&mut rng);
     let mut pair = Pair {
-        short: String::new(),
-        long: String::new(),
+        short: format!("part {word}\n"),
+        long: format!("part {word}\n"),
     };
     for _ in 0..3 + rng.below(10) {
         let [short, long] = match with_registers && rng.one_in(4) {
             true => [rng.pick(&REGISTER_LINES); 2].map(String::from),
-            false => calls(&mut rng, with_registers),
+            false => calls(&mut rng, part, with_registers),
         };
         pair.short += &(short + "\n");
         pair.long += &(long + "\n");
@@ -53,8 +57,14 @@ pub fn pair(seed: u64) -> Pair {
     pair
 }
 
+/// A part of either page size, seldom a full one.
+fn part(rng: &mut Rng) -> (&'static str, Part) {
+    let full = usize::from(rng.one_in(20));
+    PARTS[2 * rng.below(2) + full]
+}
+
 /// A call, with a short recipe and with a long one.
-fn calls(rng: &mut Rng, junk_alike: bool) -> [String; 2] {
+fn calls(rng: &mut Rng, part: Part, junk_alike: bool) -> [String; 2] {
     let slot = rng.pick(&[0, 1, 1, 15]);
     let call = rng.below(10);
     let script: String = script(rng)
@@ -78,7 +88,8 @@ fn calls(rng: &mut Rng, junk_alike: bool) -> [String; 2] {
         };
         format!("{first} {alike} junk={seed}")
     };
-    [with(seeds[0], 0, 21), with(seeds[1], 1800, 2110)]
+    let over = part.max_recipe() + 1;
+    [with(seeds[0], 0, 21), with(seeds[1], 1800, over)]
 }
 
 /// Digits of a recipe of at least `least` bytes and fewer than `over`.
@@ -113,6 +124,13 @@ pub struct Shown {
     pub lines: usize,
     /// Lines with unlike answers among 0, 12 and 13.
     pub unlike_answers: usize,
+}
+
+impl Shown {
+    /// Whether this is at least 95 in 100 of what all pairs show.
+    pub fn is_enough(&self) -> bool {
+        self.lines >= 99_400 && self.unlike_answers >= 177
+    }
 }
 
 /// Runs every pair; the first whose outlines are not alike.

@@ -1,7 +1,6 @@
 //! The chip, what is done to it line by line, and what is printed.
 
 use at45db081d_model::calls::LOG_LINE;
-use at45db081d_model::slot::MAX_RECIPE;
 use at45db081d_model::{Call, Chip, Lent, Outcome, Part, RECORD_LEN};
 
 use crate::order::{Options, Order, Request};
@@ -23,6 +22,7 @@ pub struct Step {
 
 pub struct Session<'a> {
     rules: &'a Rules,
+    part: Part,
     chip: Chip,
     array: Vec<u8>,
     step: Step,
@@ -31,9 +31,11 @@ pub struct Session<'a> {
 impl<'a> Session<'a> {
     /// A fresh short part.
     pub fn new(rules: &'a Rules) -> Session<'a> {
-        let (chip, array) = fresh(Part::SHORT);
+        let part = Part::SHORT;
+        let (chip, array) = fresh(part);
         Session {
             rules,
+            part,
             chip,
             array,
             step: Step::default(),
@@ -56,6 +58,7 @@ impl<'a> Session<'a> {
             Order::Sum => self.sum(),
             Order::Call(request, options) => self.call(&request, &options),
             Order::Part(part) => {
+                self.part = part;
                 (self.chip, self.array) = fresh(part);
                 self.step = Step::default();
                 String::new()
@@ -80,7 +83,7 @@ impl<'a> Session<'a> {
             }
             Order::Pin(high) => self.chip.move_pin(high),
             Order::Cut(seed) => {
-                let junk = self.junk(seed, self.junk_needed());
+                let junk = self.junk(seed, self.part.junk_len());
                 self.chip.cut(&mut self.array, &junk)
             }
             _ => self.chip.end_busy(&mut self.array),
@@ -88,13 +91,13 @@ impl<'a> Session<'a> {
     }
 
     fn call(&mut self, request: &Request, options: &Options) -> String {
-        let junk_len = options.junk_len.unwrap_or(self.junk_needed());
+        let junk_len = options.junk_len.unwrap_or(self.part.junk_len());
         let junk = self.junk(options.seed, junk_len);
         let frames = (self.rules.log_frames)(request, options.limit);
         let log_len = options.log_len.unwrap_or(LOG_LINE * frames);
         let mut step = Step {
             log: vec![self.rules.stale; log_len],
-            out: vec![self.rules.stale; out_len(request, options)],
+            out: vec![self.rules.stale; out_len(self.part, request, options)],
             n: 0,
         };
         let lent = Lent {
@@ -117,10 +120,6 @@ impl<'a> Session<'a> {
         frames + &(self.rules.totals_text)(outcome)
     }
 
-    fn junk_needed(&self) -> usize {
-        528 + self.array.len()
-    }
-
     fn junk(&self, seed: u64, len: usize) -> Vec<u8> {
         let byte = self.rules.junk_byte;
         (0..len).map(|i| byte(seed, i)).collect()
@@ -134,9 +133,9 @@ fn fresh(part: Part) -> (Chip, Vec<u8>) {
 }
 
 /// The length of the get buffer or reply; 0 for a call that is lent none.
-fn out_len(request: &Request, options: &Options) -> usize {
+fn out_len(part: Part, request: &Request, options: &Options) -> usize {
     match request {
-        Request::Get { .. } => options.buffer_len.unwrap_or(MAX_RECIPE),
+        Request::Get { .. } => options.buffer_len.unwrap_or(part.max_recipe()),
         Request::Raw { frame } => options.reply_len.unwrap_or(frame.len()),
         _ => 0,
     }

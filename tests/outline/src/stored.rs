@@ -27,6 +27,13 @@ pub const RUN: Stored = stored(
 /// The example of README: a slot is wiped.
 pub const WIPE: Stored = stored("wipe 2", "tests/outline/wipe.in", "tests/outline/wipe.out");
 
+/// Calls on parts of 256-byte pages.
+pub const PAGES_256: Stored = stored(
+    "pages of 256 bytes",
+    "tests/outline/pages256.in",
+    "tests/outline/pages256.out",
+);
+
 /// The two examples of `make run`, whose outlines are one.
 pub const SHORT: Stored = example("the short recipe", "examples/outline/short.txt");
 pub const LONG: Stored = example("the long recipe", "examples/outline/long.txt");
@@ -35,7 +42,7 @@ const fn example(name: &'static str, input: &'static str) -> Stored {
     stored(name, input, "examples/outline/outline.txt")
 }
 
-pub const ALL: [Stored; 4] = [RUN, WIPE, SHORT, LONG];
+pub const ALL: [Stored; 5] = [RUN, WIPE, PAGES_256, SHORT, LONG];
 
 impl Stored {
     pub fn input(&self) -> Vec<u8> {

@@ -2,18 +2,18 @@
 //! each stand in for the program.
 
 use at45db081d_model::calls::LOG_LINE;
-use at45db081d_model::{Outcome, Record};
+use at45db081d_model::{Outcome, Part, Record};
 use outline_tests::crc::{crc32, Crc};
 use outline_tests::inputs::{input, INPUTS};
 use outline_tests::order::{self, Options, Order, Request};
 use outline_tests::session::Step;
-use outline_tests::stored::RUN;
+use outline_tests::stored::{Stored, PAGES_256, RUN};
 use outline_tests::{difference, rules, run_by, Difference, Rules, RULES};
 
 /// What is wrong, and how.
 type Fault = (&'static str, fn(&mut Rules));
 
-const FAULTS: [Fault; 32] = [
+const FAULTS: [Fault; 34] = [
     ("padding shown", |it| it.frame_text = padding_shown),
     ("three bytes shown", |it| it.frame_text = three_shown),
     ("lower-case digits", |it| it.frame_text = lower_case),
@@ -52,6 +52,8 @@ const FAULTS: [Fault; 32] = [
     ("script ignored", |it| it.read = no_script),
     ("buffer ignored", |it| it.read = no_buffer),
     ("line ends at NUL", |it| it.read = to_nul),
+    ("264 for 256", |it| it.read = long_pages),
+    ("buffers of 2,109", |it| it.read = long_buffers),
 ];
 
 fn faulty(fault: Fault) -> Rules {
@@ -78,14 +80,17 @@ fn random_inputs_notice_faults() {
     }
 }
 
-/// So does the run that is stored beside the program, but for a fault that
-/// needs an input with LF at its end.
+/// So do the runs that are stored.
 #[test]
-fn stored_run_notices_faults() {
-    let (input, output) = (RUN.input(), RUN.output());
+fn stored_runs_notice_faults() {
+    let notices = |stored: &Stored, rules: &Rules| {
+        let found = run_by(rules, &stored.input());
+        difference(&stored.input(), &found).is_some()
+    };
     for fault in FAULTS {
-        let noticed = run_by(&faulty(fault), &input) != output;
-        assert_eq!(noticed, fault.0 != "rest after the last LF", "{}", fault.0);
+        let rules = faulty(fault);
+        let noticed = [RUN, PAGES_256].iter().any(|it| notices(it, &rules));
+        assert!(noticed, "not noticed: {}", fault.0);
     }
 }
 
@@ -262,6 +267,21 @@ fn no_script(line: &[u8], rules: &Rules) -> Result<Order, String> {
 
 fn no_buffer(line: &[u8], rules: &Rules) -> Result<Order, String> {
     changed(line, rules, |options| options.buffer_len = None)
+}
+
+fn long_pages(line: &[u8], rules: &Rules) -> Result<Order, String> {
+    let order = order::read(line, rules)?;
+    Ok(match order {
+        Order::Part(part) if part.pages == Part::SHORT.pages => Order::Part(Part::SHORT),
+        Order::Part(_) => Order::Part(Part::FULL),
+        order => order,
+    })
+}
+
+fn long_buffers(line: &[u8], rules: &Rules) -> Result<Order, String> {
+    changed(line, rules, |options| {
+        options.buffer_len.get_or_insert(2109);
+    })
 }
 
 /// A call's options as changed.

@@ -2,6 +2,7 @@
 
 use outline_tests::inputs::{input, INPUTS};
 use outline_tests::met::Met;
+use outline_tests::order::PARTS;
 use outline_tests::run;
 
 #[test]
@@ -27,7 +28,12 @@ fn inputs_have_every_form() {
     assert!(some(|input| has_line_of(input, 8192)));
     assert!(some(|input| has_line_of(input, 8193)));
     assert!(some(|input| has_line_of(input, 20_000)));
-    assert!(some(|input| input.starts_with(b"part 4096")));
+    for (word, _) in PARTS {
+        let first = format!("part {word}");
+        let begins =
+            |line: &[u8]| line.split(|it| b"\r\n".contains(it)).next() == Some(first.as_bytes());
+        assert!(inputs.iter().any(|input| begins(input)), "{first}");
+    }
 }
 
 fn has_line_of(input: &[u8], len: usize) -> bool {

@@ -2,16 +2,24 @@
 //! alike, but for answers 0, 12 and 13.
 
 use at45db081d_model::Outcome;
-use outline_tests::order::Request;
+use outline_tests::order::{Request, PARTS};
 use outline_tests::pairs::{check, pair, PAIRS};
 use outline_tests::{rules, run, run_by, Rules, RULES};
 
 #[test]
 fn outlines_are_alike() {
     let shown = check(run).unwrap_or_else(|unlike| panic!("{unlike}"));
-    println!("{shown:?}");
-    assert!(shown.lines >= 50_600);
-    assert!(shown.unlike_answers >= 72);
+    assert!(shown.is_enough(), "{shown:?}");
+}
+
+#[test]
+fn pairs_are_on_every_part() {
+    for (word, _) in PARTS {
+        let first = format!("part {word}\n");
+        let pairs = (0..PAIRS).map(pair);
+        let count = pairs.filter(|it| it.short.starts_with(&first) && it.long.starts_with(&first));
+        assert!(count.count() >= 10, "{first}");
+    }
 }
 
 /// Every put has at most 20 bytes in one input and at least 1,800 in the other.
@@ -25,7 +33,7 @@ fn recipes_have_very_different_lengths() {
             puts += 1;
         }
     }
-    assert!(puts >= 960);
+    assert!(puts >= 1_900, "{puts}");
 }
 
 /// What shows something of a recipe, and how.
@@ -62,7 +70,7 @@ fn shorter(outcome: &Outcome) -> String {
 
 fn log_by_recipe(request: &Request, limit: usize) -> usize {
     match request {
-        Request::Put { recipe, .. } => 3 + (recipe.len() + 263) / 264 * 3,
+        Request::Put { recipe, .. } => 3 + (recipe.len() + 255) / 256 * 3,
         _ => rules::log_frames(request, limit),
     }
 }

@@ -71,6 +71,5 @@ fn long_inputs() {
 #[test]
 fn outlines_are_alike() {
     let shown = pairs::check(printed).unwrap_or_else(|unlike| panic!("{unlike}"));
-    assert!(shown.lines >= 50_600);
-    assert!(shown.unlike_answers >= 72);
+    assert!(shown.is_enough(), "{shown:?}");
 }

@@ -61,3 +61,16 @@ fn examples_are_a_short_and_a_long_recipe() {
     assert_eq!(recipe_len(SHORT.input()), 5);
     assert_eq!(recipe_len(LONG.input()), 2000);
 }
+
+/// With pages of 256 bytes they share an outline too.
+#[test]
+fn examples_with_pages_of_256() {
+    let [short, long] = [SHORT, LONG].map(|example| {
+        let input = [b"part 128x256\n", &example.input()[..]].concat();
+        String::from_utf8(run(&input)).expect("text")
+    });
+    assert_eq!(short, long);
+    // A wait, both registers, then the first of slot 5's pages.
+    let first = "2 D7 00\n20 32 00 00 00\n20 35 00 00 00\n260 84 00 00 00\n4 83 00 28 00\n";
+    assert!(short.starts_with(first));
+}

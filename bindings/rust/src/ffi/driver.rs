@@ -1,7 +1,7 @@
 //! The slot driver alone: it takes in a reply and hands out the frame that
 //! follows, or none at the end.
 
-use crate::{DRIVER_FRAME_LEN, SLOT_LEN};
+use crate::{DRIVER_FRAME_LEN, SLOT_ROOM};
 
 /// Length of the driver's state.
 pub const STATE_LEN: usize = 48;
@@ -144,7 +144,7 @@ pub fn start_wipe(state: &mut State, array_len: usize, slot: usize, poll_limit: 
 pub fn frame(
     state: &State,
     payload: &[u8],
-    staged: &[u8; SLOT_LEN],
+    staged: &[u8; SLOT_ROOM],
     frame: &mut [u8; DRIVER_FRAME_LEN],
 ) -> usize {
     // SAFETY: as in `start_put`.
@@ -165,7 +165,7 @@ pub fn next(
     state: &mut State,
     payload: &[u8],
     reply: &[u8],
-    staged: &mut [u8; SLOT_LEN],
+    staged: &mut [u8; SLOT_ROOM],
     frame: &mut [u8; DRIVER_FRAME_LEN],
 ) -> usize {
     // SAFETY: as in `start_put`.
@@ -194,7 +194,7 @@ pub fn answer(state: &State) -> Option<u8> {
 /// Of a get that has ended with 0 the recipe's length; else 0.
 ///
 /// The recipe stands in `staged` behind its first three bytes.
-pub fn count(state: &State, staged: &[u8; SLOT_LEN]) -> usize {
+pub fn count(state: &State, staged: &[u8; SLOT_ROOM]) -> usize {
     // SAFETY: as in `start_put`.
     unsafe { raw::slipknoll_driver_count(state.as_ptr(), staged.as_ptr()) }
 }

@@ -4,6 +4,7 @@ use Prim.Native.Nat.{ℕ, _+_, _-_, _<_}
 use mathlib.Core.List.{List}
 use lib.ListN.{take, drop}
 use Rattle.slices.specs.Lists.{splice}
+use Rattle.geometry.specs.Parts.{pageRoom}
 use Rattle.registers.specs.Facts.{factsOf}
 use Rattle.registers.specs.declared.Work.{Work}
 use Rattle.registers.specs.declared.Facts.{Facts}
@@ -47,7 +48,7 @@ returns c =
 work-requires : tie.Need-work-requires
 work-requires c κs =
     let s = c .before .before .before .before .before .before .before .before .before in
-    (s .pre .0, few (c .before .before .before .before), run-length (c .before .before .buffer-start .result) 264 (s .args .buffers .now) (omega (arith, s .pre .2)))
+    (s .pre .0, few (c .before .before .before .before), run-length (c .before .before .buffer-start .result) pageRoom (s .args .buffers .now) (omega (arith, s .pre .2)))
 
 returns-2 : tie.Need-returns-2
 returns-2 c =
@@ -58,10 +59,10 @@ returns-2 c =
     let bs = a .buffers .now in
     let start = c .before .before .before .before .before .before .before .buffer-start in
     let done = c .before .before .before .before .work in
-    let part = run-part (start .result) 264 bs ∙ ap (λ (n : ℕ). take 264 (drop n bs)) (start .ensures .0) in
+    let part = run-part (start .result) pageRoom bs ∙ ap (λ (n : ℕ). take pageRoom (drop n bs)) (start .ensures .0) in
     works (a .g) (a .o) (p .buffer-of .result) page (used p) (paged p) (a .array .now) bs (a .bit) (c .before .before .before .before .before .before .before .before .before .before .before .before .before .before .pre .2) w (c .before .before .before .before .before .before .before .before .match .keys2) (kinds p refl)
     (done .ensures .0 ∙ ap (λ (l : List ℕ). arrayBy (a .g) page l (a .array .now) w) part)
-    (kept-spliced (start .result) (start .result + 264 - start .result) bs (omega arith) (done .kept .1 .1 .1 .1 .1 .0) (done .ensures .1)
+    (kept-spliced (start .result) (start .result + pageRoom - start .result) bs (omega arith) (done .kept .1 .1 .1 .1 .1 .0) (done .ensures .1)
     ∙ ap (λ (l : List ℕ). splice (start .result) (bufferBy (a .g) page (a .array .now) l w) bs) part
     ∙ ap (λ (n : ℕ). splice n (bufferBy (a .g) page (a .array .now) (lent (p .buffer-of .result) bs) w) bs) (start .ensures .0))
     (done .ensures .2 ∙ ap (λ (l : List ℕ). bitBy (a .g) page (a .array .now) l (a .bit) w) part)

@@ -3,8 +3,9 @@
 use borrow.Author.Needs.{needs}
 use mathlib.Core.List.{List}
 use mathlib.Core.Path.{_≡_, refl, ap, _∙_}
-use Prim.Native.Nat.{ℕ}
+use Prim.Native.Nat.{ℕ, _*_}
 use lib.ListN.{length}
+use Rattle.geometry.specs.Parts.{pageRoom}
 use Rattle.state.specs.Lent.{memoryIn}
 use Rattle.state.specs.Memory.{Memory, chipOf}
 use Rattle.state.specs.Completion.{completedMemory}
@@ -14,10 +15,10 @@ use Rattle.completion.proofs.end_in.Statement.{statement}
 use Rattle.completion.proofs.end_in.Tie as tie
 
 -- the lengths of the chip's buffers, and of both together
-long : (s : tie.Start) → (length (s .args .c .buffer1) ≡ 264) × (length (s .args .c .buffer2) ≡ 264)
+long : (s : tie.Start) → (length (s .args .c .buffer1) ≡ pageRoom) × (length (s .args .c .buffer2) ≡ pageRoom)
 long s = (search needs, search needs)
 
-both : (p : tie.After-buffers-of) → length (p .buffers-of .result) ≡ 528
+both : (p : tie.After-buffers-of) → length (p .buffers-of .result) ≡ 2 * pageRoom
 both p = search needs
 
 complete-memory-requires : tie.Need-complete-memory-requires

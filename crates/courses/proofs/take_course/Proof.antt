@@ -14,46 +14,53 @@ returns : tie.Need-returns
 unfolding heard
 returns c =
     let a = c .before .before .before .before .before .args in
-    by-step (a .c) (a .limit) (a .sector) (a .reply .now) (c .before .before .enum-told .given .1)
+    λ g q.
+    by-step g (a .c) (a .limit) (a .sector) (a .reply .now) (c .before .before .enum-told .given .1)
     (λ next e. c .poll .ensures next e ∙ ap (λ (s : ℕ). courseBy Wait next (a .limit) (a .c) (statusHeard s)) (c .before .byte-or .ensures))
 
 returns-2 : tie.Need-returns-2
 unfolding heard courseBy
 returns-2 c =
     let a = c .before .before .before .before .before .args in
-    by-step (a .c) (a .limit) (a .sector) (a .reply .now) (c .before .before .enum-told2 .given .1)
-    (λ next e. c .go-on .ensures next e ∙ ap (λ (h : Bool). courseBy Protection next (a .limit) (a .c) (registerHeard h)) (c .before .has-bits .ensures))
+    λ g q.
+    by-step g (a .c) (a .limit) (a .sector) (a .reply .now) (c .before .before .enum-told2 .given .1)
+    (λ next e. c .go-on .ensures next e ∙ ap (λ (h : Bool). courseBy Protection next (a .limit) (a .c) (registerHeard h)) (c .before .has-bits .ensures g q))
 
 returns-3 : tie.Need-returns-3
 unfolding heard
 returns-3 c =
     let a = c .before .before .before .before .before .args in
-    by-step (a .c) (a .limit) (a .sector) (a .reply .now) (c .before .before .enum-told3 .given .1)
-    (λ next e. c .check .ensures next e ∙ ap (λ (h : Bool). courseBy Lockdown next (a .limit) (a .c) (registerHeard h)) (c .before .has-bits2 .ensures))
+    λ g q.
+    by-step g (a .c) (a .limit) (a .sector) (a .reply .now) (c .before .before .enum-told3 .given .1)
+    (λ next e. c .check .ensures next e ∙ ap (λ (h : Bool). courseBy Lockdown next (a .limit) (a .c) (registerHeard h)) (c .before .has-bits2 .ensures g q))
 
 returns-4 : tie.Need-returns-4
 unfolding heard courseBy
 returns-4 c =
     let a = c .before .before .before .before .args in
-    by-step (a .c) (a .limit) (a .sector) (a .reply .now) (c .before .enum-told4 .given .1) (c .go-on2 .ensures)
+    λ g q.
+    by-step g (a .c) (a .limit) (a .sector) (a .reply .now) (c .before .enum-told4 .given .1) (c .go-on2 .ensures)
 
 returns-5 : tie.Need-returns-5
 unfolding heard courseBy
 returns-5 c =
     let a = c .before .before .before .before .args in
-    by-step (a .c) (a .limit) (a .sector) (a .reply .now) (c .before .enum-told5 .given .1) (c .go-on3 .ensures)
+    λ g q.
+    by-step g (a .c) (a .limit) (a .sector) (a .reply .now) (c .before .enum-told5 .given .1) (c .go-on3 .ensures)
 
 returns-6 : tie.Need-returns-6
 unfolding heard courseBy
 returns-6 c =
     let a = c .before .before .before .before .args in
-    by-step (a .c) (a .limit) (a .sector) (a .reply .now) (c .before .enum-told6 .given .1) (c .go-on4 .ensures)
+    λ g q.
+    by-step g (a .c) (a .limit) (a .sector) (a .reply .now) (c .before .enum-told6 .given .1) (c .go-on4 .ensures)
 
 returns-7 : tie.Need-returns-7
 unfolding heard courseBy
 returns-7 c =
     let a = c .before .before .before .args in
-    by-step (a .c) (a .limit) (a .sector) (a .reply .now) (c .enum-told7 .given .1) (λ next e. refl)
+    λ g q.
+    by-step g (a .c) (a .limit) (a .sector) (a .reply .now) (c .enum-told7 .given .1) (λ next e. refl)
 
 pub take-course-spec : {M : Type 1} → statement M
 take-course-spec =

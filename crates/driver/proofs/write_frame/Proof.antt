@@ -4,6 +4,7 @@ use native.Mathlib.Omega.{arith}
 use mathlib.Core.List.{[]}
 use mathlib.Core.Path.{_≡_, refl, sym, _∙_}
 use lib.ListN.{length}
+use Rattle.slots.specs.Driver.{frameRoom}
 use Rattle.worlds.specs.Step.{frameBy}
 use Rattle.driver.proofs.Frames.{nothing, frame-fits, framed}
 use borrow.Author.Needs.{needs}
@@ -17,7 +18,7 @@ returns : tie.Need-returns
 returns c =
     let a = c .before .before .before .before .before .before .before .before .args in
     let p = sym (c .before .before .before .before .before .before .part-of .ensures) ∙ c .before .before .before .before .p .given .1 in
-    let long : length (a .frame .now) ≡ 272 = search needs in
+    let long : length (a .frame .now) ≡ frameRoom = search needs in
     framed (a .d) (a .payload .now) (a .staged .now) (a .frame .now) (sym p) (omega (arith, long, frame-fits (a .d) (a .payload .now) (a .staged .now) _ p)) (c .write-on .ensures)
 
 returns-2 : tie.Need-returns-2

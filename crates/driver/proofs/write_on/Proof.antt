@@ -21,7 +21,7 @@ step-at-requires c κs = let s = c .before .before .before .before .before .befo
 write-step-requires : tie.Need-write-step-requires
 write-step-requires c κs =
     let s = c .before .before .before .before .before .before .before .before in
-    (part-pages _ _ (s .pre .0), sized _ _ (s .pre .0) .narrow, c .before .step-at .ensures .1, s .pre .1, s .pre .2)
+    (part-pages _ _ (s .pre .0), c .before .step-at .ensures .1, s .pre .1, s .pre .2)
 
 returns-2 : tie.Need-returns-2
 returns-2 c =

@@ -3,7 +3,7 @@
 use borrow.Author.Needs.{needs}
 use mathlib.Core.List.{List, [], _∷_, _++_, append-assoc}
 use mathlib.Core.Path.{_≡_, sym, ap, _∙_}
-use Prim.Native.Nat.{ℕ, _≤_}
+use Prim.Native.Nat.{ℕ, _*_, _≤_}
 use native.Mathlib.Omega.{arith}
 use lib.ListN.{length, take, drop, take-append-drop}
 use lib.Seq.{length-take-le, drop-append-le}
@@ -12,6 +12,7 @@ use Rattle.slices.proofs.Laws.{over-append, length-over, splice-zero}
 use types.Run.{OneOf, miss}
 use denote.Enum.Declared.{tagOf}
 use Rattle.geometry.specs.declared.Geometry.{Geometry}
+use Rattle.geometry.specs.Parts.{pageRoom}
 use Rattle.commands.specs.declared.Buffer.the-variants.{One}
 use Rattle.control.specs.declared.Action.{Action}
 use Rattle.control.specs.declared.Action.the-variants.{Silent, ReadPage, ReadArray, ReadBuffer, WriteBuffer, LoadProtection, LoadSecurity, ReadProtection, ReadLockdown, ReadSecurity, ReadStatus, ReadId}
@@ -26,16 +27,16 @@ use Rattle.frames.proofs.act.Statement.{statement}
 use Rattle.frames.proofs.act.Tie as tie
 
 -- the beginning of buffer 1 is the beginning of both
-lent-begun : (d bs : List ℕ) → length d ≤ 264 → length bs ≡ 528 → over d bs ≡ splice 0 (over d (take 264 bs)) bs
+lent-begun : (d bs : List ℕ) → length d ≤ pageRoom → length bs ≡ 2 * pageRoom → over d bs ≡ splice 0 (over d (take pageRoom bs)) bs
 lent-begun d bs h long =
-    let n = length-take-le 264 bs (omega arith) in
-    let x = over d (take 264 bs) in
-    let e : over d (take 264 bs) ≡ d ++ drop (length d) (take 264 bs) = over-append d (take 264 bs) (omega arith) in
-    let l : length (over d (take 264 bs)) ≡ 264 = length-over d (take 264 bs) ∙ n in
+    let n = length-take-le pageRoom bs (omega arith) in
+    let x = over d (take pageRoom bs) in
+    let e : over d (take pageRoom bs) ≡ d ++ drop (length d) (take pageRoom bs) = over-append d (take pageRoom bs) (omega arith) in
+    let l : length (over d (take pageRoom bs)) ≡ pageRoom = length-over d (take pageRoom bs) ∙ n in
     over-append d bs (omega arith)
-    ∙ ap (λ (t : List ℕ). d ++ drop (length d) t) (sym (take-append-drop 264 bs))
-    ∙ ap (λ (t : List ℕ). d ++ t) (drop-append-le (length d) (take 264 bs) (drop 264 bs) (omega arith))
-    ∙ sym (append-assoc d (drop (length d) (take 264 bs)) (drop 264 bs))
+    ∙ ap (λ (t : List ℕ). d ++ drop (length d) t) (sym (take-append-drop pageRoom bs))
+    ∙ ap (λ (t : List ℕ). d ++ t) (drop-append-le (length d) (take pageRoom bs) (drop pageRoom bs) (omega arith))
+    ∙ sym (append-assoc d (drop (length d) (take pageRoom bs)) (drop pageRoom bs))
     ∙ (λ i. sym e i ++ drop (sym l i) bs)
     ∙ sym (over-append x bs (omega arith)) ∙ sym (splice-zero x bs)
 
@@ -43,7 +44,7 @@ lent-begun d bs h long =
 abbrev others : List ℕ
 others = 0 ∷ 1 ∷ 2 ∷ 3 ∷ 7 ∷ 8 ∷ 9 ∷ 10 ∷ 11 ∷ []
 
-untouched : (g : Geometry) (a : Action) (bytes bs : List ℕ) → OneOf others (tagOf the-type a) → length bs ≡ 528 → bs ≡ actedOn g a bytes bs
+untouched : (g : Geometry) (a : Action) (bytes bs : List ℕ) → OneOf others (tagOf the-type a) → length bs ≡ 2 * pageRoom → bs ≡ actedOn g a bytes bs
 unfolding actedOn bufferWritten written
 untouched g Silent bytes bs h long = sym (lent-same bs long One)
 untouched g (ReadPage p s) bytes bs h long = sym (lent-same bs long One)

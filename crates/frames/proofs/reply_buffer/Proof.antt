@@ -6,6 +6,7 @@ use mathlib.Core.Path.{ap, _∙_}
 use Prim.Native.Nat.{ℕ}
 use native.Mathlib.Omega.{arith}
 use lib.ListN.{length, take, drop}
+use Rattle.geometry.specs.Parts.{pageRoom}
 use Rattle.slices.proofs.Laws.{run-part, run-length}
 use Rattle.memory.specs.Replies.{replied, ringData}
 use Rattle.frames.proofs.reply_buffer.Statement.{statement}
@@ -15,7 +16,7 @@ reply-ring-requires : tie.Need-reply-ring-requires
 reply-ring-requires c κs =
     let s = c .before .before .before .before .before in
     let a = c .before .before .buffer-start .result in
-    let l = run-length a 264 (s .args .buffers .now) (omega arith) in
+    let l = run-length a pageRoom (s .args .buffers .now) (omega arith) in
     (s .pre .2, s .pre .1, omega arith)
 
 returns : tie.Need-returns
@@ -24,7 +25,7 @@ returns c =
     let a = c .before .before .before .before .before .buffer-start .result in
     c .before .before .reply-ring .ensures
     ∙ ap (λ (l : List ℕ). replied (length (s .reply .now)) (s .lead) (ringData (s .g .size) (s .start) l))
-    (run-part a 264 (s .buffers .now) ∙ ap (λ (n : ℕ). take 264 (drop n (s .buffers .now))) (c .before .before .before .before .before .buffer-start .ensures .0))
+    (run-part a pageRoom (s .buffers .now) ∙ ap (λ (n : ℕ). take pageRoom (drop n (s .buffers .now))) (c .before .before .before .before .before .buffer-start .ensures .0))
 
 pub reply-buffer-spec : {M : Type 1} → statement M
 reply-buffer-spec =

@@ -18,7 +18,7 @@ returns c =
     let f = c .before .before .before .before .before .before .is-free .ensures ∙ ap (λ (x : Marks). isFree (x .usage)) (sym e) in
     let p = c .before .before .before .before .before .is-guarded .ensures r (seals-of r (a .m) e) in
     c .before .before .reply-repeated .ensures
-    ∙ (λ i. replied (length (a .reply .now)) (a .lead) (λ _. (c .before .before .before .before .status .ensures ∙ (λ j. statusOf (f j) (a .compare) (p j))) i))
+    ∙ (λ i. replied (length (a .reply .now)) (a .lead) (λ _. (c .before .before .before .before .status .ensures ∙ (λ j. statusOf (a .g) (f j) (a .compare) (p j))) i))
 
 pub reply-status-spec : {M : Type 1} → statement M
 reply-status-spec =

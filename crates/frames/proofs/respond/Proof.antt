@@ -8,6 +8,7 @@ use native.Mathlib.Omega.{arith}
 use lib.ListN.{length}
 use Rattle.commands.specs.declared.Buffer.{Buffer}
 use Rattle.commands.specs.declared.Buffer.the-variants.{One, Two}
+use Rattle.registers.specs.Protection.{registerOf}
 use Rattle.control.specs.declared.Marks.{Marks}
 use Rattle.memory.specs.Replies.{replied, onceData, ringData}
 use Rattle.state.specs.Frames.{dataOf}
@@ -73,7 +74,7 @@ returns-8 c =
     let s = c .before .before .before .before .before .before .before .before .before .before .before .before .args in
     λ r e k.
     rw (c .before .before .before .before .before .enum-told5 .given .1)
-    (c .before .before .reply-register .ensures ∙ ap (λ (x : Marks). replied (length (s .reply .now)) (s .lead) (onceData (x .seals .protection))) (sym e))
+    (c .before .before .reply-register .ensures ∙ ap (λ (x : Marks). replied (length (s .reply .now)) (s .lead) (onceData (registerOf (s .g) (x .seals .protection)))) (sym e))
 
 returns-9 : tie.Need-returns-9
 unfolding dataOf
@@ -81,7 +82,7 @@ returns-9 c =
     let s = c .before .before .before .before .before .before .before .before .before .before .before .before .args in
     λ r e k.
     rw (c .before .before .before .before .before .enum-told6 .given .1)
-    (c .before .before .reply-register2 .ensures ∙ ap (λ (x : Marks). replied (length (s .reply .now)) (s .lead) (onceData (x .seals .lockdown))) (sym e))
+    (c .before .before .reply-register2 .ensures ∙ ap (λ (x : Marks). replied (length (s .reply .now)) (s .lead) (onceData (registerOf (s .g) (x .seals .lockdown)))) (sym e))
 
 returns-10 : tie.Need-returns-10
 unfolding dataOf

@@ -2,10 +2,11 @@
 -- Assumes nothing.
 use borrow.Author.Needs.{needs}
 use mathlib.Core.List.{List}
-use Prim.Native.Nat.{ℕ}
+use Prim.Native.Nat.{ℕ, _*_}
 use mathlib.Core.Path.{_≡_, refl, sym, ap, _∙_}
 use lib.ListN.{length}
 use borrow.Author.Tests.{not-true, not-false}
+use Rattle.geometry.specs.Parts.{pageRoom}
 use Rattle.memory.specs.Replies.{replied}
 use Rattle.state.specs.Lent.{memoryIn}
 use Rattle.state.specs.Memory.{Memory, memoryOf, stateOf, chipOf}
@@ -20,10 +21,10 @@ use Rattle.frames.proofs.send_to.Statement.{statement}
 use Rattle.frames.proofs.send_to.Tie as tie
 
 -- the lengths of the chip's buffers, and of both together
-long : (s : tie.Start) → (length (s .args .c .buffer1) ≡ 264) × (length (s .args .c .buffer2) ≡ 264)
+long : (s : tie.Start) → (length (s .args .c .buffer1) ≡ pageRoom) × (length (s .args .c .buffer2) ≡ pageRoom)
 long s = (search needs, search needs)
 
-both : (p : tie.After-buffers-of) → length (p .buffers-of .result) ≡ 528
+both : (p : tie.After-buffers-of) → length (p .buffers-of .result) ≡ 2 * pageRoom
 both p = search needs
 
 returns : tie.Need-returns

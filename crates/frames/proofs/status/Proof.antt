@@ -7,7 +7,7 @@ use Rattle.frames.proofs.status.Tie as tie
 
 returns : tie.Need-returns
 unfolding statusOf
-returns c = rw (c .before .before .bit .ensures .0, c .before .bit2 .ensures .0, c .bit3 .ensures .0)
+returns c = rw (c .before .before .before .bit .ensures .0, c .before .before .bit2 .ensures .0, c .before .bit3 .ensures .0, c .bit4 .ensures .0)
 
 pub status-spec : {M : Type 1} → statement M
 status-spec =
@@ -16,6 +16,8 @@ status-spec =
     (λ c κs. search needs)
     (λ c κs. search needs)
     (λ c. search needs)
+    (λ c. search needs)
+    (λ c κs. search needs)
     (λ c. search needs)
     (λ c κs. search needs)
     (λ c. search needs)

@@ -4,8 +4,10 @@ use borrow.Author.Needs.{needs}
 use mathlib.Core.Bool.{Bool}
 use mathlib.Core.Path.{refl, sym, ap, _∙_}
 use native.Mathlib.Omega.{arith}
+use Prim.Native.Nat.{_*_}
 use lib.ListN.{length, take, drop}
 use Rattle.slices.proofs.Laws.{run-length}
+use Rattle.geometry.specs.Parts.{pageRoom}
 use Rattle.memory.specs.Replies.{replied}
 use Rattle.state.specs.Lent.{memoryIn}
 use Rattle.state.specs.Memory.{Memory, memoryOf, chipOf}
@@ -28,7 +30,7 @@ respond-requires c κs =
       s .pre .0,
       decided-names (a .g) r (a .frame .now) _ e _ (s .pre .0),
       decided-lead (a .g) r (a .frame .now) _ e _ (s .pre .3),
-      run-length 236 528 b (omega arith),
+      run-length 236 (2 * pageRoom) b (omega arith),
     )
 
 settle-requires : tie.Need-settle-requires
@@ -58,7 +60,7 @@ act-requires c κs =
     let b = a .block .now in
     let r = decodeRegisters b in
     let e = c .before .before .before .before .before .before .before .before .before .before .before .before .before .control-frame .ensures r (sym (c .before .before .before .before .before .before .before .before .before .before .before .before .before .before .marks-at .ensures)) in
-    (s .pre .0 .most, decided-names (a .g) r (a .frame .now) _ e _ (s .pre .0), run-length 236 528 (c .before .before .before .before .settle .last .0) (omega (arith, c .before .before .before .before .settle .kept .0, s .pre .1)))
+    (s .pre .0 .most, decided-names (a .g) r (a .frame .now) _ e _ (s .pre .0), run-length 236 (2 * pageRoom) (c .before .before .before .before .settle .last .0) (omega (arith, c .before .before .before .before .settle .kept .0, s .pre .1)))
 
 returns : tie.Need-returns
 unfolding sentState decodeChip
@@ -76,10 +78,10 @@ returns c =
     let k = d .change in
     let y = c .before .before .before .before .before .before .before .settle .last .0 in
     let h = c .before .before .before .before .before .before .before .settle .ensures in
-    let n = run-length 236 528 y (omega (arith, c .before .before .before .before .before .before .before .settle .kept .0, l)) in
-    let j = ap (λ (bit : Bool). memoryIn xs (take 528 (drop 236 b)) bit) (c .before .before .before .before .before .before .before .before .before .before .before .before .before .before .before .before .before .before .before .is-set .ensures) ∙ buffers-lent b xs l in (
+    let n = run-length 236 (2 * pageRoom) y (omega (arith, c .before .before .before .before .before .before .before .settle .kept .0, l)) in
+    let j = ap (λ (bit : Bool). memoryIn xs (take (2 * pageRoom) (drop 236 b)) bit) (c .before .before .before .before .before .before .before .before .before .before .before .before .before .before .before .before .before .before .before .is-set .ensures) ∙ buffers-lent b xs l in (
       back b k l y h (c .before .before .act .last .1 .0) (c .before .before .act .kept .1 .0 ∙ n)
-          ∙ (λ i. encodeChip (chipOf (decided-registers (a .g) r f d e i) (decided-memory (a .g) r f d e (memoryOf (decodeChip b) xs) xs (take 528 (drop 236 y)) _ (decodeChip b .compare) n (lent-both b k l y h xs) (c .before .before .act .ensures) i))),
+          ∙ (λ i. encodeChip (chipOf (decided-registers (a .g) r f d e i) (decided-memory (a .g) r f d e (memoryOf (decodeChip b) xs) xs (take (2 * pageRoom) (drop 236 y)) _ (decodeChip b .compare) n (lent-both b k l y h xs) (c .before .before .act .ensures) i))),
       decided-reply (a .g) r f d e (memoryOf (decodeChip b) xs) _ _ (s .pre .3)
           (c .before .before .before .before .before .before .before .before .before .before .before .respond .ensures r m (security-lent b l) ∙ ap (λ (x : Memory). replied (length (a .reply .now)) (d .lead) (dataOf (a .g) r x (d .action))) j),
     )

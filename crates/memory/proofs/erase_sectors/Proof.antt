@@ -1,9 +1,12 @@
 -- `memory::erase_sectors` meets its contract: before sector s the sectors below it are done, and what is left of the set is that set divided by 2 s times.
 -- Assumes nothing.
-use mathlib.Core.Path.{ap, _∙_}
+use mathlib.Core.Path.{ap, subst, _∙_}
 use mathlib.Core.Logic.{⊎-elim}
-use Prim.Native.Nat.{_-_}
+use Prim.Native.Nat.{ℕ, _-_, _≤_, _<_}
+use native.Mathlib.Omega.{arith}
 use lib.ListN.{length}
+use Rattle.geometry.proofs.Pages.{sized-own}
+use Rattle.geometry.proofs.Sectors.{sectors-few}
 use borrow.Author.Needs.{needs}
 use Rattle.memory.specs.Pages.{erased}
 use Rattle.memory.proofs.Lent.{Passed, passed-none, passed-done, passed-by, passed-all}
@@ -11,19 +14,25 @@ use Rattle.memory.proofs.erase_sectors.Statement.{statement}
 use Rattle.memory.proofs.erase_sectors.Tie as tie
 
 abbrev Inv-loop : tie.InvT-loop
-Inv-loop g array₀ sectors s₀ m₀ array s m = Passed (erased g) g sectors array₀ s m array
+Inv-loop g array₀ sectors count s₀ m₀ array s m = Passed (erased g) g sectors array₀ s m array
 
 abbrev μ-loop : tie.MeasureT-loop
-μ-loop g array₀ sectors s₀ m₀ array s m = 17 - s
+μ-loop g array₀ sectors count s₀ m₀ array s m = count - s
+
+sector-count-requires : tie.Need-sector-count-requires Inv-loop μ-loop
+sector-count-requires c κs = sized-own (c .before .args .g) _ (c .before .pre)
 
 loop-holds : tie.Need-loop-holds Inv-loop μ-loop
 loop-holds c = passed-none
 
 sector-run-requires : tie.Need-sector-run-requires Inv-loop μ-loop
-sector-run-requires c κs = search needs
+sector-run-requires c κs =
+    let s = c .before .before .before .before .before .before in
+    let z = sized-own (s .args .g) _ (s .pre) in
+    (z, omega (arith, c .before .before .loop-test .taken, c .before .before .before .before .sector-count .ensures, sectors-few (s .args .g) _ z))
 
 erase-requires : tie.Need-erase-requires Inv-loop μ-loop
-erase-requires c κs = (rw (c .before .before .before .before .loop .inv .long) (c .before .before .before .before .before .before .pre), c .sector-run .ensures .1)
+erase-requires c κs = (rw (c .before .before .before .before .loop .inv .long) (c .before .before .before .before .before .before .before .pre), c .sector-run .ensures .1)
 
 add-s : tie.Need-add-s Inv-loop μ-loop
 add-s c = search needs
@@ -34,7 +43,7 @@ loop-less c = search needs
 loop-again : tie.Need-loop-again Inv-loop μ-loop
 loop-again c =
     let p = c .before .before .loop .inv in
-    let t = c .before .loop-test .taken in
+    let t = subst (λ (n : ℕ). c .before .before .loop .s < n) (c .before .before .before .sector-count .ensures) (c .before .loop-test .taken) in
     ⊎-elim
     (λ w. passed-done p t (w .0 .taken) (w .2 .ensures .0) (ap length (w .6) ∙ w .3 .kept .1 .0) (w .6 ∙ w .3 .ensures))
     (λ w. passed-by p t (w .0 .left) (w .1))
@@ -44,7 +53,7 @@ same-length : tie.Need-same-length Inv-loop μ-loop
 same-length c = search needs
 
 returns : tie.Need-returns Inv-loop μ-loop
-returns c = passed-all (c .before .loop .inv) (c .loop-test .left)
+returns c = passed-all (c .before .loop .inv) (subst (λ (n : ℕ). n ≤ c .before .loop .s) (c .before .before .sector-count .ensures) (c .loop-test .left))
 
 pub erase-sectors-spec : {M : Type 1} → statement M
 erase-sectors-spec =
@@ -52,6 +61,7 @@ erase-sectors-spec =
     (tie.spec
     Inv-loop
     μ-loop
+    sector-count-requires
     loop-holds
     sector-run-requires
     erase-requires

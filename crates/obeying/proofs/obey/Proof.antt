@@ -1,7 +1,7 @@
 -- `obeying::obey` meets its contract: the kinds of order are told apart as in the definition. Assumes nothing.
 use mathlib.Core.Path.{sym, _∙_}
 use Rattle.obeying.specs.Desk.{deskOf}
-use Rattle.obeying.proofs.Laws.{step-obeyed, step-shown, obeyed-as, sum-done, part-done, part-pages}
+use Rattle.obeying.proofs.Laws.{step-obeyed, step-shown, obeyed-as, sum-done, part-done, part-whole}
 use borrow.Author.Needs.{needs}
 use Rattle.obeying.proofs.obey.Statement.{statement}
 use Rattle.obeying.proofs.obey.Tie as tie
@@ -22,7 +22,7 @@ returns-2 : tie.Need-returns-2
 returns-2 c = sum-done (c .before .before .before .before .before .before .before .before .before .before .before .before .before .before .before .before .before .before .args .o) (c .before .before .before .before .before .before .before .before .before .before .before .before .before .before .before .before .before .before .args .line .now) (c .before .before .before .before .before .before .before .before .before .before .before .before .before .before .before .before .before .before .args .s) (sym (c .before .before .before .before .before .before .before .before .before .before .before .is-step .ensures) ∙ (c .before .before .before .before .before .before .before .before .before .before .if1 .left)) (sym (c .before .before .before .before .before .before .before .before .before .is-sum .ensures) ∙ (c .before .before .before .before .before .before .before .before .if2 .taken)) (c .before .before .sum .ensures .0) (c .before .before .sum .ensures .1)
 
 part-requires : tie.Need-part-requires
-part-requires c κs = ((c .before .before .before .before .before .before .before .before .before .before .before .before .pre .0 .array), part-pages (c .before .before .before .before .before .before .before .before .before .before .before .before .args .o .command) (c .before .before .before .before .before .before .before .before .before .before .before .before .args .o .number) (sym (c .before .before .before .before .before .is-step .ensures) ∙ (c .before .before .before .before .if1 .left)) (sym (c .before .before .before .is-sum .ensures) ∙ (c .before .before .if2 .left)) (c .before .before .before .before .before .before .before .before .before .before .before .before .pre .1 .number))
+part-requires c κs = ((c .before .before .before .before .before .before .before .before .before .before .before .before .pre .0 .array), part-whole (c .before .before .before .before .before .before .before .before .before .before .before .before .args .o .command) (c .before .before .before .before .before .before .before .before .before .before .before .before .args .o .number) (sym (c .before .before .before .before .before .is-step .ensures) ∙ (c .before .before .before .before .if1 .left)) (sym (c .before .before .before .is-sum .ensures) ∙ (c .before .before .if2 .left)) (c .before .before .before .before .before .before .before .before .before .before .before .before .pre .1 .number))
 
 returns-3 : tie.Need-returns-3
 returns-3 c =

@@ -5,19 +5,20 @@ use mathlib.Core.Path.{_≡_}
 use native.Mathlib.Omega.{arith}
 use lib.ListN.{length}
 use borrow.Author.Needs.{needs}
+use Rattle.geometry.specs.Parts.{pageRoom}
 use Rattle.power_loss.proofs.spoil_buffers.Statement.{statement}
 use Rattle.power_loss.proofs.spoil_buffers.Tie as tie
 
 spoil-buffer-requires : tie.Need-spoil-buffer-requires
 spoil-buffer-requires c κs =
     let s = c .before .before .before in
-    let l : length (s .args .c .buffer1) ≡ 264 = search needs in
+    let l : length (s .args .c .buffer1) ≡ pageRoom = search needs in
     (omega arith, omega arith)
 
 spoil-buffer-requires-2 : tie.Need-spoil-buffer-requires-2
 spoil-buffer-requires-2 c κs =
     let s = c .before .before .before .before .before .before .before in
-    let l : length (s .args .c .buffer2) ≡ 264 = search needs in
+    let l : length (s .args .c .buffer2) ≡ pageRoom = search needs in
     (omega arith, omega arith)
 
 returns : tie.Need-returns

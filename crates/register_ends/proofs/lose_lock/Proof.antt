@@ -9,7 +9,7 @@ use Rattle.register_ends.proofs.lose_lock.Tie as tie
 
 returns : tie.Need-returns
 returns c = let s = c .before .before .before .before .before .args in
-    c .lock .ensures ∙ lock-cut (s .g) (s .r) (s .sector) (s .junk .now) (c .before .if1 .taken)
+    c .lock .ensures (s .g) (c .before .before .before .before .before .pre .0) ∙ lock-cut (s .g) (s .r) (s .sector) (s .junk .now) (c .before .if1 .taken)
 
 returns-2 : tie.Need-returns-2
 returns-2 c = let s = c .before .before .before .before .args in

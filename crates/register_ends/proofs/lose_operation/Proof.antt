@@ -7,7 +7,7 @@ use Rattle.register_ends.proofs.lose_operation.Statement.{statement}
 use Rattle.register_ends.proofs.lose_operation.Tie as tie
 
 lose-lock-requires : tie.Need-lose-lock-requires
-lose-lock-requires c κs = (c .before .before .before .before .before .pre .2, lock-small (c .before .before .before .before .before .args .g) _ (c .before .u .given .0 .0) (c .before .before .before .before .before .args .o) (c .before .before .before .before .before .pre .0) (c .before .before .before .before .before .pre .1) (c .before .before .before .update-of .ensures) (c .before .u .given .1))
+lose-lock-requires c κs = (c .before .before .before .before .before .pre .0 .short, c .before .before .before .before .before .pre .2, lock-small (c .before .before .before .before .before .args .g) _ (c .before .u .given .0 .0) (c .before .before .before .before .before .args .o) (c .before .before .before .before .before .pre .0) (c .before .before .before .before .before .pre .1) (c .before .before .before .update-of .ensures) (c .before .u .given .1))
 
 returns : tie.Need-returns
 returns c = update-lost (c .before .before .before .before .args .g) (c .before .before .before .before .args .o) (c .before .before .before .before .args .r) (c .before .before .before .before .args .junk .now) (c .before .before .update-of .ensures) (c .enum-told .given .1) refl

@@ -7,7 +7,7 @@ use Rattle.registers.proofs.has_bits.Tie as tie
 
 returns : tie.Need-returns
 unfolding hasBits
-returns c = rw (c .bits .ensures)
+returns c = λ g r. rw (c .bits .ensures g r)
 
 pub has-bits-spec : {M : Type 1} → statement M
 has-bits-spec = tie.close (tie.spec (λ c κs. search needs) returns)

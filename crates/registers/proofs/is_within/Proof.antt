@@ -1,13 +1,13 @@
 -- `registers::is_within` meets its contract: arm for arm the definition; a set of sectors is below 2 to their number.
 -- Assumes nothing.
-use Rattle.geometry.proofs.Sectors.{sector-most}
+use Rattle.geometry.proofs.Sectors.{sectors-few}
 use native.Mathlib.Omega.{arith}
 use borrow.Author.Needs.{needs}
 use Rattle.registers.proofs.is_within.Statement.{statement}
 use Rattle.registers.proofs.is_within.Tie as tie
 
 power-requires : tie.Need-power-requires
-power-requires c κs = omega (arith, sector-most (c .before .before .before .before .args .g) (c .before .before .before .before .pre .few), c .sector-count2 .ensures)
+power-requires c κs = omega (arith, sectors-few (c .before .before .before .before .args .g) _ (c .before .before .before .before .pre), c .sector-count2 .ensures)
 
 returns-2 : tie.Need-returns-2
 returns-2 c = rw (c .before .before .n .given .1)

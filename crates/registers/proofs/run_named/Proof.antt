@@ -1,7 +1,7 @@
 -- `registers::run_named` meets its contract: arm for arm the definition; what the part has ends in it (`runs`).
 -- Assumes nothing.
 use Rattle.registers.proofs.Operations.{named-block, named-sector, runs}
-use Rattle.geometry.proofs.Sectors.{sector-most}
+use Rattle.geometry.proofs.Sectors.{sectors-few}
 use native.Mathlib.Omega.{arith}
 use borrow.Author.Needs.{needs}
 use Rattle.registers.proofs.run_named.Statement.{statement}
@@ -11,7 +11,10 @@ mul-t7 : tie.Need-mul-t7
 mul-t7 c = omega (arith, named-block (c .before .before .before .args .g) (c .before .before .before .args .n) (c .before .before .before .pre .1) (c .before .n2 .given .0 .0) (c .before .n2 .given .1), c .before .before .before .pre .0 .few)
 
 sector-run-requires : tie.Need-sector-run-requires
-sector-run-requires c κs = omega (arith, named-sector (c .before .before .before .args .g) (c .before .before .before .args .n) (c .before .before .before .pre .1) (c .before .n3 .given .0 .0) (c .before .n3 .given .1), sector-most (c .before .before .before .args .g) (c .before .before .before .pre .0 .few))
+sector-run-requires c κs =
+    let s = c .before .before .before in
+    let l = named-sector (s .args .g) (s .args .n) (s .pre .1) (c .before .n3 .given .0 .0) (c .before .n3 .given .1) in
+    (s .pre .0, omega (arith, l, sectors-few (s .args .g) _ (s .pre .0)))
 
 returns : tie.Need-returns
 returns c = runs (c .before .before .args .g) (c .before .before .args .n) _ (c .before .before .pre .1) (rw (c .enum-told .given .1))

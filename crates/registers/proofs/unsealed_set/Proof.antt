@@ -4,23 +4,24 @@ use borrow.Author.Tests.{not-true, not-false}
 use mathlib.Core.Path.{_≡_, refl, sym, _∙_}
 use Prim.Native.Nat.{_-_, _≤_}
 use native.Mathlib.Omega.{arith}
-use Rattle.geometry.proofs.Sectors.{sector-most}
-use Rattle.registers.specs.Protection.{unsealedFrom}
+use Rattle.geometry.specs.declared.Geometry.{Geometry}
+use Rattle.geometry.proofs.Sectors.{sectors-few}
+use Rattle.registers.specs.Protection.{Roomed, unsealedFrom}
 use Rattle.registers.proofs.Sets.{bare, set-alike, from-none, from-most, from-free, from-sealed, from-all}
 use Rattle.registers.proofs.unsealed_set.Statement.{statement}
 use Rattle.registers.proofs.unsealed_set.Tie as tie
 
 abbrev Inv-loop : tie.InvT-loop
-Inv-loop z s₀ m₀ s m = (s ≤ s₀) × (m ≡ unsealedFrom (bare z) (s₀ - s) s)
+Inv-loop z s₀ m₀ s m = (s ≤ s₀) × ((g : Geometry) → Roomed g → m ≡ unsealedFrom g (bare z) (s₀ - s) s)
 
 abbrev μ-loop : tie.MeasureT-loop
 μ-loop z s₀ m₀ s m = s
 
 sector-count-requires : tie.Need-sector-count-requires Inv-loop μ-loop
-sector-count-requires c κs = omega (arith, c .pre .blocks)
+sector-count-requires c κs = c .pre
 
 loop-holds : tie.Need-loop-holds Inv-loop μ-loop
-loop-holds c = (omega arith, from-none (bare (c .before .args .seals)) (c .sector-count .result))
+loop-holds c = (omega arith, λ g q. from-none g (bare (c .before .args .seals)) (c .sector-count .result))
 
 sub-s : tie.Need-sub-s Inv-loop μ-loop
 sub-s c = search needs
@@ -30,17 +31,17 @@ mul-m c =
     let s = c .before .before .before in
     let l = c .before .loop in
     let n = c .before .before .sector-count in
-    omega (arith, from-most (bare (s .args .seals)) (n .result - l .s) (l .s) (omega (arith, sector-most (s .args .g) (s .pre .few))))
+    omega (arith, l .inv .1 (s .args .g) (s .pre .short), from-most (s .args .g) (bare (s .args .seals)) (n .result - l .s) (l .s) (omega (arith, sectors-few (s .args .g) _ (s .pre))))
 
 is-sealed-requires : tie.Need-is-sealed-requires Inv-loop μ-loop
-is-sealed-requires c κs = let s = c .before .before .before in omega (arith, sector-most (s .args .g) (s .pre .few))
+is-sealed-requires c κs = let s = c .before .before .before in omega (arith, sectors-few (s .args .g) _ (s .pre))
 
 add-m : tie.Need-add-m Inv-loop μ-loop
 add-m c =
     let s = c .before .before .before .before .before in
     let l = c .before .before .before .loop in
     let n = c .before .before .before .before .sector-count in
-    omega (arith, from-most (bare (s .args .seals)) (n .result - l .s) (l .s) (omega (arith, sector-most (s .args .g) (s .pre .few))))
+    omega (arith, l .inv .1 (s .args .g) (s .pre .short), from-most (s .args .g) (bare (s .args .seals)) (n .result - l .s) (l .s) (omega (arith, sectors-few (s .args .g) _ (s .pre))))
 
 loop-less : tie.Need-loop-less Inv-loop μ-loop
 loop-less c = search needs
@@ -50,8 +51,10 @@ loop-again c =
     let l = c .before .before .before .loop in
     let p = c .before .is-sealed in
     let n = c .before .before .before .before .sector-count .result in
-    let e = sym (p .ensures (bare (c .before .before .before .before .before .args .seals)) refl) ∙ not-true (p .result) (c .if1 .taken) in
-    (omega arith, from-free (bare (c .before .before .before .before .before .args .seals)) n (l .s) (l .m) (omega arith) (omega arith) e (l .inv .1))
+    let z = bare (c .before .before .before .before .before .args .seals) in (
+      omega arith,
+      λ g q. from-free g z n (l .s) (l .m) (omega arith) (omega arith) (sym (p .ensures g q z refl) ∙ not-true (p .result) (c .if1 .taken)) (l .inv .1 g q),
+    )
 
 loop-less-2 : tie.Need-loop-less-2 Inv-loop μ-loop
 loop-less-2 c = search needs
@@ -61,15 +64,17 @@ loop-again-2 c =
     let l = c .before .before .before .loop in
     let p = c .before .is-sealed in
     let n = c .before .before .before .before .sector-count .result in
-    let e = sym (p .ensures (bare (c .before .before .before .before .before .args .seals)) refl) ∙ not-false (p .result) (c .if1 .left) in
-    (omega arith, from-sealed (bare (c .before .before .before .before .before .args .seals)) n (l .s) (l .m) (omega arith) (omega arith) e (l .inv .1))
+    let z = bare (c .before .before .before .before .before .args .seals) in (
+      omega arith,
+      λ g q. from-sealed g z n (l .s) (l .m) (omega arith) (omega arith) (sym (p .ensures g q z refl) ∙ not-false (p .result) (c .if1 .left)) (l .inv .1 g q),
+    )
 
 returns : tie.Need-returns Inv-loop μ-loop
 returns c =
     let s = c .before .before .before .args in
     let n = c .before .before .sector-count in
     let l = c .before .loop in
-    λ r e. from-all (s .g) (bare (s .seals)) (n .result) (l .s) (l .m) (n .ensures) (omega arith) (l .inv .1) ∙ set-alike (s .g) r (s .seals) e
+    λ r e. from-all (s .g) (bare (s .seals)) (n .result) (l .s) (l .m) (n .ensures) (omega arith) (l .inv .1 (s .g) (c .before .before .before .pre .short)) ∙ set-alike (s .g) r (s .seals) e
 
 pub unsealed-set-spec : {M : Type 1} → statement M
 unsealed-set-spec =

@@ -7,7 +7,7 @@ use Rattle.rows.proofs.erase_sector.Tie as tie
 
 returns : tie.Need-returns
 unfolding rowDecided
-returns c = λ r e. rw (c .start-on .ensures r e, c .before .sector-of .ensures .0, c .before .before .page-named .ensures .0)
+returns c = λ r e. rw (c .start-on .ensures r e, c .before .sector-of .ensures, c .before .before .page-named .ensures .0)
 
 pub erase-sector-spec : {M : Type 1} → statement M
 erase-sector-spec =

@@ -8,7 +8,7 @@ use Rattle.rows.proofs.lock_sector.Tie as tie
 
 returns : tie.Need-returns
 unfolding sectorLocked applied changed
-returns c = λ r e. rw (c .start .ensures, c .before .sector-of .ensures .0, c .before .before .page-named .ensures .0)
+returns c = λ r e. rw (c .start .ensures, c .before .sector-of .ensures, c .before .before .page-named .ensures .0)
 
 pub lock-sector-spec : {M : Type 1} → statement M
 lock-sector-spec =

@@ -1,6 +1,10 @@
 -- `rows::program_protection` meets its contract: WP decides (`listed-high`, `listed-low`).
 -- Assumes nothing.
+use Prim.Native.Nat.{ℕ}
+use lib.ListN.{drop}
+use mathlib.Core.Path.{sym, ap, _∙_}
 use borrow.Author.Needs.{needs}
+use Rattle.registers.specs.Data.{padded, pack16}
 use Rattle.control.specs.Control.{protectionData}
 use Rattle.control.specs.Rulings.{applied, changed}
 use Rattle.control.proofs.Bearing.{wp-of}
@@ -11,14 +15,14 @@ use Rattle.rows.proofs.program_protection.Tie as tie
 returns : tie.Need-returns
 unfolding protectionData applied changed
 returns c = let s = c .before .before .before .before .before .args in
-    λ r e.
-    rw (c .rule .ensures, c .before .protection-data .ensures)
-    (listed-high r (s .frame .now) (wp-of r (s .m) e (c .before .before .if1 .taken)))
+    λ g q r e.
+    rw (c .rule .ensures, c .before .protection-data .ensures ∙ ap (λ (n : ℕ). pack16 (padded n (drop 4 (s .frame .now)))) (sym q))
+    (listed-high g r (s .frame .now) (wp-of r (s .m) e (c .before .before .if1 .taken)))
 
 returns-2 : tie.Need-returns-2
 unfolding applied changed
 returns-2 c = let s = c .before .before .before .before .args in
-    λ r e. rw (c .ignore .ensures) (listed-low r (s .frame .now) (wp-of r (s .m) e (c .before .if1 .left)))
+    λ g q r e. rw (c .ignore .ensures) (listed-low g r (s .frame .now) (wp-of r (s .m) e (c .before .if1 .left)))
 
 pub program-protection-spec : {M : Type 1} → statement M
 program-protection-spec =

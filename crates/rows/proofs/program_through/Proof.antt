@@ -2,6 +2,8 @@
 -- one gets to the buffer.
 -- Assumes nothing.
 use mathlib.Core.Path.{_∙_, ap}
+use native.Mathlib.Omega.{arith}
+use Rattle.geometry.proofs.Sectors.{sector-served}
 use borrow.Author.Needs.{needs}
 use Rattle.geometry.specs.Parts.{pageAt, byteAt, addressAt}
 use Rattle.geometry.specs.Sectors.{sectorOf}
@@ -12,6 +14,12 @@ use Rattle.control.proofs.Steps.{through-open, through-sealed, tested}
 use Rattle.rows.proofs.program_through.Statement.{statement}
 use Rattle.rows.proofs.program_through.Tie as tie
 
+is-sealed-requires : tie.Need-is-sealed-requires
+is-sealed-requires c κs =
+    let s = c .before .before .before .before in
+    let n = c .before .before .page-named in
+    omega (arith, c .sector-of .ensures, sector-served (s .args .g) _ (n .result) (s .pre .0) (n .ensures .1))
+
 returns : tie.Need-returns
 unfolding rowDecided applied changed
 returns c = let s = c .before .before .before .before .before .before .before .args in
@@ -19,9 +27,9 @@ returns c = let s = c .before .before .before .before .before .before .before .a
     let page = pageAt (s .g) n in
     λ r k.
     rw (c .ignore .ensures)
-    (through-sealed r (s .buffer) page (byteAt (s .g) n) (s .lead)
-    (tested r page (c .before .before .before .sector-of .ensures .0 ∙ ap sectorOf (c .before .before .before .before .before .page-named .ensures .0))
-    (c .before .before .is-sealed .ensures r (seals-of r (s .m) k)) (c .before .if1 .taken)))
+    (through-sealed (s .g) r (s .buffer) page (byteAt (s .g) n) (s .lead)
+    (tested (s .g) r page (c .before .before .before .sector-of .ensures ∙ ap (sectorOf (s .g)) (c .before .before .before .before .before .page-named .ensures .0))
+    (c .before .before .is-sealed .ensures (s .g) (c .before .before .before .before .before .before .before .pre .0 .short) r (seals-of r (s .m) k)) (c .before .if1 .taken)))
 
 returns-2 : tie.Need-returns-2
 unfolding rowDecided applied changed
@@ -30,9 +38,9 @@ returns-2 c = let s = c .before .before .before .before .before .before .before 
     let page = pageAt (s .g) n in
     λ r k.
     rw (c .rule .ensures, c .before .byte-named .ensures .0, c .before .before .before .before .before .before .page-named .ensures .0)
-    (through-open r (s .buffer) page (byteAt (s .g) n) (s .lead)
-    (tested r page (c .before .before .before .before .sector-of .ensures .0 ∙ ap sectorOf (c .before .before .before .before .before .before .page-named .ensures .0))
-    (c .before .before .before .is-sealed .ensures r (seals-of r (s .m) k)) (c .before .before .if1 .left)))
+    (through-open (s .g) r (s .buffer) page (byteAt (s .g) n) (s .lead)
+    (tested (s .g) r page (c .before .before .before .before .sector-of .ensures ∙ ap (sectorOf (s .g)) (c .before .before .before .before .before .before .page-named .ensures .0))
+    (c .before .before .before .is-sealed .ensures (s .g) (c .before .before .before .before .before .before .before .before .pre .0 .short) r (seals-of r (s .m) k)) (c .before .before .if1 .left)))
 
 pub program-through-spec : {M : Type 1} → statement M
 program-through-spec =
@@ -40,7 +48,7 @@ program-through-spec =
     (tie.spec
     (λ c κs. search needs)
     (λ c κs. search needs)
-    (λ c κs. search needs)
+    is-sealed-requires
     (λ c κs. search needs)
     returns
     (λ c κs. search needs)

@@ -130,7 +130,9 @@ returns-17 c = λ r k. rw (c .before .enum-told9 .given .1) (c .erase-protection
 
 returns-18 : tie.Need-returns-18
 unfolding rowDecided
-returns-18 c = λ r k. rw (c .before .enum-told10 .given .1) (c .program-protection .ensures r k)
+returns-18 c =
+    let s = c .before .before .before .before in
+    λ r k. rw (c .before .enum-told10 .given .1) (c .program-protection .ensures (s .args .g) (s .pre .0 .short) r k)
 
 returns-19 : tie.Need-returns-19
 unfolding rowDecided

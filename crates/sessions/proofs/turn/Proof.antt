@@ -1,4 +1,5 @@
 -- `sessions::turn` meets its contract. Assumes nothing.
+use Rattle.slots.specs.Driver.{frameRoom}
 use Rattle.runs.proofs.Turns.{written-taken, written-frame, reply-reaches, array-long, turned}
 use Rattle.slots.specs.Plans.{isWait}
 use mathlib.Core.Bool.{cond}
@@ -17,16 +18,16 @@ step-at-requires : tie.Need-step-at-requires
 step-at-requires c κs = sound-slot ((c .before .before .before .before .before .before .pre) .sound)
 
 write-step-requires : tie.Need-write-step-requires
-write-step-requires c κs = (sound-pages ((c .before .before .before .before .before .before .before .before .before .before .pre) .sound), sized _ _ ((c .before .before .before .before .before .before .before .before .before .before .pre) .sound .part) .narrow, (c .before .before .before .step-at) .ensures .1, search needs, search needs)
+write-step-requires c κs = (sound-pages ((c .before .before .before .before .before .before .before .before .before .before .pre) .sound), (c .before .before .before .step-at) .ensures .1, search needs, search needs)
 
 -- the frame's buffer, as long as it was lent
-long : (e : tie.After-struct-known) → length (e .before .before .before .before .before .before .before .before .before .before .before .before .before .before .before .before .before .before .before .args .frame .now) ≡ 272
+long : (e : tie.After-struct-known) → length (e .before .before .before .before .before .before .before .before .before .before .before .before .before .before .before .before .before .before .before .args .frame .now) ≡ frameRoom
 long e = search needs
 
 exchange-first-requires : tie.Need-exchange-first-requires
 exchange-first-requires c κs =
     let a = (c .before .before .before .before .before .before .before .before .before .before .before .before .before .before .before .before .before .before .before .args) in
-    let room : length (a .reply .now) ≡ 272 = search needs in
+    let room : length (a .reply .now) ≡ frameRoom = search needs in
     let k = written-taken (a .g) (heldIn (a .block .now) (a .array .now)) (a .s) (a .log .now) (c .before .before .before .before .before .before .before .before .before .before .before .before .before .before .before .before .before .before .before .pre) (a .payload .now) (a .staged .now) (a .frame .now) (long c)
     ((c .before .before .before .before .before .before .before .before .before .before .before .before .step-at) .ensures .0 (a .g)) ((c .before .before .before .before .before .before .before .before .write-step) .ensures) in
     ((c .before .before .before .before .before .before .before .before .before .before .before .before .before .before .before .before .before .before .before .pre) .part, k .0, omega (arith, k .1, room), k .2, (c .before .before .before .before .before .before .before .before .before .before .before .before .before .before .before .before .before .before .before .pre) .room)

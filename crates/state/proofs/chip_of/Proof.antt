@@ -1,24 +1,26 @@
 -- `state::chip_of` meets its contract: each buffer is its half.
 -- Assumes nothing.
+use Prim.Native.Nat.{_*_}
 use mathlib.Core.Path.{_≡_, sym}
 use native.Mathlib.Omega.{arith}
 use lib.ListN.{length}
 use lib.Seq.{length-take-le}
 use borrow.Author.Needs.{needs}
 use Rattle.state.proofs.chip_of.Statement.{statement}
+use Rattle.state.specs.Memory.{bufferSize}
 use Rattle.state.proofs.chip_of.Tie as tie
 
 slice-aggregate-copy-2 : tie.Need-slice-aggregate-copy-2
 slice-aggregate-copy-2 c =
     let b = c .before .before .args .buffers in
-    let l : length b ≡ 528 = search needs in
-    sym (length-take-le 264 b (omega arith))
+    let l : length b ≡ 2 * bufferSize = search needs in
+    sym (length-take-le bufferSize b (omega arith))
 
 copy-requires : tie.Need-copy-requires
 copy-requires c κs =
     let b = c .before .before .args .buffers in
-    let l : length b ≡ 528 = search needs in
-    sym (length-take-le 264 b (omega arith))
+    let l : length b ≡ 2 * bufferSize = search needs in
+    sym (length-take-le bufferSize b (omega arith))
 
 returns : tie.Need-returns
 returns c = λ i.

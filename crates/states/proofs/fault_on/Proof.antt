@@ -1,4 +1,4 @@
--- `states::fault_on` meets its contract: the refusals of the start come first, and what they let pass has a slot below 512.
+-- `states::fault_on` meets its contract: the refusals of the start come first, and what they let pass has a slot of the part's.
 -- Assumes nothing.
 use mathlib.Core.Bool.{false}
 use mathlib.Core.Path.{_≡_, sym, ap, _∙_}

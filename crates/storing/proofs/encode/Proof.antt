@@ -5,6 +5,7 @@ use mathlib.Core.List.{[], _∷_, _++_}
 use Rattle.blocks.proofs.Lengths.{length-encodeRegisters}
 use Rattle.blocks.proofs.Stored.{stored-more, splice-one, four}
 use Rattle.slices.proofs.Laws.{over-whole}
+use Rattle.geometry.specs.Parts.{pageRoom}
 use lib.ListN.{length, length-set}
 use native.Mathlib.Omega.{arith}
 use Prim.Native.Nat.{ℕ}
@@ -14,7 +15,7 @@ use Rattle.storing.proofs.encode.Statement.{statement}
 use Rattle.storing.proofs.encode.Tie as tie
 
 -- the lengths of the buffers
-long : (s : tie.Start) → (length (s .args .c .buffer1) ≡ 264) × (length (s .args .c .buffer2) ≡ 264)
+long : (s : tie.Start) → (length (s .args .c .buffer1) ≡ pageRoom) × (length (s .args .c .buffer2) ≡ pageRoom)
 long s = (search needs, search needs)
 
 arrays : (s : tie.Start) → Lengths (s .args .c .registers)
@@ -44,8 +45,8 @@ returns c =
     let x = c .flag-byte .result in
     let z =
     stored-more (x ∷ []) 1 refl
-    (stored-more (k .buffer2) 264 ((long s) .1)
-    (stored-more (k .buffer1) 264 ((long s) .0)
+    (stored-more (k .buffer2) pageRoom ((long s) .1)
+    (stored-more (k .buffer1) pageRoom ((long s) .0)
     (record { long = length-encodeRegisters (k .registers) (arrays s); same = e .encode-registers .ensures })
     (q .put .ensures))
     (p .put2 .ensures))

@@ -6,21 +6,34 @@ use Rattle.slots.specs.Driver.{shapeOf}
 use Rattle.steps.specs.Places.{pageBy}
 use Rattle.worlds.specs.Turns.{holdingOf}
 use Rattle.turns.proofs.Frames.{wait-form, protection-form, lockdown-form, read-form, send-form, end-form, address-fits, by-step, named-few}
+use native.Mathlib.Omega.{arith}
 use borrow.Author.Needs.{needs}
 use Rattle.turns.proofs.write_step.Statement.{statement}
 use Rattle.turns.proofs.write_step.Tie as tie
+
+add-write-long : tie.Need-add-write-long
+add-write-long c = omega (arith, c .before .before .before .before .before .pre .0 .full)
+
+write-long-requires : tie.Need-write-long-requires
+write-long-requires c κs = let s = c .before .before .before .before .before .before in (omega arith, omega (arith, s .pre .0 .full, s .pre .3))
+
+add-write-long-2 : tie.Need-add-write-long-2
+add-write-long-2 c = omega (arith, c .before .before .before .before .before .pre .0 .full)
+
+write-long-requires-2 : tie.Need-write-long-requires-2
+write-long-requires-2 c κs = let s = c .before .before .before .before .before .before in (omega arith, omega (arith, s .pre .0 .full, s .pre .3))
 
 mul-write-long : tie.Need-mul-write-long
 unfolding pageBy
 mul-write-long c =
     let s = c .before .before .before .before .before .before in
-    address-fits _ _ (s .pre .1) (named-few (s .args .x) (s .pre .2) (c .before .x .given .1))
+    address-fits _ _ (s .pre .0 .named) (named-few (s .args .x) (s .pre .1) (c .before .x .given .1))
 
 mul-write-send : tie.Need-mul-write-send
 unfolding pageBy
 mul-write-send c =
     let s = c .before .before .before .before .before .before in
-    address-fits _ _ (s .pre .1) (named-few (s .args .x) (s .pre .2) (c .before .x3 .given .1))
+    address-fits _ _ (s .pre .0 .named) (named-few (s .args .x) (s .pre .1) (c .before .x3 .given .1))
 
 returns : tie.Need-returns
 unfolding shapeOf
@@ -77,9 +90,11 @@ write-step-spec =
     (λ c. search needs)
     (λ c κs. search needs)
     (λ c. search needs)
-    (λ c κs. search needs)
+    add-write-long
+    write-long-requires
     (λ c. search needs)
-    (λ c κs. search needs)
+    add-write-long-2
+    write-long-requires-2
     (λ c. search needs)
     mul-write-long
     (λ c. search needs)

@@ -20,7 +20,7 @@ returns-3 c = rw (c .before .enum-told3 .given .1) (c .level .ensures)
 
 returns-4 : tie.Need-returns-4
 unfolding numberAs
-returns-4 c = rw (c .before .enum-told4 .given .1) (c .pages .ensures)
+returns-4 c = rw (c .before .enum-told4 .given .1) (c .array-length .ensures)
 
 returns-5 : tie.Need-returns-5
 unfolding numberAs

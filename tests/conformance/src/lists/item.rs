@@ -2,37 +2,47 @@
 
 use std::fmt;
 
+use at45db081d_model::Part;
+
 use crate::request::{runs, Request};
 use crate::rng::Rng;
-
-/// Where the cut rule takes junk for a register.
-const REGISTER_JUNK: usize = 528;
 
 /// Junk made from a seed, but for the bytes that may reach a register.
 #[derive(Clone, Debug)]
 pub struct Junk {
     pub len: usize,
     pub seed: u64,
-    /// The bytes from 528 on.
-    pub at_528: [u8; 64],
+    /// Where the cut rule takes junk for a register, and the bytes there.
+    at: usize,
+    pub register: [u8; 64],
 }
 
 impl Junk {
-    pub fn random(rng: &mut Rng, len: usize) -> Junk {
-        let mut at_528 = [0; 64];
-        rng.fill(&mut at_528);
+    /// Junk of this length for a cut of the part.
+    pub fn random(rng: &mut Rng, part: Part, len: usize) -> Junk {
+        let mut register = [0; 64];
+        rng.fill(&mut register);
         Junk {
             len,
             seed: rng.next_u64(),
-            at_528,
+            at: part.array_junk(),
+            register,
         }
+    }
+
+    /// Other junk of the same length.
+    pub fn another(&self, rng: &mut Rng) -> Junk {
+        let mut other = self.clone();
+        rng.fill(&mut other.register);
+        other.seed = rng.next_u64();
+        other
     }
 
     pub fn write(&self, junk: &mut Vec<u8>) {
         junk.resize(self.len, 0);
         Rng::new(self.seed).fill(junk);
-        if let Some(bytes) = junk.get_mut(REGISTER_JUNK..REGISTER_JUNK + 64) {
-            bytes.copy_from_slice(&self.at_528);
+        if let Some(bytes) = junk.get_mut(self.at..self.at + 64) {
+            bytes.copy_from_slice(&self.register);
         }
     }
 }
@@ -105,7 +115,7 @@ impl fmt::Display for Item {
 
 impl fmt::Display for Junk {
     fn fmt(&self, f: &mut fmt::Formatter) -> fmt::Result {
-        let shown = &self.at_528[..2];
+        let shown = &self.register[..2];
         write!(f, "junk {} from {:x}, {shown:02X?}..", self.len, self.seed)
     }
 }

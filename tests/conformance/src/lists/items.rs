@@ -1,10 +1,10 @@
 //! Random items: requests, scripts, frames and what is lent.
 
-use at45db081d_model::slot::MAX_RECIPE;
 use at45db081d_model::Part;
 
 use super::item::{CallItem, Item, Junk};
 use crate::frames::{self, ROWS};
+use crate::parts;
 use crate::request::Request;
 use crate::rng::Rng;
 
@@ -45,15 +45,15 @@ fn request(rng: &mut Rng, part: Part) -> Request {
     let (slot, limit) = (slot(rng, part), limit(rng));
     let over = rng.one_in(16);
     match rng.below(13) {
-        0..=2 => Request::put(slot, limit, recipe(rng, over)),
+        0..=2 => Request::put(slot, limit, recipe(rng, part, over)),
         3..=5 => {
-            let (place, bytes) = patch(rng, over);
+            let (place, bytes) = patch(rng, part, over);
             Request::patch(slot, limit, place, bytes)
         }
         6..=8 => {
             let buffer_len = match over {
-                true => rng.below(MAX_RECIPE),
-                false => MAX_RECIPE + rng.below(3),
+                true => rng.below(part.max_recipe()),
+                false => part.max_recipe() + rng.below(3),
             };
             Request::get(slot, limit, buffer_len)
         }
@@ -68,28 +68,30 @@ fn request(rng: &mut Rng, part: Part) -> Request {
 
 /// A recipe, within the limit or over it; short ones are frequent, so that
 /// pages of zeros are.
-pub fn recipe(rng: &mut Rng, over: bool) -> Vec<u8> {
+pub fn recipe(rng: &mut Rng, part: Part, over: bool) -> Vec<u8> {
+    let (most, page) = (part.max_recipe(), part.page_size);
     let len = match rng.below(8) {
-        0 if over => 0x1_0000 + rng.below(MAX_RECIPE),
-        _ if over => MAX_RECIPE + 1 + rng.below(200),
+        0 if over => 0x1_0000 + rng.below(most),
+        _ if over => most + 1 + rng.below(200),
         0..=2 => rng.below(300),
-        3 => rng.pick(&[0, 1, 261, 262, 2108, 2109]),
-        _ => rng.below(MAX_RECIPE + 1),
+        3 => rng.pick(&[0, 1, page - 3, page - 2, most - 1, most]),
+        _ => rng.below(most + 1),
     };
     bytes(rng, len)
 }
 
 /// A patch's place and bytes, within the limit or over it.
-pub fn patch(rng: &mut Rng, over: bool) -> (usize, Vec<u8>) {
+pub fn patch(rng: &mut Rng, part: Part, over: bool) -> (usize, Vec<u8>) {
+    let most = part.max_recipe();
     if over {
-        let place = rng.pick(&[0, 1000, MAX_RECIPE, usize::MAX - 5, usize::MAX]);
-        let least = (MAX_RECIPE + 1).saturating_sub(place);
+        let place = rng.pick(&[0, 1000, most, usize::MAX - 5, usize::MAX]);
+        let least = (most + 1).saturating_sub(place);
         let more = rng.below(50);
         return (place, bytes(rng, least + more));
     }
-    let furthest = rng.pick(&[20, 300, MAX_RECIPE + 1]);
+    let furthest = rng.pick(&[20, 300, most + 1]);
     let place = rng.below(furthest);
-    let longest = rng.pick(&[8, 300, MAX_RECIPE]).min(MAX_RECIPE - place);
+    let longest = rng.pick(&[8, 300, most]).min(most - place);
     let len = rng.below(longest + 1);
     (place, bytes(rng, len))
 }
@@ -137,9 +139,10 @@ fn junk(rng: &mut Rng, part: Part) -> Junk {
     let len = match rng.below(30) {
         0 => 0,
         1 => part.junk_len() + 1,
+        2 => parts::other_page_size(part).junk_len(),
         _ => part.junk_len(),
     };
-    Junk::random(rng, len)
+    Junk::random(rng, part, len)
 }
 
 fn log_len(rng: &mut Rng, request: &Request) -> usize {
@@ -154,11 +157,11 @@ fn log_len(rng: &mut Rng, request: &Request) -> usize {
 /// A frame of the table; its page is mostly in the first slots.
 fn frame(rng: &mut Rng, part: Part) -> Vec<u8> {
     let row = rng.pick(&ROWS);
-    let len = row.lead + rng.pick(&[0, 0, 1, 16, 64, 264, 600]);
+    let len = row.lead + rng.pick(&[0, 0, 1, 16, 64, 256, 264, 600]);
     let page = match rng.one_in(4) {
         true => rng.below(part.pages),
         false => rng.below(8 * SLOTS),
     };
-    let address = frames::address(rng, page, 0, part.pages);
+    let address = frames::address(rng, page, 0, part);
     row.frame(rng, address, len)
 }

@@ -12,6 +12,7 @@ use super::items;
 use super::world::World;
 use super::Broken;
 use crate::device::{Device, Model};
+use crate::parts;
 use crate::records::{self, OPERATIONS};
 use crate::request::Request;
 use crate::rng::Rng;
@@ -33,22 +34,23 @@ pub struct Kept {
 #[derive(Clone, Copy, Default)]
 pub struct Shown {
     pub lists: u64,
+    /// Of these the ones on each part.
+    pub parts: [u64; 4],
     pub gets: u64,
     /// Gets that answered 0.
     pub read: u64,
 }
 
-/// Makes the list of a seed, runs it on a device and looks at every get; a put
-/// that is not answered with 0 shows nothing.
-pub fn check(device: &mut dyn Device, seed: u64) -> Result<Shown, Broken> {
-    let mut shown = Shown::default();
+/// Makes the list of a seed, runs it on a device and looks at every get; adds to
+/// what was shown. A put that is not answered with 0 shows nothing.
+pub fn check(device: &mut dyn Device, seed: u64, shown: &mut Shown) -> Result<(), Broken> {
     let kept = kept(seed);
     let mut world = kept.world.clone();
     for (i, item) in kept.items.iter().enumerate() {
         let outline = world.run(device, item);
         let outcome = outline.outcome;
         if i == 0 && outcome.answer != 0 {
-            return Ok(shown);
+            return Ok(());
         }
         if !is_get(item, kept.slot) {
             continue;
@@ -61,8 +63,9 @@ pub fn check(device: &mut dyn Device, seed: u64) -> Result<Shown, Broken> {
         shown.gets += 1;
         shown.read += u64::from(outcome.answer == 0);
     }
-    shown.lists = 1;
-    Ok(shown)
+    shown.lists += 1;
+    parts::count(&mut shown.parts, kept.world.array.len());
+    Ok(())
 }
 
 /// The chip is idle and awake at the last get, which must answer 0.
@@ -96,13 +99,10 @@ fn is_get(item: &Item, slot: usize) -> bool {
 /// nothing between it and the last get.
 pub fn kept(seed: u64) -> Kept {
     let mut rng = Rng::new(seed.wrapping_mul(0xC2B2_AE3D_27D4_EB4F));
-    let part = match rng.one_in(200) {
-        true => Part::FULL,
-        false => Part::SHORT,
-    };
+    let part = parts::pick(&mut rng, 200);
     let slot = slot(&mut rng, part);
     let world = world(&mut rng, part);
-    let recipe = items::recipe(&mut rng, false);
+    let recipe = items::recipe(&mut rng, part, false);
     let mut put = items::call(&mut rng, part);
     put.request = Request::put(slot, 1 + rng.below(5), recipe.clone());
     put.log_len = put.request.log_len();
@@ -126,7 +126,7 @@ pub fn kept(seed: u64) -> Kept {
         frame: vec![0xAB],
         reply_len: 1,
     });
-    items.push(last_get(&mut rng, slot));
+    items.push(last_get(&mut rng, part, slot));
     Kept {
         world,
         slot,
@@ -167,13 +167,13 @@ fn aim(rng: &mut Rng, item: &mut Item, aim: usize) {
     }
 }
 
-fn last_get(rng: &mut Rng, slot: usize) -> Item {
-    let request = Request::get(slot, 1, 2109);
+fn last_get(rng: &mut Rng, part: Part, slot: usize) -> Item {
+    let request = Request::get(slot, 1, part.max_recipe());
     Item::Call(Box::new(CallItem {
         log_len: request.log_len(),
         request,
         script: Vec::new(),
-        junk: Junk::random(rng, 0),
+        junk: Junk::random(rng, part, 0),
     }))
 }
 

@@ -6,7 +6,7 @@
 //! and answer of a call, the answer of an event, with 0, 12 and 13 as one.
 
 use at45db081d_model::record::{field, tag};
-use at45db081d_model::slot::{with_recipe, MAX_RECIPE, SLOT_SIZE};
+use at45db081d_model::slot::store;
 use at45db081d_model::{Part, Record};
 
 use super::item::{CallItem, Item, Junk};
@@ -14,6 +14,7 @@ use super::items::{self, SLOTS};
 use super::world::{Outline, World};
 use super::Broken;
 use crate::device::{Device, Model};
+use crate::parts;
 use crate::records::{self, OPERATIONS};
 use crate::request::{Request, KINDS};
 use crate::rng::Rng;
@@ -22,7 +23,7 @@ use crate::rng::Rng;
 const LONGEST: usize = 12;
 
 /// Array lengths of no part.
-const NO_PART: [usize; 6] = [0, 1, 264, 2_112, 33_791, 33_793];
+const NO_PART: [usize; 10] = [0, 1, 256, 264, 2_048, 2_112, 32_767, 32_769, 33_791, 33_793];
 
 /// A premise that is left out, to show that the claim needs it.
 #[derive(Clone, Copy, Debug, PartialEq, Eq)]
@@ -44,6 +45,8 @@ pub struct Twins {
 #[derive(Clone, Copy, Default)]
 pub struct Shown {
     pub pairs: u64,
+    /// Of these the ones on each part.
+    pub parts: [u64; 4],
     pub frames: u64,
     /// Calls by kind and answer of the first run.
     pub answers: [[u64; 14]; KINDS.len()],
@@ -89,6 +92,7 @@ pub fn check(
         shown.count(&twins.items[i][0], a, b);
     }
     shown.pairs += 1;
+    parts::count(&mut shown.parts, twins.worlds[0].array.len());
     Ok(())
 }
 
@@ -128,7 +132,7 @@ pub fn twins(seed: u64, without: Without) -> Twins {
     let first = record(&mut rng, part);
     let second = records::alike_in_registers(&mut rng, &first);
     let worlds = [first, second].map(|record| {
-        let array = array(&mut rng, array_len);
+        let array = array(&mut rng, part, array_len);
         World::new(record, array, rng.next_u64())
     });
     // The model goes ahead with the first list.
@@ -139,12 +143,12 @@ pub fn twins(seed: u64, without: Without) -> Twins {
     Twins { worlds, items }
 }
 
-/// Mostly the short part, rarely the full one or an array of no part.
+/// Mostly a short part, rarely a full one or an array of no part.
 fn array_len(rng: &mut Rng) -> (usize, Part) {
-    match rng.below(200) {
-        0 => (Part::FULL.array_len(), Part::FULL),
-        1..=3 => (rng.pick(&NO_PART), Part::SHORT),
-        _ => (Part::SHORT.array_len(), Part::SHORT),
+    let part = parts::pick(rng, 200);
+    match rng.below(70) {
+        0 if parts::is_short(part) => (rng.pick(&NO_PART), part),
+        _ => (part.array_len(), part),
     }
 }
 
@@ -162,12 +166,12 @@ fn record(rng: &mut Rng, part: Part) -> Record {
 }
 
 /// Random bytes; some slots hold a recipe.
-fn array(rng: &mut Rng, len: usize) -> Vec<u8> {
+fn array(rng: &mut Rng, part: Part, len: usize) -> Vec<u8> {
     let mut array = vec![0; len];
     rng.fill(&mut array);
-    for slot in array.chunks_exact_mut(SLOT_SIZE).take(SLOTS) {
+    for slot in array.chunks_exact_mut(part.slot_size()).take(SLOTS) {
         if rng.one_in(2) {
-            slot.copy_from_slice(&with_recipe(&items::recipe(rng, false)));
+            store(slot, &items::recipe(rng, part, false));
         }
     }
     array
@@ -177,7 +181,7 @@ fn array(rng: &mut Rng, len: usize) -> Vec<u8> {
 fn item_pair(rng: &mut Rng, ahead: &mut World, part: Part, without: Without) -> [Item; 2] {
     let mut first = items::item(rng, part);
     if let Item::Call(call) = &mut first {
-        put_again(rng, &mut call.request, &ahead.array);
+        put_again(rng, part, &mut call.request, &ahead.array);
     }
     let reach = match without {
         Without::JunkAlike => Reach::Nothing,
@@ -188,7 +192,7 @@ fn item_pair(rng: &mut Rng, ahead: &mut World, part: Part, without: Without) -> 
     let size_matters = !(1..=4).contains(&answer) && without != Without::SizeAlike;
     let mut second = first.clone();
     if let Item::Call(call) = &mut second {
-        change_request(rng, call, size_matters);
+        change_request(rng, part, call, size_matters);
     }
     if let Some(junk) = second.junk() {
         *junk = other_junk(rng, junk, reach);
@@ -197,12 +201,12 @@ fn item_pair(rng: &mut Rng, ahead: &mut World, part: Part, without: Without) -> 
 }
 
 /// At times puts the recipe that the slot holds already.
-fn put_again(rng: &mut Rng, request: &mut Request, array: &[u8]) {
+fn put_again(rng: &mut Rng, part: Part, request: &mut Request, array: &[u8]) {
     if let Request::Put { slot, recipe, .. } = request {
-        let held = array.chunks_exact(SLOT_SIZE).nth(*slot);
+        let held = array.chunks_exact(part.slot_size()).nth(*slot);
         if let Some(held) = held.filter(|held| held[0] == 1 && rng.one_in(3)) {
             let len = usize::from(u16::from_be_bytes([held[1], held[2]]));
-            if len <= MAX_RECIPE && recipe.len() <= MAX_RECIPE {
+            if len.max(recipe.len()) <= part.max_recipe() {
                 *recipe = held[3..3 + len].to_vec();
             }
         }
@@ -210,17 +214,18 @@ fn put_again(rng: &mut Rng, request: &mut Request, array: &[u8]) {
 }
 
 /// Makes recipe or patch another one, its length too.
-fn change_request(rng: &mut Rng, call: &mut CallItem, size_matters: bool) {
+fn change_request(rng: &mut Rng, part: Part, call: &mut CallItem, size_matters: bool) {
+    let most = part.max_recipe();
     match &mut call.request {
         Request::Put { recipe, .. } => {
-            let over = recipe.len() > MAX_RECIPE;
+            let over = recipe.len() > most;
             let over = if size_matters { over } else { rng.one_in(2) };
-            *recipe = items::recipe(rng, over);
+            *recipe = items::recipe(rng, part, over);
         }
         Request::Patch { place, bytes, .. } => {
-            let over = place.saturating_add(bytes.len()) > MAX_RECIPE;
+            let over = place.saturating_add(bytes.len()) > most;
             let over = if size_matters { over } else { rng.one_in(2) };
-            (*place, *bytes) = items::patch(rng, over);
+            (*place, *bytes) = items::patch(rng, part, over);
         }
         _ => {}
     }
@@ -230,9 +235,9 @@ fn change_request(rng: &mut Rng, call: &mut CallItem, size_matters: bool) {
 #[derive(Clone, Copy, PartialEq, Eq)]
 enum Reach {
     Nothing,
-    /// So many bytes from 528 on.
+    /// So many bytes.
     Bytes(usize),
-    /// Whether J[528] is 80h or more (8.8).
+    /// Whether the first of them is 80h or more (8.8).
     Lock,
 }
 
@@ -245,7 +250,7 @@ fn reach(world: &World, item: &Item) -> Reach {
     }
     let [zeros, ones] = [0x00, 0xFF].map(|byte| {
         let mut world = world.clone();
-        item.junk().expect("junk").at_528 = [byte; 64];
+        item.junk().expect("junk").register = [byte; 64];
         world.run(&mut Model, &item);
         world.record
     });
@@ -263,11 +268,11 @@ fn reach(world: &World, item: &Item) -> Reach {
 
 /// Junk of the same length, alike in what reaches a register.
 fn other_junk(rng: &mut Rng, junk: &Junk, reach: Reach) -> Junk {
-    let mut other = Junk::random(rng, junk.len);
+    let mut other = junk.another(rng);
     match reach {
         Reach::Nothing => {}
-        Reach::Bytes(count) => other.at_528[..count].copy_from_slice(&junk.at_528[..count]),
-        Reach::Lock => other.at_528[0] = other.at_528[0] & 0x7F | junk.at_528[0] & 0x80,
+        Reach::Bytes(count) => other.register[..count].copy_from_slice(&junk.register[..count]),
+        Reach::Lock => other.register[0] = other.register[0] & 0x7F | junk.register[0] & 0x80,
     }
     other
 }

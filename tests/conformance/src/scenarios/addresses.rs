@@ -19,16 +19,20 @@ pub const ADDRESSES: Scenario = Scenario {
     run,
 };
 
-/// Page fields of fifteen bits.
-const PAGE_FIELDS: [u32; 16] = [
-    0, 1, 7, 8, 126, 127, 128, 135, 255, 256, 4094, 4095, 4096, 0x7F80, 0x7FF7, 0x7FFF,
+/// The high fifteen bits of an address: a page of 264 bytes, or two of 256; at the
+/// edges of sectors and parts of either page size.
+const PAGE_FIELDS: [u32; 22] = [
+    0, 1, 3, 4, 7, 8, 63, 64, 126, 127, 128, 135, 255, 256, 2047, 2048, 4094, 4095, 4096, 0x7F80,
+    0x7FF7, 0x7FFF,
 ];
 
 /// Numbers of data bytes.
-const DATA_LENGTHS: [usize; 10] = [0, 1, 2, 16, 17, 64, 65, 264, 265, 529];
+const DATA_LENGTHS: [usize; 13] = [0, 1, 2, 16, 17, 64, 65, 256, 257, 264, 265, 513, 529];
 
 /// Whole lengths.
-const LENGTHS: [usize; 11] = [264, 265, 266, 267, 268, 269, 270, 271, 272, 1099, 1100];
+const LENGTHS: [usize; 13] = [
+    260, 261, 264, 265, 266, 267, 268, 269, 270, 271, 272, 1099, 1100,
+];
 
 fn cases(_: Part) -> u64 {
     let lengths = DATA_LENGTHS.len() + LENGTHS.len();

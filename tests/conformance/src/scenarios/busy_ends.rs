@@ -18,7 +18,8 @@ pub const BUSY_ENDS: Scenario = Scenario {
     run,
 };
 
-/// How the operation ends: a busy end, or a cut with this byte at index 528.
+/// How the operation ends: a busy end, or a cut with this byte where a register's
+/// junk begins.
 const ENDINGS: [Option<u8>; 6] = [None, None, Some(0x00), Some(0x7F), Some(0x80), Some(0xFF)];
 
 /// Places per operation: first, last, and some between.
@@ -90,7 +91,8 @@ fn place(rng: &mut Rng, tag: u8, index: usize, part: Part) -> usize {
     .min(places - 1)
 }
 
-/// Makes both buffers like the page, unlike it in one byte, or leaves them.
+/// Makes both buffers like the page, unlike it in one byte, or leaves them; what a
+/// buffer has behind the page's bytes stays.
 fn set_buffers(rng: &mut Rng, record: &mut Record, likeness: usize, pair: &Pair, page: usize) {
     if likeness == 0 || page >= pair.part.pages {
         return;
@@ -103,7 +105,7 @@ fn set_buffers(rng: &mut Rng, record: &mut Record, likeness: usize, pair: &Pair,
     };
     for buffer in [field::BUFFER_1, field::BUFFER_2] {
         let buffer = &mut record[buffer];
-        buffer.copy_from_slice(page);
+        buffer[..page.len()].copy_from_slice(page);
         if likeness > 1 {
             buffer[byte] ^= 1 << rng.below(8);
         }

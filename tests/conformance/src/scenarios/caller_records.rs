@@ -21,7 +21,7 @@ pub const CALLER_RECORDS: Scenario = Scenario {
 
 const BUFFERS: [u8; 5] = [0, 1, 2, 3, 0xFF];
 
-/// Numbers at the edges of sectors, blocks and pages of both parts.
+/// Numbers at the edges of sectors, blocks and pages of the parts.
 const NUMBERS: [u16; 20] = [
     0, 1, 2, 15, 16, 17, 127, 128, 255, 256, 511, 512, 513, 3840, 4095, 4096, 4097, 0x7FFF, 0x8000,
     0xFFFF,
@@ -117,7 +117,7 @@ fn step(rng: &mut Rng, call: usize, part: Part) -> Step {
         0 => Step::send(array_len, vec![0xD7, 0x00]),
         1 => {
             let page = records::page(rng, part);
-            let address = frames::address(rng, page, 0, part.pages);
+            let address = frames::address(rng, page, 0, part);
             let row = rng.pick(&frames::ROWS);
             let len = row.lead + rng.below(20);
             Step::send(array_len, row.frame(rng, address, len))

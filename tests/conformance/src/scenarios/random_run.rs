@@ -8,6 +8,7 @@ use super::refusals::{array_len, ARRAY_LENGTHS};
 use crate::frames::{self, Row, BYTE_FIELDS, LENGTHS, UNLISTED};
 use crate::mismatch::Mismatch;
 use crate::pair::Pair;
+use crate::parts;
 use crate::records::{self, OPERATIONS};
 use crate::rng::Rng;
 use crate::runner::Scenario;
@@ -25,7 +26,7 @@ const STEPS: usize = 2000;
 
 /// The number of seeds; any other may be given by hand.
 fn cases(part: Part) -> u64 {
-    if part == Part::SHORT {
+    if parts::is_short(part) {
         400
     } else {
         40
@@ -61,12 +62,12 @@ fn next_step(pair: &mut Pair, rng: &mut Rng) -> Step {
     }
 }
 
-/// Mostly the part's own array; at times its beginning as a short part, or an
-/// array of no part.
+/// Mostly the part's own array; at times as much of it, or a little more, as
+/// another part has, or an array of no part.
 fn lent_array(rng: &mut Rng, part: Part) -> usize {
     match rng.below(40) {
         0 => array_len(rng.below(ARRAY_LENGTHS.len()), part),
-        1 => Part::SHORT.array_len(),
+        1 => rng.pick(&parts::with_room(part)).array_len(),
         _ => part.array_len(),
     }
 }
@@ -82,6 +83,7 @@ fn cut(rng: &mut Rng, part: Part, array_len: usize) -> Step {
     let junk_len = match rng.below(10) {
         0 => lent.junk_len() + 1,
         1 => lent.junk_len() - 1,
+        2 => parts::other_page_size(lent).junk_len(),
         _ => lent.junk_len(),
     };
     Step::Cut {
@@ -101,7 +103,7 @@ fn send(rng: &mut Rng, part: Part, record: &Record, array_len: usize) -> Step {
     } else {
         rng.below(512) as u32
     };
-    let address = frames::address(rng, page, byte_field, part.pages);
+    let address = frames::address(rng, page, byte_field, part);
     let frame = row.frame(rng, address, len);
     let reply_len = match rng.below(100) {
         0 => len + 1,
@@ -130,7 +132,7 @@ fn choose_length(rng: &mut Rng, row: &Row) -> usize {
     match rng.below(8) {
         0 | 1 => row.lead,
         2 | 3 => row.lead + 1 + rng.below(20),
-        4 => row.lead + 264,
+        4 => row.lead + rng.pick(&[256, 264]),
         5 => 1 + rng.below(1100),
         _ => rng.pick(&LENGTHS),
     }

@@ -5,6 +5,7 @@ use at45db081d_model::Part;
 use crate::frames;
 use crate::mismatch::Mismatch;
 use crate::pair::Pair;
+use crate::parts;
 use crate::records::{self, OPERATIONS};
 use crate::rng::{Digits, Rng};
 use crate::runner::Scenario;
@@ -17,10 +18,11 @@ pub const REFUSALS: Scenario = Scenario {
     run,
 };
 
-/// Array lengths; those that the part has no room for become its own.
-pub const ARRAY_LENGTHS: [usize; 14] = [
-    33_792, 1_081_344, 0, 1, 263, 264, 2_112, 33_528, 33_791, 33_793, 67_584, 1_048_576, 1_081_343,
-    1_081_345,
+/// Array lengths: the parts' first; those that the pair has no room for become the
+/// part's own.
+pub const ARRAY_LENGTHS: [usize; 22] = [
+    33_792, 1_081_344, 32_768, 1_048_576, 0, 1, 255, 256, 263, 264, 2_048, 2_112, 32_767, 32_769,
+    33_528, 33_791, 33_793, 67_584, 1_048_575, 1_048_577, 1_081_343, 1_081_345,
 ];
 
 const FRAME_LENGTHS: [usize; 8] = [0, 1, 2, 4, 1099, 1100, 1101, 2200];
@@ -29,8 +31,9 @@ const FRAME_LENGTHS: [usize; 8] = [0, 1, 2, 4, 1099, 1100, 1101, 2200];
 const REPLY_LENGTHS: [usize; 5] = [0, 1, 2, 1100, 1101];
 
 /// Junk lengths: right for one of the parts, near it, or far off.
-const JUNK_LENGTHS: [usize; 11] = [
-    34_320, 1_081_872, 0, 1, 527, 528, 33_792, 34_319, 34_321, 1_081_871, 1_081_873,
+const JUNK_LENGTHS: [usize; 20] = [
+    34_320, 1_081_872, 33_280, 1_049_088, 0, 1, 511, 512, 527, 528, 32_768, 33_792, 33_279, 33_281,
+    34_319, 34_321, 1_049_087, 1_049_089, 1_081_871, 1_081_873,
 ];
 
 const CALLS: usize = 8;
@@ -89,7 +92,7 @@ fn send(digits: &mut Digits, rng: &mut Rng, array_len: usize) -> Step {
 /// An array length that the pair has memory for.
 pub fn array_len(index: usize, part: Part) -> usize {
     let len = ARRAY_LENGTHS[index];
-    if len <= part.array_len() + 1 {
+    if len <= parts::room(part) + 1 {
         len
     } else {
         part.array_len()

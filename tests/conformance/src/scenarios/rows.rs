@@ -50,7 +50,7 @@ fn run(pair: &mut Pair, case: u64) -> Result<(), Mismatch> {
     }
     let page = records::page(&mut rng, part);
     let byte_field = rng.pick(&BYTE_FIELDS);
-    let address = frames::address(&mut rng, page, byte_field, part.pages);
+    let address = frames::address(&mut rng, page, byte_field, part);
     let frame = row.frame(&mut rng, address, len);
     pair.step(Step::Load(Box::new(record)))?;
     pair.step(Step::send(part.array_len(), frame))?;

@@ -8,6 +8,7 @@ use at45db081d_model::{Part, Record};
 use crate::frames::{self, Row};
 use crate::mismatch::Mismatch;
 use crate::pair::Pair;
+use crate::parts;
 use crate::records::{self, PATTERNS};
 use crate::rng::{Digits, Rng};
 use crate::runner::Scenario;
@@ -53,12 +54,12 @@ fn run(pair: &mut Pair, case: u64) -> Result<(), Mismatch> {
     let pages = records::edge_pages(part);
     let page = digits.pick(&pages);
     set_registers(&mut rng, &mut record, page, listed, locked);
-    let address = frames::address(&mut rng, page, 0, part.pages);
-    let len = row.lead + rng.pick(&[0, 1, 264]);
+    let address = frames::address(&mut rng, page, 0, part);
+    let len = row.lead + rng.pick(&[0, 1, 256, 264]);
     let frame = row.frame(&mut rng, address, len);
     pair.step(Step::Load(Box::new(record)))?;
     pair.step(Step::send(part.array_len(), frame))?;
-    if rng.one_in(if part == Part::SHORT { 2 } else { 64 }) {
+    if rng.one_in(if parts::is_short(part) { 2 } else { 64 }) {
         let array_len = part.array_len();
         pair.step(Step::EndBusy { array_len })?;
     }

@@ -3,13 +3,12 @@
 //! A faulty device is the model but for its slip: its calls run the model's
 //! driver over a [`wire`] that drops, changes or miscounts something.
 
-use at45db081d_model::part::PAGE_SIZE;
 use at45db081d_model::record::{field, tag};
-use at45db081d_model::slot::MAX_RECIPE;
-use at45db081d_model::{answer, Call, Chip, Lent, Outcome, Record};
+use at45db081d_model::{answer, Call, Chip, Lent, Outcome, Part, Record};
 
 use crate::device::{Device, Model};
 
+mod pages;
 mod wire;
 
 use wire::Wire;
@@ -106,10 +105,29 @@ pub enum Slip {
     GetLosesByte,
     /// Raw's reply is lost in a cut.
     RawReplyLostInCut,
+
+    /// Parts of 256-byte pages read nine bits of an address as the byte.
+    WideByteField,
+    /// Their junk for registers begins at 528.
+    RegisterJunkAt528,
+    /// Their cuts fill the buffers' bytes 256 to 263 too.
+    CutFillsBuffers,
+    /// Bit 0 of their status is 0.
+    PageSizeBitForgotten,
+    /// Their recipes may have 2,109 bytes.
+    LongerLimitKept,
 }
 
+/// The slips of page sizes that the chip alone has; the last is the calls'.
+pub const PAGE_SIZE_SLIPS: [Slip; 4] = [
+    Slip::WideByteField,
+    Slip::RegisterJunkAt528,
+    Slip::CutFillsBuffers,
+    Slip::PageSizeBitForgotten,
+];
+
 /// Every slip.
-pub const SLIPS: [Slip; 41] = [
+pub const SLIPS: [Slip; 46] = [
     Slip::SkipsPageAlreadyThere,
     Slip::SkipsPageOutsidePatch,
     Slip::GetStopsAtStoredLength,
@@ -151,6 +169,11 @@ pub const SLIPS: [Slip; 41] = [
     Slip::GetTellsLengthUnder12,
     Slip::GetLosesByte,
     Slip::RawReplyLostInCut,
+    Slip::WideByteField,
+    Slip::RegisterJunkAt528,
+    Slip::CutFillsBuffers,
+    Slip::PageSizeBitForgotten,
+    Slip::LongerLimitKept,
 ];
 
 /// The model with one slip.
@@ -163,7 +186,14 @@ impl Device for Faulty {
     }
 
     fn send(&mut self, record: &mut Record, array: &[u8], frame: &[u8], reply: &mut [u8]) -> u8 {
-        Model.send(record, array, frame, reply)
+        if pages::part_of_256(array.len()).is_none() {
+            return Model.send(record, array, frame, reply);
+        }
+        let answer = Model.send(record, array, &pages::sent(self.0, frame), reply);
+        if answer == answer::ACCEPTED {
+            pages::hear(self.0, frame, reply);
+        }
+        answer
     }
 
     fn end_busy(&mut self, record: &mut Record, array: &mut [u8]) -> u8 {
@@ -186,14 +216,22 @@ impl Device for Faulty {
 
     fn cut(&mut self, record: &mut Record, array: &mut [u8], junk: &[u8]) -> u8 {
         let idle = record[field::TAG] == tag::IDLE;
-        let answer = Model.cut(record, array, junk);
+        let of_256 = pages::part_of_256(array.len()).is_some();
+        let answer = match of_256 {
+            true => Model.cut(record, array, &pages::junk(self.0, record, junk)),
+            false => Model.cut(record, array, junk),
+        };
+        if of_256 && answer == answer::ACCEPTED {
+            pages::after_cut(self.0, record, junk);
+        }
         match self.0 {
             Slip::CutClearsLockdown if answer == answer::ACCEPTED => {
                 record[field::LOCKDOWN].fill(0);
             }
             Slip::IdleCutSpoilsPage if answer == answer::ACCEPTED && idle => {
-                let page = 5 * PAGE_SIZE..6 * PAGE_SIZE;
-                array[page.clone()].copy_from_slice(&junk[528..][page]);
+                let part = Part::from_array_len(array.len()).expect("a cut that is accepted");
+                let page = part.page_range(5);
+                array[page.clone()].copy_from_slice(&junk[part.array_junk()..][page]);
             }
             _ => {}
         }
@@ -210,8 +248,9 @@ impl Device for Faulty {
                 ..Outcome::default()
             };
         }
-        let wire = Wire::new(self.0, record, lent, &call);
-        match self.change(call) {
+        let part = Part::from_array_len(lent.array.len()).expect("a call that is not refused");
+        let wire = Wire::new(self.0, part, record, lent, &call);
+        match self.change(part, call) {
             Call::Get {
                 slot,
                 poll_limit,
@@ -258,15 +297,15 @@ impl Faulty {
     /// The refusals, with two of them the other way round, one too many or one
     /// too few.
     fn refuse(&self, chip: &Chip, lent: &Lent, call: &Call) -> Result<(), u8> {
-        let right = call.refuse(chip, lent);
+        let right = call.refuse(chip, lent).map(|_| ());
+        let most = Part::from_array_len(lent.array.len()).map_or(0, Part::max_recipe);
         let limit = call.target().map_or(1, |(_, limit)| limit);
         let log_fits = limit > 1000 || lent.log.len() >= 6 * call.most_frames();
-        let plain = log_fits && lent.script.is_empty();
         let script_fits = lent.script.iter().all(|&byte| byte <= 2);
         match (self.0, right, call) {
             (Slip::LimitBeforeSlot, Err(answer::SLOT), _) if limit == 0 => Err(answer::LIMIT),
             (Slip::SizeBeforeLimit, Err(answer::LIMIT), Call::Put { recipe, .. })
-                if recipe.len() > MAX_RECIPE =>
+                if recipe.len() > most =>
             {
                 Err(answer::SIZE)
             }
@@ -278,33 +317,51 @@ impl Faulty {
                 Err(answer::FRAME)
             }
             (Slip::JunkTestedAlways, Ok(()), _) if lent.junk.is_empty() => Err(answer::SCRIPT),
-            (Slip::PatchEndWraps, Err(answer::SIZE), Call::Patch { place, bytes, .. }) if plain => {
-                let (end, wraps) = place.overflowing_add(bytes.len());
-                if wraps && end <= MAX_RECIPE {
-                    Ok(())
-                } else {
-                    right
-                }
-            }
-            (Slip::RecipeLengthWraps, Err(answer::SIZE), Call::Put { recipe, .. })
-                if plain && recipe.len() % 0x1_0000 <= MAX_RECIPE =>
-            {
-                Ok(())
-            }
             (Slip::ScriptTestedToBound, Err(answer::SCRIPT), _) => {
                 let bound = call.most_frames().min(lent.script.len());
-                if lent.script[..bound].iter().all(|&byte| byte < 2) {
+                let calm = lent.script[..bound].iter().all(|&byte| byte < 2);
+                if calm {
                     Ok(())
                 } else {
                     right
                 }
             }
+            _ if log_fits && lent.script.is_empty() => self.refuse_size(right, lent, call, most),
             _ => right,
         }
     }
 
+    /// Answer 5 by another limit.
+    fn refuse_size(
+        &self,
+        right: Result<(), u8>,
+        lent: &Lent,
+        call: &Call,
+        most: usize,
+    ) -> Result<(), u8> {
+        let fits = match (self.0, right, call) {
+            (Slip::PatchEndWraps, Err(answer::SIZE), Call::Patch { place, bytes, .. }) => {
+                let (end, wraps) = place.overflowing_add(bytes.len());
+                wraps && end <= most
+            }
+            (Slip::RecipeLengthWraps, Err(answer::SIZE), Call::Put { recipe, .. }) => {
+                recipe.len() % 0x1_0000 <= most
+            }
+            _ if pages::part_of_256(lent.array.len()).is_some() => {
+                return pages::refuse(self.0, right, call)
+            }
+            _ => false,
+        };
+        if fits {
+            Ok(())
+        } else {
+            right
+        }
+    }
+
     /// What becomes of a call that should have been refused.
-    fn change<'a>(&self, call: Call<'a>) -> Call<'a> {
+    fn change<'a>(&self, part: Part, call: Call<'a>) -> Call<'a> {
+        let most = part.max_recipe();
         match (self.0, call) {
             (
                 Slip::PatchEndWraps,
@@ -314,14 +371,14 @@ impl Faulty {
                     place,
                     bytes,
                 },
-            ) if place > MAX_RECIPE => Call::Patch {
+            ) if place > most => Call::Patch {
                 slot,
                 poll_limit,
                 place: 0,
                 bytes: &bytes[..0],
             },
             (
-                Slip::RecipeLengthWraps,
+                Slip::RecipeLengthWraps | Slip::LongerLimitKept,
                 Call::Put {
                     slot,
                     poll_limit,
@@ -330,7 +387,7 @@ impl Faulty {
             ) => Call::Put {
                 slot,
                 poll_limit,
-                recipe: &recipe[..recipe.len() % 0x1_0000],
+                recipe: &recipe[..most.min(recipe.len() % 0x1_0000)],
             },
             (_, call) => call,
         }

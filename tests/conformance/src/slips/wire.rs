@@ -2,9 +2,9 @@
 
 use at45db081d_model::calls::log_line;
 use at45db081d_model::driver::Link;
-use at45db081d_model::part::{sector_bits, sector_of, PAGE_SIZE};
-use at45db081d_model::slot::{judge_patch, stored_len, HEADER_SIZE, SLOT_SIZE};
-use at45db081d_model::{answer, Call, Lent, Outcome, Record};
+use at45db081d_model::part::{sector_bits, sector_of};
+use at45db081d_model::slot::{judge_patch, stored_len, HEADER_SIZE};
+use at45db081d_model::{answer, Call, Lent, Outcome, Part, Record};
 
 use super::{Faulty, Slip};
 use crate::device::Device;
@@ -27,6 +27,7 @@ enum Kind {
 
 pub struct Wire<'a> {
     slip: Slip,
+    part: Part,
     record: &'a mut Record,
     lent: Lent<'a>,
     kind: Kind,
@@ -41,14 +42,20 @@ pub struct Wire<'a> {
     loads: usize,
     reads: usize,
     first_load: Vec<u8>,
-    first_read: [u8; PAGE_SIZE],
+    first_read: Vec<u8>,
     /// Frames still to be dropped.
     dropping: usize,
     cut: bool,
 }
 
 impl<'a> Wire<'a> {
-    pub fn new(slip: Slip, record: &'a mut Record, lent: Lent<'a>, call: &Call) -> Wire<'a> {
+    pub fn new(
+        slip: Slip,
+        part: Part,
+        record: &'a mut Record,
+        lent: Lent<'a>,
+        call: &Call,
+    ) -> Wire<'a> {
         let (slot, poll_limit) = call.target().unwrap_or_default();
         let (kind, place, len) = match call {
             Call::Put { recipe, .. } => (Kind::Put, 0, recipe.len()),
@@ -59,6 +66,7 @@ impl<'a> Wire<'a> {
         };
         Wire {
             slip,
+            part,
             record,
             lent,
             kind,
@@ -71,7 +79,7 @@ impl<'a> Wire<'a> {
             loads: 0,
             reads: 0,
             first_load: Vec::new(),
-            first_read: [0; PAGE_SIZE],
+            first_read: Vec::new(),
             dropping: 0,
             cut: false,
         }
@@ -79,7 +87,7 @@ impl<'a> Wire<'a> {
 
     /// Runs the call, which is not refused.
     pub fn run(mut self, call: Call) -> Outcome {
-        let (mut result, _) = call.drive(&mut self);
+        let (mut result, _) = call.drive(self.part, &mut self);
         let first_answers = [answer::CHIP, answer::BUSY, answer::SEALED].map(Err);
         if self.cut && !first_answers.contains(&result) {
             result = Err(answer::CUT);
@@ -119,8 +127,13 @@ impl<'a> Wire<'a> {
 
     /// The range of the slot's page `k` in the array.
     fn page(&self, k: usize) -> std::ops::Range<usize> {
-        let start = self.slot * SLOT_SIZE + k * PAGE_SIZE;
-        start..start + PAGE_SIZE
+        self.part.page_range((8 * self.slot + k) as u16)
+    }
+
+    /// The bytes of the slot that a get has to read by its first page.
+    fn used(&self) -> usize {
+        let n = stored_len(self.part, &self.first_read);
+        HEADER_SIZE + n.unwrap_or(self.part.slot_size())
     }
 
     /// Decides whether a frame is dropped; an error ends the call.
@@ -134,14 +147,13 @@ impl<'a> Wire<'a> {
             }
             (Slip::SkipsPageOutsidePatch, LOAD) if self.kind == Kind::Patch => {
                 let first = HEADER_SIZE + self.place;
-                let page = self.loads * PAGE_SIZE..(self.loads + 1) * PAGE_SIZE;
+                let page = self.part.page_range(self.loads as u16);
                 if first >= page.end || first + self.len <= page.start {
                     self.dropping = 3;
                 }
             }
             (Slip::GetStopsAtStoredLength, READ) if self.kind == Kind::Get && self.reads > 0 => {
-                let n = stored_len(&self.first_read).unwrap_or(SLOT_SIZE);
-                if self.reads * PAGE_SIZE >= HEADER_SIZE + n {
+                if self.reads * self.part.page_size >= self.used() {
                     self.dropping = 1;
                 }
             }
@@ -152,7 +164,7 @@ impl<'a> Wire<'a> {
                     Slip::PatchEndsUnder12 => answer::BLANK,
                     _ => answer::END,
                 };
-                match judge_patch(&self.first_read, self.place + self.len) {
+                match judge_patch(self.part, &self.first_read, self.place + self.len) {
                     Err(answer) if answer == ending => return Err(answer),
                     _ => {}
                 }
@@ -178,9 +190,10 @@ impl<'a> Wire<'a> {
             }
             (Slip::PatchWritesUnder13, LOAD, Kind::Patch) => {
                 let at = HEADER_SIZE + self.place;
-                let late = judge_patch(&self.first_read, self.place + self.len);
-                if late == Err(answer::END) && at / PAGE_SIZE == self.loads {
-                    changed[4 + at % PAGE_SIZE] ^= 0xFF;
+                let late = judge_patch(self.part, &self.first_read, self.place + self.len);
+                let page_size = self.part.page_size;
+                if late == Err(answer::END) && at / page_size == self.loads {
+                    changed[4 + at % page_size] ^= 0xFF;
                 }
             }
             _ => {}
@@ -212,8 +225,9 @@ impl<'a> Wire<'a> {
             (Slip::LogPadsWithZeros, _, _) => line[padding..].fill(0),
             (Slip::LogKeepsPadding, _, _) => line[padding..].copy_from_slice(&target[padding..]),
             (Slip::LogShowsRecipeLength, LOAD, Kind::Put) => {
-                let used = (HEADER_SIZE + self.len).saturating_sub(self.loads * PAGE_SIZE);
-                let len = 4 + used.min(PAGE_SIZE) as u16;
+                let page_size = self.part.page_size;
+                let used = (HEADER_SIZE + self.len).saturating_sub(self.loads * page_size);
+                let len = 4 + used.min(page_size) as u16;
                 line[..2].copy_from_slice(&len.to_be_bytes());
             }
             _ => {}
@@ -251,7 +265,7 @@ impl<'a> Wire<'a> {
             }
             READ if self.kind != Kind::Raw => {
                 if self.reads == 0 {
-                    self.first_read.copy_from_slice(&reply[8..]);
+                    self.first_read = reply[8..].to_vec();
                 }
                 self.reads += 1;
             }

@@ -1,15 +1,15 @@
 -- `lengths::lending::buffer_for` meets its contract: a known part has its page size, so eight pages less three bytes; an unknown one needs none. Assumes nothing.
-use Rattle.lengths.proofs.Needed.{page-small, page-some, buffer-known, buffer-unknown}
+use Rattle.lengths.proofs.Needed.{buffer-small, page-some, buffer-known, buffer-unknown}
 use native.Mathlib.Omega.{arith}
 use borrow.Author.Needs.{needs}
 use Rattle.lengths.proofs.lending.buffer_for.Statement.{statement}
 use Rattle.lengths.proofs.lending.buffer_for.Tie as tie
 
 mul-result : tie.Need-mul-result
-mul-result c = omega (arith, page-small ((c .before .before .before .before .before .args) .size) ((c .before .before .before .before .part-of) .ensures) ((c .before .before .p) .given .1), page-some ((c .before .before .before .before .before .args) .size) ((c .before .before .before .before .part-of) .ensures) ((c .before .before .p) .given .1))
+mul-result c = omega (arith, buffer-small ((c .before .before .before .before .before .args) .size) ((c .before .before .before .before .part-of) .ensures) ((c .before .before .p) .given .1), page-some ((c .before .before .before .before .before .args) .size) ((c .before .before .before .before .part-of) .ensures) ((c .before .before .p) .given .1))
 
 sub-result : tie.Need-sub-result
-sub-result c = omega (arith, page-small ((c .before .before .before .before .before .args) .size) ((c .before .before .before .before .part-of) .ensures) ((c .before .before .p) .given .1), page-some ((c .before .before .before .before .before .args) .size) ((c .before .before .before .before .part-of) .ensures) ((c .before .before .p) .given .1))
+sub-result c = omega (arith, buffer-small ((c .before .before .before .before .before .args) .size) ((c .before .before .before .before .part-of) .ensures) ((c .before .before .p) .given .1), page-some ((c .before .before .before .before .before .args) .size) ((c .before .before .before .before .part-of) .ensures) ((c .before .before .p) .given .1))
 
 returns : tie.Need-returns
 returns c = buffer-known ((c .before .before .before .before .before .args) .size) ((c .before .before .before .before .part-of) .ensures) ((c .before .before .p) .given .1)

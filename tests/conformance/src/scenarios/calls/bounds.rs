@@ -43,7 +43,7 @@ fn run(pair: &mut Pair, case: u64) -> Result<(), Mismatch> {
     let busy = operation.0 != tag::IDLE;
     let script = script(kind, limit, late, busy);
     let slot = slot(&mut rng, part);
-    let request = request(&mut rng, kind, slot, limit);
+    let request = request(&mut rng, part, kind, slot, limit);
     let outcome = pair.call(CallStep::new(part, request).with_script(script))?;
     // The most frames of a put, a patch, a get, a wipe (10.29).
     let bound = [9 * limit + 18, 9 * limit + 26, limit + 8, 2 * limit + 3][kind] as u64;

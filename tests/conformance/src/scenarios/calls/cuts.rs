@@ -29,7 +29,7 @@ const BEGINNINGS: usize = 3;
 
 const LIMITS: [usize; 2] = [1, 5];
 
-/// J[528], on both sides of 80h.
+/// The first junk byte of a register, on both sides of 80h.
 const REGISTERS: [u8; 2] = [0x7F, 0x80];
 
 fn cases(_: Part) -> u64 {
@@ -51,7 +51,7 @@ fn run(pair: &mut Pair, case: u64) -> Result<(), Mismatch> {
     load(pair, open_record(&mut rng, part, operation))?;
     let mut script = beginning_of(&mut rng, beginning, index);
     script.push(2);
-    let request = request(&mut rng, kind, slot, limit);
+    let request = request(&mut rng, part, kind, slot, limit);
     let call = CallStep::new(part, request)
         .with_script(script)
         .with_junk(rng.next_u64(), register);
@@ -60,7 +60,7 @@ fn run(pair: &mut Pair, case: u64) -> Result<(), Mismatch> {
         assert_eq!(answer == 11, index < FRAMES[kind], "every frame is met");
     }
     if rng.one_in(4) {
-        let read = self::request(&mut rng, GET, slot, 2);
+        let read = self::request(&mut rng, part, GET, slot, 2);
         pair.call(CallStep::new(part, read))?;
     }
     Ok(())

@@ -38,7 +38,7 @@ fn run(pair: &mut Pair, case: u64) -> Result<(), Mismatch> {
     record[field::WP_HIGH] = u8::from(digits.flag());
     load(pair, record)?;
     let slot = slot(&mut rng, part);
-    let request = request(&mut rng, kind, slot, limit);
+    let request = request(&mut rng, part, kind, slot, limit);
     let call = CallStep::new(part, request)
         .with_script(script)
         .with_junk(rng.next_u64(), rng.byte());

@@ -2,7 +2,7 @@
 //! else, the same recipe or a part of it, and read back.
 
 use at45db081d_model::record::{field, tag};
-use at45db081d_model::slot::{with_recipe, SLOT_SIZE};
+use at45db081d_model::slot::store;
 use at45db081d_model::Part;
 
 use super::{load, open_record, random_bytes, slot};
@@ -20,14 +20,15 @@ pub const LENGTHS: Scenario = Scenario {
     run,
 };
 
-/// Around the page boundaries, around the limit, and around what two bytes
-/// hold.
-const RECIPES: [usize; 31] = [
-    0, 1, 2, 3, 100, 258, 259, 260, 261, 262, 263, 264, 265, 524, 525, 526, 789, 1053, 1317, 1581,
-    1845, 1846, 2107, 2108, 2109, 2110, 2111, 2112, 4096, 65_536, 65_541,
+/// Around the page boundaries and the limit of either page size, and around what
+/// two bytes hold.
+const RECIPES: [usize; 49] = [
+    0, 1, 2, 3, 100, 250, 251, 252, 253, 254, 255, 256, 257, 258, 259, 260, 261, 262, 263, 264,
+    265, 508, 509, 510, 524, 525, 526, 765, 789, 1021, 1053, 1317, 1581, 1789, 1845, 1846, 2043,
+    2044, 2045, 2046, 2047, 2048, 2107, 2108, 2109, 2110, 2112, 65_536, 65_541,
 ];
 
-const BUFFERS: [usize; 6] = [0, 1, 2108, 2109, 2110, 2200];
+const BUFFERS: [usize; 8] = [0, 1, 2044, 2045, 2046, 2108, 2109, 2200];
 
 /// What the slot holds before: random bytes, the record to come, that record
 /// but for one byte, 00 or FFh throughout.
@@ -49,9 +50,9 @@ fn run(pair: &mut Pair, case: u64) -> Result<(), Mismatch> {
     record[field::COMPARE] = u8::from(digits.flag());
     let limit = if digits.flag() { 1 } else { 3 };
     let slot = slot(&mut rng, part);
-    if recipe.len() <= 2109 {
-        let bytes = held_before(&mut rng, before, &recipe);
-        let at = slot * SLOT_SIZE;
+    if recipe.len() <= part.max_recipe() {
+        let bytes = held_before(&mut rng, part, before, &recipe);
+        let at = slot * part.slot_size();
         pair.step(Step::Store { at, bytes })?;
     }
     load(pair, record)?;
@@ -69,12 +70,13 @@ fn recipe(rng: &mut Rng, len: usize) -> Vec<u8> {
     }
 }
 
-fn held_before(rng: &mut Rng, before: usize, recipe: &[u8]) -> Vec<u8> {
-    let mut bytes = with_recipe(recipe).to_vec();
+fn held_before(rng: &mut Rng, part: Part, before: usize, recipe: &[u8]) -> Vec<u8> {
+    let mut bytes = vec![0; part.slot_size()];
+    store(&mut bytes, recipe);
     match before {
         0 => rng.fill(&mut bytes),
         1 => {}
-        2 => bytes[rng.below(SLOT_SIZE)] ^= 1 << rng.below(8),
+        2 => bytes[rng.below(part.slot_size())] ^= 1 << rng.below(8),
         3 => bytes.fill(0x00),
         _ => bytes.fill(0xFF),
     }

@@ -1,7 +1,6 @@
 //! The scenarios of put, patch, get, wipe and raw.
 
 use at45db081d_model::record::field;
-use at45db081d_model::slot::{MAX_RECIPE, SLOT_SIZE};
 use at45db081d_model::{Part, Record};
 
 use crate::mismatch::Mismatch;
@@ -24,8 +23,8 @@ mod scripts;
 mod sealed;
 mod wrongs;
 
-/// Every scenario of calls, with the share of its cases that the full part
-/// gets: one in so many.
+/// Every scenario of calls, with the share of its cases that a full part gets:
+/// one in so many.
 pub const CALLS: [(Scenario, u64); 11] = [
     (cuts::CUTS, 5),
     (polls::POLLS, 5),
@@ -61,10 +60,11 @@ pub fn open_record(rng: &mut Rng, part: Part, operation: (u8, u8)) -> Record {
 }
 
 /// A call of some kind with random content; a patch is mostly a short one.
-pub fn request(rng: &mut Rng, kind: usize, slot: usize, poll_limit: usize) -> Request {
+pub fn request(rng: &mut Rng, part: Part, kind: usize, slot: usize, poll_limit: usize) -> Request {
+    let most = part.max_recipe();
     match kind {
         PUT => {
-            let len = rng.below(MAX_RECIPE + 1);
+            let len = rng.below(most + 1);
             Request::put(slot, poll_limit, random_bytes(rng, len))
         }
         PATCH => {
@@ -73,17 +73,17 @@ pub fn request(rng: &mut Rng, kind: usize, slot: usize, poll_limit: usize) -> Re
             let len = rng.below(longest);
             Request::patch(slot, poll_limit, place, random_bytes(rng, len))
         }
-        GET => Request::get(slot, poll_limit, MAX_RECIPE + rng.below(3)),
+        GET => Request::get(slot, poll_limit, most + rng.below(3)),
         WIPE => Request::wipe(slot, poll_limit),
-        _ => Request::raw(random_frame(rng)),
+        _ => Request::raw(random_frame(rng, part)),
     }
 }
 
 /// A frame of the table with an address that is often in the first slots.
-pub fn random_frame(rng: &mut Rng) -> Vec<u8> {
+pub fn random_frame(rng: &mut Rng, part: Part) -> Vec<u8> {
     let row = rng.pick(&crate::frames::ROWS);
-    let len = row.lead + rng.pick(&[0, 0, 1, 16, 64, 264]);
-    let address = rng.below(64) as u32 * 512;
+    let len = row.lead + rng.pick(&[0, 0, 1, 16, 64, 256, 264]);
+    let address = part.address_of(rng.below(64) as u16);
     row.frame(rng, address, len)
 }
 
@@ -97,7 +97,12 @@ pub fn random_bytes(rng: &mut Rng, len: usize) -> Vec<u8> {
 pub fn edge_slots(part: Part) -> Vec<usize> {
     let mut slots: Vec<usize> = (0..part.sectors())
         .map(|sector| part.sector_range(sector))
-        .flat_map(|range| [range.start / SLOT_SIZE, range.end / SLOT_SIZE - 1])
+        .flat_map(|range| {
+            [
+                range.start / part.slot_size(),
+                range.end / part.slot_size() - 1,
+            ]
+        })
         .collect();
     slots.dedup();
     slots
@@ -115,7 +120,7 @@ pub fn slot(rng: &mut Rng, part: Part) -> usize {
 pub fn store_head(pair: &mut Pair, slot: usize, version: u8, len: u16) -> Result<(), Mismatch> {
     let [high, low] = len.to_be_bytes();
     pair.step(Step::Store {
-        at: slot * SLOT_SIZE,
+        at: slot * pair.part.slot_size(),
         bytes: vec![version, high, low],
     })?;
     Ok(())

@@ -2,9 +2,8 @@
 //! stored lengths around their end and with slots that are blank; and places
 //! up to the largest number.
 
-use at45db081d_model::part::PAGE_SIZE;
 use at45db081d_model::record::tag;
-use at45db081d_model::slot::{HEADER_SIZE, MAX_RECIPE};
+use at45db081d_model::slot::HEADER_SIZE;
 use at45db081d_model::Part;
 
 use super::{load, open_record, random_bytes, slot, store_head};
@@ -21,18 +20,19 @@ pub const PATCHES: Scenario = Scenario {
     run,
 };
 
-/// Boundaries at slot offsets 264k, and how far a patch begins from them:
+/// Boundaries at slot offsets 264k or 256k, and how far a patch begins from them:
 /// offsets 261 to 267 and so on.
 const BOUNDARIES: usize = 9;
 const OFFSETS: usize = 7;
 
-const LENGTHS: [usize; 23] = [
-    0, 1, 2, 3, 4, 5, 6, 258, 259, 260, 261, 262, 263, 264, 265, 527, 528, 529, 1056, 2106, 2108,
-    2109, 2110,
+const LENGTHS: [usize; 32] = [
+    0, 1, 2, 3, 4, 5, 6, 250, 251, 253, 255, 256, 257, 258, 259, 260, 261, 262, 263, 264, 265, 511,
+    512, 527, 528, 529, 1056, 2044, 2045, 2046, 2109, 2110,
 ];
 
 /// Places near the largest number and near what fits narrower ones.
-const FAR: [usize; 12] = [
+const FAR: [usize; 13] = [
+    2046,
     2110,
     4221,
     0xFFFF,
@@ -63,39 +63,40 @@ fn run(pair: &mut Pair, case: u64) -> Result<(), Mismatch> {
     let place = digits.below(NEAR + 4 + FAR.len());
     let len = digits.pick(&LENGTHS);
     let place = match place.checked_sub(NEAR) {
-        None => near(place),
+        None => near(part, place),
         Some(wrapped) if wrapped < 4 => wrapped.wrapping_sub(len),
         Some(far) => FAR[far - 4],
     };
     let slot = slot(&mut rng, part);
-    let (version, stored) = head(digits.below(HEADS), place.saturating_add(len));
+    let most = part.max_recipe();
+    let (version, stored) = head(digits.below(HEADS), most, place.saturating_add(len));
     store_head(pair, slot, version, stored)?;
     load(pair, open_record(&mut rng, part, (tag::IDLE, 0)))?;
     let bytes = random_bytes(&mut rng, len);
     let patch = Request::patch(slot, 1, place, bytes);
     pair.call(CallStep::new(part, patch))?;
-    pair.call(CallStep::new(part, Request::get(slot, 1, MAX_RECIPE)))?;
+    pair.call(CallStep::new(part, Request::get(slot, 1, most)))?;
     Ok(())
 }
 
 /// A place whose slot offset is within 3 of a boundary, at the recipe's
 /// beginning if there is none.
-fn near(index: usize) -> usize {
-    let (boundary, offset) = (index / OFFSETS * PAGE_SIZE, index % OFFSETS);
+fn near(part: Part, index: usize) -> usize {
+    let (boundary, offset) = (index / OFFSETS * part.page_size, index % OFFSETS);
     (boundary + offset).saturating_sub(3 + HEADER_SIZE)
 }
 
-/// Version and length of a slot, by the end of the patch.
-fn head(index: usize, end: usize) -> (u8, u16) {
-    let end = end.min(MAX_RECIPE) as u16;
+/// Version and length of a slot, by the longest recipe and the end of the patch.
+fn head(index: usize, most: usize, end: usize) -> (u8, u16) {
+    let (most, end) = (most as u16, end.min(most) as u16);
     match index {
         0 => (1, end),
         1 => (1, end.saturating_sub(1)),
-        2 => (1, (end + 1).min(MAX_RECIPE as u16)),
-        3 => (1, MAX_RECIPE as u16),
-        4 => (1, MAX_RECIPE as u16 + 1),
+        2 => (1, (end + 1).min(most)),
+        3 => (1, most),
+        4 => (1, most + 1),
         5 => (0, end),
-        6 => (2, MAX_RECIPE as u16),
+        6 => (2, most),
         _ => (1, 0xFFFF),
     }
 }

@@ -44,7 +44,7 @@ fn run(pair: &mut Pair, case: u64) -> Result<(), Mismatch> {
     let mut script = vec![0; first];
     script.resize(first + ones, 1);
     let slot = slot(&mut rng, part);
-    let request = request(&mut rng, kind, slot, limit);
+    let request = request(&mut rng, part, kind, slot, limit);
     pair.call(CallStep::new(part, request).with_script(script))?;
     Ok(())
 }

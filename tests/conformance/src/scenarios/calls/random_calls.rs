@@ -2,12 +2,12 @@
 //! each works on what the one before has left of record and array.
 
 use at45db081d_model::record::field;
-use at45db081d_model::slot::MAX_RECIPE;
 use at45db081d_model::Part;
 
 use super::{load, random_bytes, random_frame, request, slot, store_head, KINDS, PATCH};
 use crate::mismatch::Mismatch;
 use crate::pair::Pair;
+use crate::parts;
 use crate::records::{self, OPERATIONS};
 use crate::request::{CallStep, Request};
 use crate::rng::Rng;
@@ -26,7 +26,7 @@ const STEPS: usize = 200;
 
 /// The number of seeds; any other may be given by hand.
 fn cases(part: Part) -> u64 {
-    if part == Part::SHORT {
+    if parts::is_short(part) {
         150
     } else {
         15
@@ -51,7 +51,7 @@ fn run(pair: &mut Pair, seed: u64) -> Result<(), Mismatch> {
             }
             92..=94 => {
                 let slot = slot(&mut rng, part);
-                let len = rng.below(MAX_RECIPE + 1) as u16;
+                let len = rng.below(part.max_recipe() + 1) as u16;
                 store_head(pair, slot, 1, len)?;
             }
             _ => {
@@ -75,11 +75,11 @@ fn call(rng: &mut Rng, part: Part) -> CallStep {
     let kind = rng.below(KINDS);
     let request = match kind {
         PATCH if rng.one_in(4) => {
-            let place = rng.below(MAX_RECIPE);
-            let len = rng.below(MAX_RECIPE + 2 - place);
+            let place = rng.below(part.max_recipe());
+            let len = rng.below(part.max_recipe() + 2 - place);
             Request::patch(slot, limit, place, random_bytes(rng, len))
         }
-        _ => request(rng, kind, slot, limit),
+        _ => request(rng, part, kind, slot, limit),
     };
     let mut call = CallStep::new(part, request).with_junk(rng.next_u64(), rng.byte());
     call.script = script(rng);
@@ -87,7 +87,8 @@ fn call(rng: &mut Rng, part: Part) -> CallStep {
         call.log_len = call.log_len.saturating_sub(1);
     }
     if rng.one_in(40) {
-        call.array_len = Part::SHORT.array_len();
+        let lent = rng.pick(&parts::with_room(part));
+        (call.array_len, call.junk_len) = (lent.array_len(), lent.junk_len());
     }
     call
 }
@@ -109,7 +110,7 @@ fn script(rng: &mut Rng) -> Vec<u8> {
 fn event(rng: &mut Rng, part: Part) -> Step {
     let array_len = part.array_len();
     match rng.below(8) {
-        0..=3 => Step::send(array_len, random_frame(rng)),
+        0..=3 => Step::send(array_len, random_frame(rng, part)),
         4 | 5 => Step::EndBusy { array_len },
         6 => Step::MovePin {
             high: !rng.one_in(3),

@@ -25,7 +25,7 @@ const OPENINGS: usize = frames::ROWS.len() + UNLISTED.len();
 const SCRIPTS: [&[u8]; 5] = [&[], &[0, 2], &[1], &[2], &[1, 1, 1]];
 
 /// Data bytes behind the lead; the last makes the longest frame.
-const DATA: [usize; 4] = [0, 1, 264, 1100];
+const DATA: [usize; 5] = [0, 1, 256, 264, 1100];
 
 fn cases(_: Part) -> u64 {
     (OPENINGS * OPERATIONS.len() * SCRIPTS.len() * DATA.len()) as u64
@@ -52,7 +52,7 @@ fn run(pair: &mut Pair, case: u64) -> Result<(), Mismatch> {
     records::set_operation(&mut rng, &mut record, operation, part);
     load(pair, record)?;
     let page = records::page(&mut rng, part);
-    let address = frames::address(&mut rng, page, 0, part.pages);
+    let address = frames::address(&mut rng, page, 0, part);
     let frame = row.frame(&mut rng, address, len);
     let call = CallStep::new(part, Request::raw(frame))
         .with_script(script)

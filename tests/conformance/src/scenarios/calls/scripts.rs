@@ -23,8 +23,8 @@ const PLACES: [usize; 15] = [0, 1, 2, 4, 5, 8, 9, 26, 27, 34, 35, 36, 100, 9_026
 
 const BYTES: [u8; 7] = [0, 1, 2, 3, 4, 0x80, 0xFF];
 
-/// Junk lengths: the part's own, near it, the other part's, or none.
-const JUNKS: usize = 5;
+/// Junk lengths: each part's, near the part's own, or none.
+const JUNKS: usize = 7;
 
 fn cases(_: Part) -> u64 {
     (KINDS * PLACES.len() * BYTES.len() * JUNKS * 2) as u64
@@ -45,15 +45,14 @@ fn run(pair: &mut Pair, case: u64) -> Result<(), Mismatch> {
         script.extend([1, 0, 2, 0]);
     }
     let slot = slot(&mut rng, part);
-    let request = request(&mut rng, kind, slot, 1);
+    let request = request(&mut rng, part, kind, slot, 1);
     let mut call = CallStep::new(part, request)
         .with_script(script)
         .with_junk(rng.next_u64(), rng.byte());
     call.junk_len = match junk {
-        0 => part.junk_len(),
-        1 => part.junk_len() - 1,
-        2 => part.junk_len() + 1,
-        3 => Part::SHORT.junk_len() + Part::FULL.junk_len() - part.junk_len(),
+        0..=3 => Part::ALL[junk].junk_len(),
+        4 => part.junk_len() - 1,
+        5 => part.junk_len() + 1,
         _ => 0,
     };
     pair.call(call)?;

@@ -34,7 +34,7 @@ fn run(pair: &mut Pair, case: u64) -> Result<(), Mismatch> {
     record[field::WP_HIGH] = u8::from(digits.flag());
     set_registers(&mut rng, &mut record, slot, listed, locked);
     load(pair, record)?;
-    let request = request(&mut rng, kind, slot, 1);
+    let request = request(&mut rng, part, kind, slot, 1);
     pair.call(CallStep::new(part, request))?;
     Ok(())
 }

@@ -2,13 +2,13 @@
 //! call, for the order of refusals.
 
 use at45db081d_model::record::tag;
-use at45db081d_model::slot::MAX_RECIPE;
 use at45db081d_model::{Part, Record};
 
-use super::super::refusals::array_len;
+use super::super::refusals::{array_len, ARRAY_LENGTHS};
 use super::{load, open_record, random_bytes, random_frame, slot, GET, KINDS, PATCH, PUT, WIPE};
 use crate::mismatch::Mismatch;
 use crate::pair::Pair;
+use crate::parts;
 use crate::records::{self, OPERATIONS};
 use crate::request::{CallStep, Request};
 use crate::rng::{Digits, Rng};
@@ -80,45 +80,49 @@ fn request(rng: &mut Rng, kind: usize, wrong: Wrong, part: Part) -> Request {
         false => rng.pick(&[1, 2, 3, 1000]),
         true => rng.pick(&[0, 1001, 65_537, (1 << 32) + 1, usize::MAX]),
     };
-    let size = wrong.has(5);
+    let (size, most) = (wrong.has(5), part.max_recipe());
     match kind {
         PUT => {
-            let len = rng.pick(match size {
-                false => &[0, 1, 2108, MAX_RECIPE],
-                true => &[2110, 2111, 4000, 65_541],
+            let len = rng.pick(&match size {
+                false => [0, 1, most - 1, most],
+                true => [most + 1, most + 2, 4000, 65_541],
             });
             Request::put(slot, limit, random_bytes(rng, len))
         }
         PATCH => {
-            let (place, len) = rng.pick(match size {
-                false => &[(0, 0), (0, 1), (MAX_RECIPE, 0), (2108, 1), (0, MAX_RECIPE)],
-                true => &[
-                    (2110, 0),
-                    (2109, 1),
-                    (0, 2110),
-                    (usize::MAX, 1),
-                    (2, 65_536),
-                ],
-            });
+            let (place, len) = rng.pick(&patches(most, size));
             Request::patch(slot, limit, place, random_bytes(rng, len))
         }
-        GET => Request::get(
-            slot,
-            limit,
-            rng.pick(match size {
-                false => &[MAX_RECIPE, 2110, 2200],
-                true => &[0, 1, 2108],
-            }),
-        ),
+        GET => {
+            let buffer_len = rng.pick(&match size {
+                false => [most, most + 1, 2200],
+                true => [0, 1, most - 1],
+            });
+            Request::get(slot, limit, buffer_len)
+        }
         WIPE => Request::wipe(slot, limit),
-        _ => raw(rng, wrong.has(2)),
+        _ => raw(rng, part, wrong.has(2)),
+    }
+}
+
+/// Places and lengths of patches that end by the longest recipe's end, or behind.
+fn patches(most: usize, behind: bool) -> [(usize, usize); 5] {
+    match behind {
+        false => [(0, 0), (0, 1), (most, 0), (most - 1, 1), (0, most)],
+        true => [
+            (most + 1, 0),
+            (most, 1),
+            (0, most + 1),
+            (usize::MAX, 1),
+            (2, 65_536),
+        ],
     }
 }
 
 /// A raw frame, its length or that of its reply being wrong or not.
-fn raw(rng: &mut Rng, wrong: bool) -> Request {
+fn raw(rng: &mut Rng, part: Part, wrong: bool) -> Request {
     if !wrong {
-        return Request::raw(random_frame(rng));
+        return Request::raw(random_frame(rng, part));
     }
     let (len, reply_len) = rng.pick(&[
         (0, 0),
@@ -131,7 +135,7 @@ fn raw(rng: &mut Rng, wrong: bool) -> Request {
         (2200, 2200),
         (2, 2300),
     ]);
-    let mut frame = random_frame(rng);
+    let mut frame = random_frame(rng, part);
     frame.resize(len, 0);
     Request::Raw { frame, reply_len }
 }
@@ -143,7 +147,7 @@ fn wrong_part(rng: &mut Rng, record: &mut Record, call: &mut CallStep, part: Par
         return records::set_place(record, (tag::ERASE_PAGE, 0), pages, 0);
     }
     while Part::from_array_len(call.array_len).is_some() {
-        call.array_len = array_len(2 + rng.below(12), part);
+        call.array_len = array_len(4 + rng.below(ARRAY_LENGTHS.len() - 4), part);
     }
 }
 
@@ -159,7 +163,14 @@ fn set_log(rng: &mut Rng, call: &mut CallStep, wrong: bool) {
 /// is to be wrong, a cut with the right junk, or other junk and no cut.
 fn set_script(rng: &mut Rng, call: &mut CallStep, wrong: bool, part: Part) {
     let mut script = vec![0; rng.pick(&[0, 1, 5, 40])];
-    let lengths = [0, 1, 528, part.junk_len() - 1, part.junk_len() + 1];
+    let lengths = [
+        0,
+        1,
+        part.array_junk(),
+        part.junk_len() - 1,
+        part.junk_len() + 1,
+        parts::other_page_size(part).junk_len(),
+    ];
     match (wrong, rng.one_in(2)) {
         (true, true) => script.push(rng.pick(&[3, 4, 0x80, 0xFF])),
         (true, false) => {
