@@ -11,15 +11,16 @@
  *            (layout below);
  *   array    the flash pages. Its length alone tells the part:
  *
- *              length         pages  status    slot  recipe        junk
- *           1,081,344   4,096 x 264     A4h   2,112   2,109   1,081,872
- *              33,792     128 x 264     A4h   2,112   2,109      34,320
- *           1,048,576   4,096 x 256     A5h   2,048   2,045   1,049,088
- *              32,768     128 x 256     A5h   2,048   2,045      33,280
+ *              length         pages  status    slot  recipe    term        junk
+ *           1,081,344   4,096 x 264     A4h   2,112   2,109   2,101   1,081,872
+ *              33,792     128 x 264     A4h   2,112   2,109   2,101      34,320
+ *           1,048,576   4,096 x 256     A5h   2,048   2,045   2,037   1,049,088
+ *              32,768     128 x 256     A5h   2,048   2,045   2,037      33,280
  *
  *            Here are the status of a fresh chip, and the lengths of a slot,
- *            of the longest recipe and of a cut's junk. The two parts of 128
- *            pages are the short ones.
+ *            of the longest recipe, of the longest with a term (a first and a
+ *            last day) and of a cut's junk. The two parts of 128 pages are the
+ *            short ones.
  *
  * A copy of both is a copy of the chip. Each call goes by the array that it is
  * lent, also where a record meets arrays of several parts one after the other.
@@ -28,8 +29,8 @@
  * There are three groups of functions:
  *
  *   the chip         slipknoll_fresh, _send, _end_busy, _move_pin, _cut
- *   the slot calls   slipknoll_put, _patch, _get, _wipe, _raw: recipes in the
- *                    slots of a chip that is held here
+ *   the slot calls   slipknoll_put, _put_term, _patch, _get, _wipe, _raw:
+ *                    recipes in the slots of a chip that is held here
  *   the slot driver  slipknoll_driver_*: the same without the chip, for a real
  *                    one; the caller carries the frames
  *
@@ -37,8 +38,8 @@
  *
  * Answers. A function that returns uint8_t returns the number of an answer in
  * the table below (the driver's also SLIPKNOLL_RUNNING: no answer yet). 0 is
- * accepted. With 1 to 7 the call changed nothing: record, array, reply, log and
- * get buffer are as they were, byte for byte. 8 to 13,
+ * accepted. With 1 to 7 and with 14 the call changed nothing: record, array,
+ * reply, log and get buffer are as they were, byte for byte. 8 to 13 and 15,
  * which only the slot calls and the driver have, end a call that was under
  * way; what its frames have done stays.
  *
@@ -77,6 +78,8 @@ extern "C" {
 #define SLIPKNOLL_SLOTS(array_len) ((array_len) / SLIPKNOLL_SLOT_LEN(array_len))
 /* A recipe has 0 to 2,109 bytes, or 0 to 2,045. */
 #define SLIPKNOLL_RECIPE_MAX(array_len) (SLIPKNOLL_SLOT_LEN(array_len) - 3)
+/* One with a term has 0 to 2,101, or 0 to 2,037. */
+#define SLIPKNOLL_TERM_RECIPE_MAX(array_len) (SLIPKNOLL_SLOT_LEN(array_len) - 11)
 /* What goes by no part. */
 #define SLIPKNOLL_SLOT_ROOM 2112         /* room for a slot of any part */
 #define SLIPKNOLL_FRAME_MAX 1100         /* a frame has 1 to 1,100 bytes */
@@ -87,8 +90,10 @@ extern "C" {
 #define SLIPKNOLL_GET_LOG_LEN(b) (6 * ((b) + 8))
 #define SLIPKNOLL_WIPE_LOG_LEN(b) (6 * (2 * (b) + 3))
 #define SLIPKNOLL_RAW_LOG_LEN 6
-#define SLIPKNOLL_DRIVER_LEN 48          /* the driver's state */
+#define SLIPKNOLL_DRIVER_LEN 72          /* the driver's state */
 #define SLIPKNOLL_DRIVER_FRAME_LEN 272   /* room for the driver's longest frame, on any part */
+/* Where a recipe begins in the bytes of its slot: at 3, or at 11 behind a term. */
+#define SLIPKNOLL_BODY(staged) ((staged)[0] == 2 ? 11 : 3)
 
 /* ---- Answers. */
 
@@ -102,8 +107,9 @@ extern "C" {
 #define SLIPKNOLL_SLOT 3
 /* limit: poll limit 0, or over 1,000 */
 #define SLIPKNOLL_LIMIT 4
-/* size: a recipe of more than the part's 2,109 or 2,045 bytes, a patch that ends
-   behind these, a get buffer of less */
+/* size: a recipe of more than the part's 2,109 or 2,045 bytes, with a term of
+   more than its 2,101 or 2,037; a patch that ends behind 2,109 or 2,045, a get
+   buffer of less */
 #define SLIPKNOLL_SIZE 5
 /* log: no room for six bytes of each frame that the call can send */
 #define SLIPKNOLL_LOG 6
@@ -118,11 +124,18 @@ extern "C" {
 #define SLIPKNOLL_SEALED 10
 /* cut: the script cut the supply */
 #define SLIPKNOLL_CUT 11
-/* blank: the slot holds no record: its first byte is not 1, or the length
-   behind it is over the part's 2,109 or 2,045 */
+/* blank: the slot holds no record: its first byte, the version, is neither 1 nor
+   2, or the length behind it is over that version's limit: 2,109 or 2,045 of 1,
+   2,101 or 2,037 of 2 */
 #define SLIPKNOLL_BLANK 12
 /* end: the patch would end behind the recipe that is there */
 #define SLIPKNOLL_END 13
+/* dates: a date of a term, or today's, that does not exist or lies before 2000 or
+   after 2199; or a term whose first day is after its last. Next after 5 */
+#define SLIPKNOLL_DATES 14
+/* term: today is before the first or after the last day in the slot; from get
+   alone, after 12 */
+#define SLIPKNOLL_TERM 15
 /* Of slipknoll_driver_answer alone: the call has not ended, there is no answer. */
 #define SLIPKNOLL_RUNNING 255
 
@@ -131,7 +144,7 @@ extern "C" {
  *
  * Every content of the 765 bytes reads as some chip. A mark is one byte: 0 is
  * off and anything else on. Numbers are big-endian. A call that is not
- * answered with 1 to 7 writes the whole record: marks as 0 or 1, and 0 in the
+ * answered with 1 to 7 or 14 writes the whole record: marks as 0 or 1, and 0 in the
  * fields that the operation under way does not have. A pin move writes the WP
  * mark alone.
  *
@@ -216,15 +229,15 @@ extern "C" {
  *     slipknoll_send(record, array, sizeof array, program, 4, r4, 4);     // busy now: status 24
  *     slipknoll_end_busy(record, array, sizeof array);                    // array[5 * 264] is 'h'
  *
- * Rust: the same functions as `extern "C"`, `*mut u8`, `*const u8`, `usize`
- * and `bool`. Python: make a shared object of the archive,
+ * Rust: the same functions as `extern "C"`, `*mut u8`, `*const u8`, `usize`,
+ * `u32` and `bool`. Python: make a shared object of the archive,
  *
  *     gcc -shared -o libslipknoll.so -Wl,--whole-archive libslipknoll.a -Wl,--no-whole-archive
  *
  *     import ctypes as c
  *     lib = c.CDLL("./libslipknoll.so")
  *     for name in ("fresh", "send", "end_busy", "move_pin", "cut",
- *                  "put", "patch", "get", "wipe", "raw"):
+ *                  "put", "put_term", "patch", "get", "wipe", "raw"):
  *         getattr(lib, "slipknoll_" + name).restype = c.c_uint8
  *     for length in (33792, 32768):                          # short parts of 264 and of 256
  *         record, array = (c.c_uint8 * 765)(), (c.c_uint8 * length)()
@@ -281,10 +294,22 @@ uint8_t slipknoll_cut(uint8_t *record, uint8_t *array, size_t array_len, const u
  *
  * Slot s is block s: pages 8s to 8s + 7, 2,112 or 2,048 bytes. In it stand a 1,
  * the version; n, the recipe's length, high byte first; the recipe; and zeros to
- * the end.
+ * the end. A recipe with a term has a 2 for the version, and between n and the
+ * recipe its first and its last day, each a number of four bytes, high byte first.
  *
- * A call first looks at its arguments: the lowest of 1 to 7 that applies to
- * them is its answer. If none does, it sends frames to the chip:
+ * Days and dates. A day's number counts from 1 January 2000, which is 0, in the
+ * Gregorian calendar; 31 December 2199 is 73,048. Callers give dates: year, month
+ * (1 is January) and day, any numbers at all. 14 is the answer to a date that does
+ * not exist, such as 29 February 2100, or that lies before 2000 or after 2199, and
+ * to a first day after the last. A get tests today's date whatever the slot holds.
+ * It then reads a recipe without a term on every day, and one with a term from its
+ * first day to its last, both inside; outside it answers 15. The days in a slot
+ * may be any 32-bit numbers, since a frame of the caller's may have written them:
+ * they are compared with today's number, and nothing else is asked of them.
+ *
+ * A call first looks at its arguments: the first of 1, 2, 3, 4, 5, 14, 6, 7, in
+ * this order, that applies to them is its answer. If none does, it sends frames to
+ * the chip:
  *
  *   wait    D7 00, again and again until bit 7 of the status, which is reply
  *           byte 1, is set. Bits 5-2 that are not 1001 end the call with 8,
@@ -304,9 +329,10 @@ uint8_t slipknoll_cut(uint8_t *record, uint8_t *array, size_t array_len, const u
  * A page's address is 512 times its number, or 256 times with pages of 256 bytes,
  * in three bytes. Which frames are sent, and how long they are, depends on the
  * part, call, slot, poll limit, script and the chip's registers, and never on
- * recipes or on what the slots hold: a patch under 12 or 13 programs every page
- * as it was, get always reads eight pages, and a page is programmed whether or
- * not its bytes are there already.
+ * recipes, on days or on what the slots hold: a patch under 12 or 13 programs every
+ * page as it was, get always reads eight pages, under 12 and 15 too, and a page is
+ * programmed whether or not its bytes are there already. A put with a term sends
+ * what one without sends, as far as a listener sees it.
  *
  * Script. Its byte i says what follows frame i: 0 a busy end, 1 nothing, 2 a
  * cut with `junk` (as slipknoll_cut), which ends the call with 11 whatever the
@@ -332,14 +358,24 @@ uint8_t slipknoll_cut(uint8_t *record, uint8_t *array, size_t array_len, const u
  *     uint64_t counts[3];
  *     slipknoll_put(record, array, sizeof array, 3, 1, (const uint8_t *)"AB", 2,
  *                   none, 0, none, 0, log, sizeof log, counts);          // 0; counts 27, 9, 0
- *     slipknoll_get(record, array, sizeof array, 3, 1, buffer, sizeof buffer,
+ *     slipknoll_get(record, array, sizeof array, 3, 1, 2026, 11, 16, buffer, sizeof buffer,
+ *                   none, 0, none, 0, log, sizeof log, counts);          // 0; counts 9, 1, 2
+ *
+ * The same for one season, 1 May to 31 October 2027:
+ *
+ *     slipknoll_put_term(record, array, sizeof array, 3, 1, 2027, 5, 1, 2027, 10, 31,
+ *                        (const uint8_t *)"AB", 2,
+ *                        none, 0, none, 0, log, sizeof log, counts);     // 0; counts 27, 9, 0
+ *     slipknoll_get(record, array, sizeof array, 3, 1, 2027, 4, 30, buffer, sizeof buffer,
+ *                   none, 0, none, 0, log, sizeof log, counts);          // 15; counts 9, 1, 0
+ *     slipknoll_get(record, array, sizeof array, 3, 1, 2027, 10, 31, buffer, sizeof buffer,
  *                   none, 0, none, 0, log, sizeof log, counts);          // 0; counts 9, 1, 2
  */
 
 /*
- * Stores a recipe of up to 2,109 bytes, or 2,045 with pages of 256, in a slot.
- * With answer 0 the slot holds it. With 8 to 11 pages of the slot may be old,
- * new, or (11) junk. Answers 0, 1, 3 to 11.
+ * Stores a recipe of up to 2,109 bytes, or 2,045 with pages of 256, in a slot,
+ * without a term. With answer 0 the slot holds it. With 8 to 11 pages of the slot
+ * may be old, new, or (11) junk. Answers 0, 1, 3 to 11.
  */
 uint8_t slipknoll_put(uint8_t *record, uint8_t *array, size_t array_len, size_t slot,
                       size_t poll_limit, const uint8_t *recipe, size_t recipe_len,
@@ -348,10 +384,26 @@ uint8_t slipknoll_put(uint8_t *record, uint8_t *array, size_t array_len, size_t 
                       uint64_t *counts);
 
 /*
+ * The same with a term, for a recipe of up to 2,101 bytes, or 2,037 with pages of
+ * 256: it may be read from the first day to the last, both inside. Answers 0, 1, 3
+ * to 11, 14.
+ */
+uint8_t slipknoll_put_term(uint8_t *record, uint8_t *array, size_t array_len, size_t slot,
+                           size_t poll_limit,
+                           uint32_t first_year, uint32_t first_month, uint32_t first_day,
+                           uint32_t last_year, uint32_t last_month, uint32_t last_day,
+                           const uint8_t *recipe, size_t recipe_len,
+                           const uint8_t *script, size_t script_len,
+                           const uint8_t *junk, size_t junk_len, uint8_t *log, size_t log_len,
+                           uint64_t *counts);
+
+/*
  * Changes bytes of a slot's recipe: those from `place` on become `bytes`, where
- * place 0 is the first. The recipe grows no longer: place + bytes_len may not be
- * over its length (13) nor over the part's longest (5). Under 12 and 13 all frames
- * are sent and the slot keeps its bytes. Answers 0, 1, 3 to 13.
+ * place 0 is the recipe's first, with a term or without. The recipe grows no
+ * longer: place + bytes_len may not be over its length (13) nor over the part's
+ * longest (5). A term stays as it is, and is not looked at: a recipe may be patched
+ * on any day. Under 12 and 13 all frames are sent and the slot keeps its bytes.
+ * Answers 0, 1, 3 to 13.
  */
 uint8_t slipknoll_patch(uint8_t *record, uint8_t *array, size_t array_len, size_t slot,
                         size_t poll_limit, size_t place, const uint8_t *bytes, size_t bytes_len,
@@ -360,13 +412,15 @@ uint8_t slipknoll_patch(uint8_t *record, uint8_t *array, size_t array_len, size_
                         uint64_t *counts);
 
 /*
- * Reads a slot's recipe. With answer 0 its n bytes are the first n of `buffer`,
- * and counts[2] is n; the rest of the buffer keeps. With any other answer the
- * buffer keeps whole. The buffer has at least SLIPKNOLL_RECIPE_MAX(array_len)
- * bytes. Answers 0, 1, 3 to 9, 11, 12.
+ * Reads a slot's recipe; year, month and day are today's. With answer 0 its n bytes
+ * are the first n of `buffer`, and counts[2] is n; the rest of the buffer keeps.
+ * With any other answer, 15 too, the buffer keeps whole, and counts[2] is 0. The
+ * buffer has at least SLIPKNOLL_RECIPE_MAX(array_len) bytes, whatever the slot
+ * holds. Answers 0, 1, 3 to 9, 11, 12, 14, 15.
  */
 uint8_t slipknoll_get(uint8_t *record, uint8_t *array, size_t array_len, size_t slot,
-                      size_t poll_limit, uint8_t *buffer, size_t buffer_len,
+                      size_t poll_limit, uint32_t year, uint32_t month, uint32_t day,
+                      uint8_t *buffer, size_t buffer_len,
                       const uint8_t *script, size_t script_len,
                       const uint8_t *junk, size_t junk_len, uint8_t *log, size_t log_len,
                       uint64_t *counts);
@@ -425,7 +479,7 @@ uint8_t slipknoll_raw(uint8_t *record, uint8_t *array, size_t array_len,
  *             break;                                // the frame may be lost: give up
  *         len = slipknoll_driver_next(state, recipe, recipe_len, reply, got, staged, frame);
  *     }
- *     answer = slipknoll_driver_answer(state);      // 0, 1, 3 to 5, 8 to 10, 12, 13;
+ *     answer = slipknoll_driver_answer(state);      // 0, 1, 3 to 5, 8 to 10, 12 to 15;
  *                                                   // given up: SLIPKNOLL_RUNNING
  *
  * exchange() makes one chip-select period of the frame: CS low, len bytes out
@@ -457,13 +511,13 @@ uint8_t slipknoll_raw(uint8_t *record, uint8_t *array, size_t array_len,
  * or choose poll_limit so that as many polls outlast this.
  *
  * What a listener sees of it, the frames' lengths and their first four bytes,
- * is the same whatever the recipes are. Send each frame whole, as it is, and
- * without pauses that depend on the recipe.
+ * is the same whatever the recipes and their days are, and whatever today is. Send
+ * each frame whole, as it is, and without pauses that depend on the recipe.
  *
  * At the end. After a put, patch or wipe the answer is all. After a get with
- * answer 0 the recipe stands in `staged` from staged[3] on, and
- * slipknoll_driver_count tells its length. With any other answer `staged` means
- * nothing.
+ * answer 0 the recipe stands in `staged` from staged + SLIPKNOLL_BODY(staged) on,
+ * and slipknoll_driver_count tells its length. With any other answer `staged` means
+ * nothing; under 15 it holds a recipe that is not to be read.
  *
  * If the supply or the link is lost in between, the slot may hold pages of both
  * recipes, or of none. Start the call again from its beginning.
@@ -482,17 +536,25 @@ uint8_t slipknoll_raw(uint8_t *record, uint8_t *array, size_t array_len,
 
 /*
  * Each start tests its arguments: 1 (array_len, which tells the part: for a real
- * chip SLIPKNOLL_ARRAY_LEN or SLIPKNOLL_ARRAY_256_LEN), 3, 4 and 5 in this order.
- * A start that is refused is at its end: slipknoll_driver_frame returns 0, and
- * slipknoll_driver_answer tells why.
+ * chip SLIPKNOLL_ARRAY_LEN or SLIPKNOLL_ARRAY_256_LEN), 3, 4, 5 and, where there are
+ * dates, 14 in this order. A start that is refused is at its end:
+ * slipknoll_driver_frame returns 0, and slipknoll_driver_answer tells why.
  */
 void slipknoll_driver_start_put(uint8_t *state, size_t array_len, size_t slot, size_t poll_limit,
                                 const uint8_t *recipe, size_t recipe_len);
+/* A put with a term; what follows the start is the same. */
+void slipknoll_driver_start_put_term(uint8_t *state, size_t array_len, size_t slot,
+                                     size_t poll_limit, uint32_t first_year,
+                                     uint32_t first_month, uint32_t first_day,
+                                     uint32_t last_year, uint32_t last_month,
+                                     uint32_t last_day,
+                                     const uint8_t *recipe, size_t recipe_len);
 void slipknoll_driver_start_patch(uint8_t *state, size_t array_len, size_t slot, size_t poll_limit,
                                   size_t place, const uint8_t *bytes, size_t bytes_len);
-/* buffer_len: room for the recipe, at least SLIPKNOLL_RECIPE_MAX(array_len). */
+/* year, month, day: today's. buffer_len: room for the recipe, at least
+   SLIPKNOLL_RECIPE_MAX(array_len). */
 void slipknoll_driver_start_get(uint8_t *state, size_t array_len, size_t slot, size_t poll_limit,
-                                size_t buffer_len);
+                                uint32_t year, uint32_t month, uint32_t day, size_t buffer_len);
 void slipknoll_driver_start_wipe(uint8_t *state, size_t array_len, size_t slot, size_t poll_limit);
 
 /*
@@ -518,7 +580,8 @@ uint8_t slipknoll_driver_answer(const uint8_t *state);
 
 /*
  * Of a get that has ended with 0 the recipe's length, at most the part's longest:
- * the recipe is staged[3] to staged[2 + n]. 0 of any other call, and before the end.
+ * the recipe is the n bytes from staged + SLIPKNOLL_BODY(staged) on. 0 of any other
+ * call or answer, and before the end.
  */
 size_t slipknoll_driver_count(const uint8_t *state, const uint8_t *staged);
 

@@ -1,7 +1,7 @@
-//! Times put, patch, get and wipe on every part, library and model over a
-//! record block alike.
+//! Times put, with a term and without, patch, get and wipe on every part, library
+//! and model over a record block alike.
 
-use at45db081d_model::{record, Call, Lent, Part};
+use at45db081d_model::{record, Call, Date, Lent, Part, Term};
 use slipknoll::{log_len, Chip, Run};
 
 use crate::opaque::black_box;
@@ -15,18 +15,27 @@ const LOG_LEN: usize = log_len::patch(POLL_LIMIT);
 const PLACE: usize = 200;
 const PATCH_LEN: usize = 300;
 
+/// A term late in the calendar, and today inside it.
+const FIRST: [u32; 3] = [2190, 5, 1];
+const LAST: [u32; 3] = [2199, 10, 31];
+const TODAY: [u32; 3] = [2199, 7, 1];
+
 #[derive(Clone, Copy)]
 enum Work {
     Put,
+    PutTerm,
     Patch,
     Get,
     Wipe,
 }
 
-const ROWS: [(&str, Work); 4] = [
+/// The second get reads what the put with a term has left.
+const ROWS: [(&str, Work); 6] = [
     ("put, longest", Work::Put),
     ("patch, 300 bytes", Work::Patch),
     ("get, longest", Work::Get),
+    ("put with a term", Work::PutTerm),
+    ("get with a term", Work::Get),
     ("wipe", Work::Wipe),
 ];
 
@@ -34,6 +43,8 @@ const ROWS: [(&str, Work); 4] = [
 struct Memory {
     array: Vec<u8>,
     recipe: Vec<u8>,
+    /// The longest recipe with a term.
+    term_len: usize,
     buffer: Vec<u8>,
     log: Vec<u8>,
 }
@@ -43,6 +54,7 @@ impl Memory {
         Memory {
             array: vec![0; part.array_len()],
             recipe: (0..part.max_recipe()).map(|i| (i * 7) as u8).collect(),
+            term_len: part.max_term_recipe(),
             buffer: vec![0; part.max_recipe()],
             log: vec![0; LOG_LEN],
         }
@@ -73,6 +85,7 @@ impl Subject for Library {
         let Memory {
             array,
             recipe,
+            term_len,
             buffer,
             log,
         } = &mut self.memory;
@@ -80,12 +93,16 @@ impl Subject for Library {
         let mut run = Run::new(log);
         let result = match work {
             Work::Put => chip.put(array, slot, POLL_LIMIT, recipe, &mut run),
+            Work::PutTerm => {
+                let recipe = &recipe[..*term_len];
+                chip.put_term_ymd(array, slot, POLL_LIMIT, FIRST, LAST, recipe, &mut run)
+            }
             Work::Patch => {
                 let bytes = &recipe[..PATCH_LEN];
                 chip.patch(array, slot, POLL_LIMIT, PLACE, bytes, &mut run)
             }
             Work::Get => {
-                let result = chip.get(array, slot, POLL_LIMIT, buffer, &mut run);
+                let result = chip.get_ymd(array, slot, POLL_LIMIT, TODAY, buffer, &mut run);
                 result.map(|_| ())
             }
             Work::Wipe => chip.wipe(array, slot, POLL_LIMIT, &mut run),
@@ -96,6 +113,10 @@ impl Subject for Library {
     fn array(&self) -> &[u8] {
         &self.memory.array
     }
+}
+
+fn date([year, month, day]: [u32; 3]) -> Date {
+    Date::new(year, month, day)
 }
 
 struct Model {
@@ -120,6 +141,7 @@ impl Subject for Model {
         let Memory {
             array,
             recipe,
+            term_len,
             buffer,
             log,
         } = &mut self.memory;
@@ -128,7 +150,14 @@ impl Subject for Model {
             Work::Put => Call::Put {
                 slot,
                 poll_limit,
+                term: None,
                 recipe,
+            },
+            Work::PutTerm => Call::Put {
+                slot,
+                poll_limit,
+                term: Some(Term::new(date(FIRST), date(LAST))),
+                recipe: &recipe[..*term_len],
             },
             Work::Patch => Call::Patch {
                 slot,
@@ -139,6 +168,7 @@ impl Subject for Model {
             Work::Get => Call::Get {
                 slot,
                 poll_limit,
+                today: date(TODAY),
                 buffer,
             },
             Work::Wipe => Call::Wipe { slot, poll_limit },
@@ -178,7 +208,7 @@ fn fill(subject: &mut impl Subject, part: Part) {
 /// Prints the table of the calls.
 pub fn run() {
     println!("calls over a record block, empty script, B = 1; best of {REPEATS} measurements");
-    println!("longest: recipes of 2,109 bytes, or of 2,045 with pages of 256");
+    println!("longest: recipes of 2,109 bytes, or of 2,045 with pages of 256; with a term 8 less");
     println!(
         "{:18} {:>9} {:>11} {:>11} {:>11} {:>11} {:>8}",
         "call", "pages", "library ns", "model ns", "library /s", "model /s", "times"

@@ -29,6 +29,10 @@ static size_t array_len;
 static uint8_t call_log[SLIPKNOLL_PUT_LOG_LEN(POLL_LIMIT)];
 static const uint8_t none[1];
 
+/* Today, and a season that is over: a first and a last day. */
+#define TODAY 2026, 11, 16
+#define SEASON 2026, 5, 1, 2026, 10, 31
+
 static uint8_t put(const uint8_t *recipe, size_t len)
 {
     uint64_t counts[3];
@@ -39,11 +43,22 @@ static uint8_t put(const uint8_t *recipe, size_t len)
     return answer;
 }
 
+/* The same for one season. */
+static uint8_t put_term(const uint8_t *recipe, size_t len)
+{
+    uint64_t counts[3];
+    uint8_t answer = slipknoll_put_term(record, array, array_len, SLOT, POLL_LIMIT, SEASON, recipe,
+                                        len, none, 0, none, 0, call_log, sizeof call_log, counts);
+    printf("call put_term: answer %u, frames %u, polls %u\n", (unsigned)answer,
+           (unsigned)counts[0], (unsigned)counts[1]);
+    return answer;
+}
+
 /* Reads the recipe into `buffer`, which has room for the part's longest. */
 static uint8_t get(uint8_t *buffer, size_t *len)
 {
     uint64_t counts[3];
-    uint8_t answer = slipknoll_get(record, array, array_len, SLOT, POLL_LIMIT, buffer,
+    uint8_t answer = slipknoll_get(record, array, array_len, SLOT, POLL_LIMIT, TODAY, buffer,
                                    SLIPKNOLL_RECIPE_MAX(array_len), none, 0, none, 0, call_log,
                                    sizeof call_log, counts);
     printf("call get: answer %u, frames %u, polls %u\n", (unsigned)answer,
@@ -109,10 +124,11 @@ static uint8_t drive_get(uint8_t *buffer, size_t *len)
     uint8_t state[SLIPKNOLL_DRIVER_LEN];
     uint8_t answer;
 
-    slipknoll_driver_start_get(state, array_len, SLOT, POLL_LIMIT, SLIPKNOLL_RECIPE_MAX(array_len));
+    slipknoll_driver_start_get(state, array_len, SLOT, POLL_LIMIT, TODAY,
+                               SLIPKNOLL_RECIPE_MAX(array_len));
     answer = drive("get", state, none, 0, staged);
     *len = slipknoll_driver_count(state, staged);
-    memcpy(buffer, staged + 3, *len);
+    memcpy(buffer, staged + SLIPKNOLL_BODY(staged), *len);
     return answer;
 }
 
@@ -150,6 +166,12 @@ static int run(void)
         return 1;
     printf("recipe: %u bytes, %s\n", (unsigned)len,
            len == longest && memcmp(buffer, long_recipe, len) == 0 ? "as put" : "another");
+
+    /* Outside its season a recipe is not handed over, and that does not show. */
+    if (put_term(short_recipe, sizeof short_recipe) != SLIPKNOLL_ACCEPTED)
+        return 1;
+    if (get(buffer, &len) != SLIPKNOLL_TERM || drive_get(buffer, &len) != SLIPKNOLL_TERM)
+        return 1;
     return 0;
 }
 

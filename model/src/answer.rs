@@ -17,8 +17,8 @@ pub const SLOT: u8 = 3;
 /// B is 0 or too high (12.4).
 pub const LIMIT: u8 = 4;
 
-/// The recipe or the patch does not fit a slot (12.5), or the get buffer is
-/// too short for the longest recipe (12.6).
+/// The recipe, with its term if it has one, or the patch does not fit a slot
+/// (12.5), or the get buffer is too short for the longest recipe (12.6).
 pub const SIZE: u8 = 5;
 
 /// The log is too short for the most frames that the call can send (12.7).
@@ -46,8 +46,16 @@ pub const BLANK: u8 = 12;
 /// The patch ends behind the recipe in the slot (9.10).
 pub const END: u8 = 13;
 
+/// A date of a put's term or of a get that there is not, or that lies before 2000
+/// or after 2199 (15.3); or a term whose first day is after its last (15.5). It is
+/// looked at after 5 and before 6 (12.2).
+pub const DATES: u8 = 14;
+
+/// Today is outside the term in the slot (9.9).
+pub const TERM: u8 = 15;
+
 /// True for the answers that a call meets before it sends a frame: they leave
 /// everything as it was (12.2).
 pub fn is_refusal(answer: u8) -> bool {
-    (PART..=SCRIPT).contains(&answer)
+    matches!(answer, PART..=SCRIPT | DATES)
 }

@@ -5,8 +5,8 @@
 use crate::answer;
 use crate::chip::MAX_FRAME;
 use crate::driver::{Driver, Link};
-use crate::slot::{HEADER_SIZE, SLOT_ROOM};
-use crate::{Chip, Part};
+use crate::slot::SLOT_ROOM;
+use crate::{Chip, Date, Part, Term};
 
 /// Bytes of a line in the log (11.5).
 pub const LOG_LINE: usize = 6;
@@ -32,6 +32,7 @@ pub enum Call<'a> {
     Put {
         slot: usize,
         poll_limit: usize,
+        term: Option<Term>,
         recipe: &'a [u8],
     },
     Patch {
@@ -43,6 +44,7 @@ pub enum Call<'a> {
     Get {
         slot: usize,
         poll_limit: usize,
+        today: Date,
         buffer: &'a mut [u8],
     },
     Wipe {
@@ -112,8 +114,9 @@ impl Call<'_> {
         }
     }
 
-    /// The refusals, in the order of their numbers (12.2); the first that
-    /// applies is the answer. If none does, the part that the array stands for.
+    /// The refusals, in the order of their numbers but for 14, which comes after
+    /// 5 (12.2); the first that applies is the answer. If none does, the part
+    /// that the array stands for.
     pub fn refuse(&self, chip: &Chip, lent: &Lent) -> Result<Part, u8> {
         let part = chip.part_of(lent.array).ok_or(answer::PART)?;
         allow(self.frame_fits(), answer::FRAME)?;
@@ -122,6 +125,7 @@ impl Call<'_> {
             allow((1..=MAX_POLL_LIMIT).contains(&poll_limit), answer::LIMIT)?;
         }
         allow(self.size_fits(part), answer::SIZE)?;
+        allow(self.dates_fit(), answer::DATES)?;
         allow(lent.log.len() >= LOG_LINE * self.most_frames(), answer::LOG)?;
         allow(script_fits(lent, part), answer::SCRIPT)?;
         Ok(part)
@@ -138,16 +142,26 @@ impl Call<'_> {
     }
 
     /// Answer 5: of a put and a patch what would not fit a slot (12.5), of a
-    /// get a buffer that the longest recipe would not fit (12.6).
+    /// get a buffer that the longest recipe would not fit (12.6). Only a put
+    /// knows whether there is a term.
     pub fn size_fits(&self, part: Part) -> bool {
         let most = part.max_recipe();
         match self {
-            Call::Put { recipe, .. } => recipe.len() <= most,
+            Call::Put { term, recipe, .. } => recipe.len() <= part.max_recipe_of(term.is_some()),
             Call::Patch { place, bytes, .. } => place
                 .checked_add(bytes.len())
                 .map_or(false, |end| end <= most),
             Call::Get { buffer, .. } => buffer.len() >= most,
             Call::Wipe { .. } | Call::Raw { .. } => true,
+        }
+    }
+
+    /// Answer 14: of a put its term, of a get today, whatever the slot holds.
+    pub fn dates_fit(&self) -> bool {
+        match self {
+            Call::Put { term, .. } => term.map_or(true, |term| term.days().is_some()),
+            Call::Get { today, .. } => today.number().is_some(),
+            Call::Patch { .. } | Call::Wipe { .. } | Call::Raw { .. } => true,
         }
     }
 
@@ -168,17 +182,20 @@ impl Call<'_> {
         let (slot, poll_limit) = self.target().unwrap_or_default();
         let mut driver = Driver::new(link, part, slot, poll_limit);
         let result = match self {
-            Call::Put { recipe, .. } => driver.put(recipe).map(|()| 0),
+            Call::Put { term, recipe, .. } => {
+                let days = term.map(|term| term.days().expect("a put that is not refused"));
+                driver.put(recipe, days).map(|()| 0)
+            }
             Call::Patch { place, bytes, .. } => driver.patch(place, bytes).map(|()| 0),
-            Call::Get { buffer, .. } => {
+            Call::Get { today, buffer, .. } => {
                 let mut room = [0; SLOT_ROOM];
                 let slot_bytes = &mut room[..part.slot_size()];
-                let result = driver.get(slot_bytes);
+                let today = today.number().expect("a get that is not refused");
                 // Under any other answer the buffer stays (11.9).
-                if let Ok(n) = result {
-                    buffer[..n].copy_from_slice(&slot_bytes[HEADER_SIZE..][..n]);
-                }
-                result
+                driver.get(slot_bytes, today).map(|head| {
+                    buffer[..head.len].copy_from_slice(&slot_bytes[head.body..][..head.len]);
+                    head.len
+                })
             }
             Call::Wipe { .. } => driver.wipe().map(|()| 0),
             // The caller's frame and the caller's reply (11.12, 11.13).

@@ -5,7 +5,7 @@
 
 use crate::answer;
 use crate::part::{sector_bits, sector_of, Part, BUFFER_SIZE, PAGES_PER_BLOCK};
-use crate::slot::{judge_patch, store, stored_len, HEADER_SIZE, SLOT_ROOM};
+use crate::slot::{judge_get, judge_patch, store, Head, SLOT_ROOM};
 
 /// Bytes before the data: an opcode with its address, and D2's four more.
 const LEAD: usize = 4;
@@ -52,12 +52,12 @@ impl<'a, L: Link> Driver<'a, L> {
     }
 
     /// Every page is programmed, lowest first (10.4, 10.5), with the bytes of
-    /// 9.4.
-    pub fn put(&mut self, recipe: &[u8]) -> Result<(), u8> {
+    /// 9.4. The days are those of a term.
+    pub fn put(&mut self, recipe: &[u8], days: Option<[u32; 2]>) -> Result<(), u8> {
         self.begin_writing()?;
         let mut room = [0; SLOT_ROOM];
         let bytes = &mut room[..self.part.slot_size()];
-        store(bytes, recipe);
+        store(bytes, recipe, days);
         for (k, page) in bytes.chunks_exact(self.part.page_size).enumerate() {
             self.program(k, page)?;
         }
@@ -71,7 +71,7 @@ impl<'a, L: Link> Driver<'a, L> {
     /// The patch ends by the longest recipe's end.
     pub fn patch(&mut self, place: usize, bytes: &[u8]) -> Result<(), u8> {
         self.begin_writing()?;
-        let mut verdict = Ok(());
+        let mut verdict = Err(answer::BLANK);
         for k in 0..PAGES_PER_BLOCK {
             let mut room = [0; BUFFER_SIZE];
             let page = &mut room[..self.part.page_size];
@@ -79,22 +79,22 @@ impl<'a, L: Link> Driver<'a, L> {
             if k == 0 {
                 verdict = judge_patch(self.part, page, place + bytes.len());
             }
-            if verdict.is_ok() {
-                change(page, k, place, bytes);
+            if let Ok(head) = verdict {
+                change(page, k, head.body + place, bytes);
             }
             self.program(k, page)?;
         }
-        verdict
+        verdict.map(|_| ())
     }
 
     /// Every page is read, however long the recipe is (10.4). The slot's bytes,
-    /// and the length of the recipe in them or answer 12 (9.9).
-    pub fn get(&mut self, slot_bytes: &mut [u8]) -> Result<usize, u8> {
+    /// and their head or answer 12 or 15 (9.9).
+    pub fn get(&mut self, slot_bytes: &mut [u8], today: u32) -> Result<Head, u8> {
         self.wait()?;
         for (k, page) in slot_bytes.chunks_exact_mut(self.part.page_size).enumerate() {
             self.read(k, page)?;
         }
-        stored_len(self.part, slot_bytes)
+        judge_get(self.part, slot_bytes, today)
     }
 
     /// One erase of the slot's block (10.5).
@@ -194,10 +194,9 @@ impl<'a, L: Link> Driver<'a, L> {
     }
 }
 
-/// Lays a patch over the slot's page `k`; its place counts behind the head
-/// (9.7).
-fn change(page: &mut [u8], k: usize, place: usize, bytes: &[u8]) {
-    let (page_start, patch_start) = (k * page.len(), HEADER_SIZE + place);
+/// Lays a patch that begins at this byte of the slot over its page `k` (9.7).
+fn change(page: &mut [u8], k: usize, patch_start: usize, bytes: &[u8]) {
+    let page_start = k * page.len();
     let start = patch_start.max(page_start);
     let end = (patch_start + bytes.len()).min(page_start + page.len());
     if start < end {

@@ -10,6 +10,7 @@
 //! - [`command`]: the command table
 //! - [`operation`]: the operation under way
 //! - [`chip`]: the chip itself: frames, busy end, pin, cut
+//! - [`date`]: the calendar, and terms
 //! - [`slot`]: what a slot holds
 //! - [`driver`]: the slot driver's frames, over any link to a chip
 //! - [`calls`]: put, patch, get, wipe and raw on the chip under a script
@@ -19,6 +20,7 @@ pub mod answer;
 pub mod calls;
 pub mod chip;
 pub mod command;
+pub mod date;
 pub mod driver;
 pub mod operation;
 pub mod part;
@@ -27,6 +29,7 @@ pub mod slot;
 
 pub use calls::{Call, Lent, Outcome};
 pub use chip::Chip;
+pub use date::{Date, Term};
 pub use operation::{Buffer, Operation};
 pub use part::Part;
 pub use record::{Record, RECORD_LEN};

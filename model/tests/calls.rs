@@ -1,10 +1,11 @@
 //! Examples of the slot driver's rules (sections 9 to 12 of
 //! `docs/SPECIFICATION.md`), with their values typed here.
 
-use at45db081d_model::{answer, Buffer, Call, Chip, Lent, Operation, Outcome, Part};
+use at45db081d_model::{answer, Buffer, Call, Chip, Date, Lent, Operation, Outcome, Part};
 
 const FACTORY: [u8; 64] = [0x5A; 64];
 const STALE: u8 = 0xEE;
+const TODAY: Date = Date::new(2000, 1, 1);
 
 /// A chip with what its calls are lent.
 struct Bench {
@@ -42,6 +43,7 @@ impl Bench {
         let call = Call::Put {
             slot,
             poll_limit,
+            term: None,
             recipe,
         };
         self.call(script, call)
@@ -62,6 +64,7 @@ impl Bench {
         let call = Call::Get {
             slot,
             poll_limit: 1,
+            today: TODAY,
             buffer: &mut buffer,
         };
         let outcome = self.call(script, call);
@@ -241,7 +244,8 @@ fn length_over_the_limit_or_another_version_is_blank() {
             ([1, high, low], answer::ACCEPTED),
             ([1, high, low + 1], answer::BLANK),
             ([0, 0x00, 0x00], answer::BLANK),
-            ([2, 0x00, 0x00], answer::BLANK),
+            ([3, 0x00, 0x00], answer::BLANK),
+            ([0xFF, 0x00, 0x00], answer::BLANK),
         ] {
             bench.array[..3].copy_from_slice(&head);
             assert_eq!(bench.get(&[], 0).answer, expected);
@@ -257,6 +261,7 @@ fn get_buffer_holds_the_longest_recipe() {
             let call = Call::Get {
                 slot: 0,
                 poll_limit: 1,
+                today: TODAY,
                 buffer: &mut vec![STALE; len],
             };
             assert_eq!(bench.call(&[], call).answer, expected);

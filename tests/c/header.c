@@ -27,11 +27,13 @@ static void check(int holds, const char *fact, int line)
    of pages 5 and 24. */
 #ifdef PAGES_256
 #define ARRAY SLIPKNOLL_SHORT_ARRAY_256_LEN
-enum { PAGE = 256, SLOT = 2048, MOST = 2045, JUNK = 33280, READY = 0xA5, BUSY = 0x25 };
+enum { PAGE = 256, SLOT = 2048, MOST = 2045, TERM_MOST = 2037, JUNK = 33280 };
+enum { READY = 0xA5, BUSY = 0x25 };
 enum { PAGE_5 = 0x05, PAGE_24 = 0x18 };
 #else
 #define ARRAY SLIPKNOLL_SHORT_ARRAY_LEN
-enum { PAGE = 264, SLOT = 2112, MOST = 2109, JUNK = 34320, READY = 0xA4, BUSY = 0x24 };
+enum { PAGE = 264, SLOT = 2112, MOST = 2109, TERM_MOST = 2101, JUNK = 34320 };
+enum { READY = 0xA4, BUSY = 0x24 };
 enum { PAGE_5 = 0x0A, PAGE_24 = 0x30 };
 #endif
 
@@ -86,6 +88,9 @@ static void check_lengths(void)
     CHECK(SLIPKNOLL_ARRAY_256_LEN == 4096 * 256 && SLIPKNOLL_SHORT_ARRAY_256_LEN == 128 * 256);
     CHECK(SLIPKNOLL_PAGE_LEN(ARRAY) == PAGE && SLIPKNOLL_SLOT_LEN(ARRAY) == SLOT);
     CHECK(SLIPKNOLL_RECIPE_MAX(ARRAY) == MOST && SLIPKNOLL_JUNK_LEN(ARRAY) == JUNK);
+    CHECK(SLIPKNOLL_TERM_RECIPE_MAX(ARRAY) == TERM_MOST);
+    CHECK(SLIPKNOLL_TERM_RECIPE_MAX(SLIPKNOLL_ARRAY_LEN) == 2101);
+    CHECK(SLIPKNOLL_TERM_RECIPE_MAX(SLIPKNOLL_ARRAY_256_LEN) == 2037);
     CHECK(SLIPKNOLL_PAGE_LEN(SLIPKNOLL_ARRAY_LEN) == 264);
     CHECK(SLIPKNOLL_PAGE_LEN(SLIPKNOLL_ARRAY_256_LEN) == 256);
     CHECK(SLIPKNOLL_SLOTS(SLIPKNOLL_ARRAY_LEN) == 512 && SLIPKNOLL_SLOTS(ARRAY) == 16);
@@ -96,6 +101,8 @@ static void check_lengths(void)
     CHECK(SLIPKNOLL_GET_LOG_LEN(1) == 6 * 9 && SLIPKNOLL_WIPE_LOG_LEN(1) == 6 * 5);
     CHECK(SLIPKNOLL_AT_COMPARE + 1 == SLIPKNOLL_RECORD_LEN);
     CHECK(SLIPKNOLL_DRIVER_FRAME_LEN == 8 + 264);
+    CHECK(SLIPKNOLL_DRIVER_LEN == 8 + 8 * 8);
+    CHECK(SLIPKNOLL_DATES == 14 && SLIPKNOLL_TERM == 15);
 }
 
 /* ---- The chip. */
@@ -221,17 +228,32 @@ static uint8_t put(size_t slot, const char *recipe, const uint8_t *script, size_
                          counts);
 }
 
+static uint8_t put_term(size_t slot, uint32_t first_year, uint32_t first_month, uint32_t first_day,
+                        uint32_t last_year, uint32_t last_month, uint32_t last_day,
+                        const char *recipe)
+{
+    return slipknoll_put_term(record, array, sizeof array, slot, 1, first_year, first_month,
+                              first_day, last_year, last_month, last_day,
+                              (const uint8_t *)recipe, strlen(recipe), none, 0, none, 0, lines,
+                              sizeof lines, counts);
+}
+
 static uint8_t patch(size_t slot, size_t place, const char *bytes)
 {
     return slipknoll_patch(record, array, sizeof array, slot, 1, place, (const uint8_t *)bytes,
                            strlen(bytes), none, 0, none, 0, lines, sizeof lines, counts);
 }
 
-static uint8_t get(size_t slot)
+static uint8_t get_on(size_t slot, uint32_t year, uint32_t month, uint32_t day)
 {
     memset(buffer, 0x55, sizeof buffer);
-    return slipknoll_get(record, array, sizeof array, slot, 1, buffer, sizeof buffer, none, 0,
-                         none, 0, lines, sizeof lines, counts);
+    return slipknoll_get(record, array, sizeof array, slot, 1, year, month, day, buffer,
+                         sizeof buffer, none, 0, none, 0, lines, sizeof lines, counts);
+}
+
+static uint8_t get(size_t slot)
+{
+    return get_on(slot, 2026, 11, 16);
 }
 
 static uint8_t wipe(size_t slot, size_t poll_limit, size_t log_len)
@@ -294,6 +316,108 @@ static void check_put_refused(void)
     CHECK(memcmp(array, array_before, sizeof array) == 0);
 }
 
+/* 1 May to 31 October 2027: days 9,982 (26FEh) and 10,165 (27B5h). */
+static void check_put_term(void)
+{
+    const uint8_t head[13] = {2, 0, 2, 0, 0, 0x26, 0xFE, 0, 0, 0x27, 0xB5, 'A', 'B'};
+    uint8_t plain[6 * 27];
+    fresh();
+    put(3, "a longer recipe", none, 0);
+    memcpy(plain, lines, sizeof plain);
+    CHECK(put_term(3, 2027, 5, 1, 2027, 10, 31, "AB") == SLIPKNOLL_ACCEPTED && counted(27, 9, 0));
+    /* It looks the same on the wire. */
+    CHECK(memcmp(plain, lines, sizeof plain) == 0);
+    CHECK(memcmp(array + 3 * SLOT, head, 13) == 0);
+    CHECK(all(array + 3 * SLOT + 13, SLOT - 13, 0));
+    CHECK(SLIPKNOLL_BODY(array + 3 * SLOT) == 11);
+    /* First and last day are inside. */
+    CHECK(get_on(3, 2027, 4, 30) == SLIPKNOLL_TERM && counted(9, 1, 0));
+    CHECK(all(buffer, sizeof buffer, 0x55));
+    CHECK(get_on(3, 2027, 5, 1) == SLIPKNOLL_ACCEPTED && counted(9, 1, 2));
+    CHECK(memcmp(buffer, "AB", 2) == 0 && all(buffer + 2, sizeof buffer - 2, 0x55));
+    CHECK(get_on(3, 2027, 10, 31) == SLIPKNOLL_ACCEPTED && counted(9, 1, 2));
+    CHECK(get_on(3, 2027, 11, 1) == SLIPKNOLL_TERM && counted(9, 1, 0));
+    /* A patch counts from the recipe's first byte, on any day. */
+    CHECK(patch(3, 1, "C") == SLIPKNOLL_ACCEPTED && counted(35, 9, 0));
+    CHECK(get_on(3, 2027, 7, 1) == SLIPKNOLL_ACCEPTED && memcmp(buffer, "AC", 2) == 0);
+    CHECK(memcmp(array + 3 * SLOT, head, 12) == 0);
+    CHECK(patch(3, 2, "C") == SLIPKNOLL_END);
+    /* The whole calendar. */
+    CHECK(put_term(3, 2000, 1, 1, 2199, 12, 31, "AB") == SLIPKNOLL_ACCEPTED);
+    CHECK(all(array + 3 * SLOT + 3, 5, 0) && array[3 * SLOT + 8] == 0x01);
+    CHECK(array[3 * SLOT + 9] == 0x1D && array[3 * SLOT + 10] == 0x58);
+    CHECK(get_on(3, 2000, 1, 1) == SLIPKNOLL_ACCEPTED);
+    CHECK(get_on(3, 2199, 12, 31) == SLIPKNOLL_ACCEPTED);
+}
+
+/* Days that no put stores, and lengths around the limit of a version. */
+static void check_stored_terms(void)
+{
+    uint8_t *slot = array + 3 * SLOT;
+    fresh();
+    put_term(3, 2000, 1, 1, 2000, 1, 1, "AB");
+    memset(slot + 7, 0xFF, 4);
+    CHECK(get_on(3, 2199, 12, 31) == SLIPKNOLL_ACCEPTED);
+    memset(slot + 3, 0xFF, 4);
+    CHECK(get_on(3, 2199, 12, 31) == SLIPKNOLL_TERM);
+    memset(slot + 7, 0, 4);
+    CHECK(get_on(3, 2000, 1, 1) == SLIPKNOLL_TERM && patch(3, 0, "x") == SLIPKNOLL_ACCEPTED);
+    CHECK(slot[11] == 'x');
+    memset(slot + 3, 0, 4);
+    slot[1] = TERM_MOST >> 8;
+    slot[2] = TERM_MOST & 255;
+    CHECK(get_on(3, 2000, 1, 1) == SLIPKNOLL_ACCEPTED && counted(9, 1, TERM_MOST));
+    slot[2]++;
+    /* 12 before 15. */
+    CHECK(get_on(3, 2000, 1, 1) == SLIPKNOLL_BLANK && counted(9, 1, 0));
+    CHECK(get_on(3, 2000, 1, 2) == SLIPKNOLL_BLANK && patch(3, 0, "x") == SLIPKNOLL_BLANK);
+    slot[0] = 1;
+    CHECK(get_on(3, 2000, 1, 2) == SLIPKNOLL_ACCEPTED && counted(9, 1, TERM_MOST + 1));
+    slot[0] = 3;
+    slot[1] = 0;
+    CHECK(get_on(3, 2000, 1, 1) == SLIPKNOLL_BLANK);
+}
+
+/* Nothing but 14 happens, after 5 and before 6, whatever the slot holds. */
+static void check_dates(void)
+{
+    const uint32_t huge = 4294967295u;
+    static const uint8_t recipe[MOST + 1] = {0};
+    size_t i;
+    fresh();
+    put(3, "AB", none, 0);
+    put_term(4, 2000, 1, 1, 2199, 12, 31, "AB");
+    remember();
+    memset(lines, 0x99, sizeof lines);
+    for (i = 3; i <= 5; i++) {
+        CHECK(get_on(i, 2100, 2, 29) == SLIPKNOLL_DATES && counted(0, 0, 0));
+        CHECK(get_on(i, 2026, 2, 29) == SLIPKNOLL_DATES && get_on(i, 2026, 4, 31) == 14);
+        CHECK(get_on(i, 2026, 0, 1) == SLIPKNOLL_DATES && get_on(i, 2026, 13, 1) == 14);
+        CHECK(get_on(i, 2026, 1, 0) == SLIPKNOLL_DATES && get_on(i, 2026, 1, huge) == 14);
+        CHECK(get_on(i, 0, 1, 1) == SLIPKNOLL_DATES && get_on(i, huge, 1, 1) == 14);
+        CHECK(get_on(i, 1999, 12, 31) == SLIPKNOLL_DATES && get_on(i, 2200, 1, 1) == 14);
+        CHECK(get_on(i, huge, huge, huge) == SLIPKNOLL_DATES && counted(0, 0, 0));
+        CHECK(all(buffer, sizeof buffer, 0x55));
+    }
+    CHECK(put_term(3, 2026, 11, 16, 2026, 11, 15, "AB") == SLIPKNOLL_DATES && counted(0, 0, 0));
+    CHECK(put_term(3, 2100, 2, 29, 2100, 3, 1, "AB") == SLIPKNOLL_DATES);
+    CHECK(put_term(3, 2100, 2, 28, 2100, 2, 29, "AB") == SLIPKNOLL_DATES);
+    CHECK(put_term(3, 2000, 1, 1, huge, 1, 1, "AB") == SLIPKNOLL_DATES);
+    CHECK(put_term(3, 0, 0, 0, 2000, 1, 1, "AB") == SLIPKNOLL_DATES);
+    CHECK(slipknoll_put_term(record, array, sizeof array, 0, 1, 0, 0, 0, 0, 0, 0, recipe,
+                             TERM_MOST + 1, none, 0, none, 0, lines, 0, counts) == SLIPKNOLL_SIZE);
+    CHECK(slipknoll_put_term(record, array, sizeof array, 0, 1, 0, 0, 0, 0, 0, 0, recipe,
+                             TERM_MOST, none, 0, none, 0, lines, 0, counts) == SLIPKNOLL_DATES);
+    CHECK(slipknoll_put_term(record, array, sizeof array, 0, 1, 2000, 1, 1, 2000, 1, 1, recipe,
+                             TERM_MOST, none, 0, none, 0, lines, 0, counts) == SLIPKNOLL_LOG);
+    CHECK(slipknoll_get(record, array, sizeof array, 3, 1, 0, 0, 0, buffer, MOST - 1, none, 0,
+                        none, 0, lines, 0, counts) == SLIPKNOLL_SIZE);
+    CHECK(slipknoll_get(record, array, sizeof array, 3, 1, 0, 0, 0, buffer, MOST, none, 0,
+                        none, 0, lines, 0, counts) == SLIPKNOLL_DATES);
+    CHECK(kept() && all(lines, sizeof lines, 0x99));
+    CHECK(get_on(3, 2000, 2, 29) == SLIPKNOLL_ACCEPTED && get_on(4, 2096, 2, 29) == 0);
+}
+
 static void check_get(void)
 {
     fresh();
@@ -301,8 +425,8 @@ static void check_get(void)
     put(3, "AB", none, 0);
     CHECK(get(3) == SLIPKNOLL_ACCEPTED && counted(9, 1, 2));
     CHECK(buffer[0] == 'A' && buffer[1] == 'B' && all(buffer + 2, sizeof buffer - 2, 0x55));
-    CHECK(slipknoll_get(record, array, sizeof array, 3, 1, buffer, MOST - 1, none, 0,
-                        none, 0, lines, sizeof lines, counts) == SLIPKNOLL_SIZE);
+    CHECK(slipknoll_get(record, array, sizeof array, 3, 1, 2026, 11, 16, buffer, MOST - 1, none,
+                        0, none, 0, lines, sizeof lines, counts) == SLIPKNOLL_SIZE);
     CHECK(get(16) == SLIPKNOLL_SLOT && counted(0, 0, 0));
 }
 
@@ -398,14 +522,44 @@ static void check_driver(void)
     slipknoll_driver_start_patch(state, sizeof array, 3, 1, 1, (const uint8_t *)"ol", 2);
     CHECK(carry("ol", &bytes) == 35 && bytes == 2 + 20 + 20 + 8 * (8 + PAGE + 4 + PAGE + 4 + 2));
     CHECK(slipknoll_driver_answer(state) == SLIPKNOLL_ACCEPTED);
-    slipknoll_driver_start_get(state, sizeof array, 3, 1, MOST);
+    slipknoll_driver_start_get(state, sizeof array, 3, 1, 2026, 11, 16, MOST);
     CHECK(carry("", &bytes) == 9 && bytes == 2 + 8 * (8 + PAGE));
     CHECK(slipknoll_driver_answer(state) == SLIPKNOLL_ACCEPTED);
     CHECK(slipknoll_driver_count(state, staged) == 4 && memcmp(staged + 3, "solt", 4) == 0);
+    CHECK(SLIPKNOLL_BODY(staged) == 3);
     slipknoll_driver_start_wipe(state, sizeof array, 3, 1);
     CHECK(carry("", &bytes) == 5 && bytes == 2 + 20 + 20 + 4 + 2);
     CHECK(slipknoll_driver_answer(state) == SLIPKNOLL_ACCEPTED);
     CHECK(all(array, sizeof array, 0xFF));
+}
+
+static void check_driver_term(void)
+{
+    size_t bytes;
+    fresh();
+    slipknoll_driver_start_put_term(state, sizeof array, 3, 1, 2027, 5, 1, 2027, 10, 31,
+                                    (const uint8_t *)"salt", 4);
+    CHECK(carry("salt", &bytes) == 27 && bytes == 2 + 20 + 20 + 8 * (4 + PAGE + 4 + 2));
+    CHECK(slipknoll_driver_answer(state) == SLIPKNOLL_ACCEPTED);
+    CHECK(get_on(3, 2027, 10, 31) == SLIPKNOLL_ACCEPTED && memcmp(buffer, "salt", 4) == 0);
+    CHECK(get_on(3, 2027, 11, 1) == SLIPKNOLL_TERM);
+    slipknoll_driver_start_patch(state, sizeof array, 3, 1, 1, (const uint8_t *)"ol", 2);
+    CHECK(carry("ol", &bytes) == 35);
+    CHECK(slipknoll_driver_answer(state) == SLIPKNOLL_ACCEPTED);
+    slipknoll_driver_start_get(state, sizeof array, 3, 1, 2027, 5, 1, MOST);
+    CHECK(carry("", &bytes) == 9 && bytes == 2 + 8 * (8 + PAGE));
+    CHECK(slipknoll_driver_answer(state) == SLIPKNOLL_ACCEPTED);
+    CHECK(slipknoll_driver_count(state, staged) == 4 && SLIPKNOLL_BODY(staged) == 11);
+    CHECK(memcmp(staged + SLIPKNOLL_BODY(staged), "solt", 4) == 0);
+    slipknoll_driver_start_get(state, sizeof array, 3, 1, 2027, 10, 31, MOST);
+    CHECK(carry("", &bytes) == 9 && slipknoll_driver_answer(state) == SLIPKNOLL_ACCEPTED);
+    CHECK(slipknoll_driver_count(state, staged) == 4);
+    slipknoll_driver_start_get(state, sizeof array, 3, 1, 2027, 4, 30, MOST);
+    CHECK(carry("", &bytes) == 9 && bytes == 2 + 8 * (8 + PAGE));
+    CHECK(slipknoll_driver_answer(state) == SLIPKNOLL_TERM);
+    CHECK(slipknoll_driver_count(state, staged) == 0);
+    slipknoll_driver_start_get(state, sizeof array, 3, 1, 2027, 11, 1, MOST);
+    CHECK(carry("", &bytes) == 9 && slipknoll_driver_answer(state) == SLIPKNOLL_TERM);
 }
 
 /* A start that is refused is at its end, and tells why. */
@@ -426,8 +580,17 @@ static void check_driver_refused(void)
     CHECK(refused(SLIPKNOLL_LIMIT));
     slipknoll_driver_start_patch(state, sizeof array, 3, 1, MOST, none, 1);
     CHECK(refused(SLIPKNOLL_SIZE));
-    slipknoll_driver_start_get(state, sizeof array, 3, 1, MOST - 1);
+    slipknoll_driver_start_get(state, sizeof array, 3, 1, 0, 0, 0, MOST - 1);
     CHECK(refused(SLIPKNOLL_SIZE));
+    slipknoll_driver_start_get(state, sizeof array, 3, 1, 2100, 2, 29, MOST);
+    CHECK(refused(SLIPKNOLL_DATES));
+    slipknoll_driver_start_put_term(state, sizeof array, 3, 1, 2000, 1, 2, 2000, 1, 1, none,
+                                    TERM_MOST + 1);
+    CHECK(refused(SLIPKNOLL_SIZE));
+    slipknoll_driver_start_put_term(state, sizeof array, 3, 1, 2000, 1, 2, 2000, 1, 1, none, 0);
+    CHECK(refused(SLIPKNOLL_DATES));
+    slipknoll_driver_start_put_term(state, sizeof array, 3, 0, 2000, 1, 2, 2000, 1, 1, none, 0);
+    CHECK(refused(SLIPKNOLL_LIMIT));
 }
 
 int main(void)
@@ -445,12 +608,16 @@ int main(void)
     check_cut();
     check_put();
     check_put_refused();
+    check_put_term();
+    check_stored_terms();
+    check_dates();
     check_get();
     check_patch();
     check_wipe();
     check_raw();
     check_busy();
     check_driver();
+    check_driver_term();
     check_driver_refused();
     printf("%u of %u checks hold\n", checks - failures, checks);
     return failures == 0 ? 0 : 1;

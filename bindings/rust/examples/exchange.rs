@@ -6,7 +6,7 @@
 //! cargo run --example exchange
 //! ```
 
-use slipknoll::{Chip, Driver, Error, Part, FACTORY_LEN};
+use slipknoll::{Chip, Date, DriveError, Driver, Error, Part, Term, FACTORY_LEN};
 
 const SLOT: usize = 7;
 const POLL_LIMIT: usize = 10;
@@ -59,6 +59,7 @@ fn part_of(status: u8) -> Part {
 }
 
 fn keep_recipes(mut bench: Bench) -> Result<(), Box<dyn std::error::Error>> {
+    let today = Date::new(2026, 11, 16)?;
     let mut status = [0; 2];
     bench.exchange(&[0xD7, 0x00], &mut status)?;
     let part = part_of(status[1]);
@@ -71,14 +72,26 @@ fn keep_recipes(mut bench: Bench) -> Result<(), Box<dyn std::error::Error>> {
         put.run(|frame, reply| bench.exchange(frame, reply))?;
         seen.push(std::mem::take(&mut bench.seen));
 
-        let mut get = Driver::get(part, SLOT, POLL_LIMIT)?;
+        let mut get = Driver::get(part, SLOT, POLL_LIMIT, today)?;
         get.run(|frame, reply| bench.exchange(frame, reply))?;
         assert_eq!(get.recipe(), Some(recipe));
         seen.push(std::mem::take(&mut bench.seen));
         println!("{} bytes put and read back", recipe.len());
     }
-    assert_eq!(seen[0], seen[2]);
-    assert_eq!(seen[1], seen[3]);
+
+    // For one season, which is over: the frames are the same.
+    let season = Term::new(Date::new(2026, 5, 1)?, Date::new(2026, 10, 31)?)?;
+    let mut put = Driver::put_term(part, SLOT, POLL_LIMIT, season, b"pesto")?;
+    put.run(|frame, reply| bench.exchange(frame, reply))?;
+    seen.push(std::mem::take(&mut bench.seen));
+    let mut get = Driver::get(part, SLOT, POLL_LIMIT, today)?;
+    let late = get.run(|frame, reply| bench.exchange(frame, reply));
+    assert_eq!(late, Err(DriveError::Call(Error::Term)));
+    seen.push(std::mem::take(&mut bench.seen));
+    println!("{today} is after {}", season.last());
+
+    assert!(seen[0] == seen[2] && seen[0] == seen[4]);
+    assert!(seen[1] == seen[3] && seen[1] == seen[5]);
     println!("frames of each put: {:?}", seen[0]);
     println!("frames of each get: {:?}", seen[1]);
     Ok(())

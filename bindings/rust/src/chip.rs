@@ -1,5 +1,5 @@
 use crate::error::accepted;
-use crate::{ffi, Error, Level, Record, Run, FACTORY_LEN};
+use crate::{ffi, Date, Error, Level, Record, Run, Term, FACTORY_LEN};
 
 /// A chip: registers, operation under way, buffers and compare bit.
 ///
@@ -108,10 +108,11 @@ impl Chip {
         accepted(ffi::cut(&mut self.record, array, junk))
     }
 
-    /// Stores a recipe in a slot.
+    /// Stores a recipe in a slot, without a term.
     ///
-    /// Errors: all but `Frame`, `Blank` and `End`. After `Chip`, `Busy`,
-    /// `Sealed` and `Cut` pages of the slot may be old, new, or (`Cut`) junk.
+    /// Errors: all but `Frame`, `Blank`, `End`, `Dates` and `Term`. After `Chip`,
+    /// `Busy`, `Sealed` and `Cut` pages of the slot may be old, new, or (`Cut`)
+    /// junk.
     pub fn put(
         &mut self,
         array: &mut [u8],
@@ -130,13 +131,75 @@ impl Chip {
         ))
     }
 
-    /// Changes bytes of a slot's recipe from `place` on; its length stays.
+    /// Stores a recipe of at most [`term_recipe_max`](crate::Part::term_recipe_max)
+    /// bytes in a slot, to be read on the days of a term.
     ///
-    /// Errors: all but `Frame`. Under `Blank` and `End` every frame is sent,
-    /// and the slot keeps its bytes.
+    /// Errors: those of [`put`](Chip::put).
     ///
     /// ```
-    /// # use slipknoll::{log_len, Chip, Error, Part, Run, FACTORY_LEN};
+    /// # use slipknoll::{log_len, Chip, Date, Error, Part, Run, Term, FACTORY_LEN};
+    /// # let mut array = vec![0; Part::Short.array_len()];
+    /// # let mut chip = Chip::fresh(&[0; FACTORY_LEN], &mut array)?;
+    /// # let mut log = [0; log_len::put(1)];
+    /// # let mut run = Run::new(&mut log);
+    /// let season = Term::new(Date::new(2027, 5, 1)?, Date::new(2027, 10, 31)?)?;
+    /// chip.put_term(&mut array, 3, 1, season, b"malt", &mut run)?;
+    ///
+    /// let mut buffer = [0; Part::Short.recipe_max()];
+    /// let early = Date::new(2027, 4, 30)?;
+    /// let read = chip.get(&mut array, 3, 1, early, &mut buffer, &mut run);
+    /// assert_eq!(read, Err(Error::Term));
+    /// let read = chip.get(&mut array, 3, 1, season.last(), &mut buffer, &mut run);
+    /// assert_eq!(read, Ok(&b"malt"[..]));
+    /// # Ok::<(), slipknoll::Error>(())
+    /// ```
+    pub fn put_term(
+        &mut self,
+        array: &mut [u8],
+        slot: usize,
+        poll_limit: usize,
+        term: Term,
+        recipe: &[u8],
+        run: &mut Run,
+    ) -> Result<(), Error> {
+        let [first, last] = [term.first(), term.last()].map(Date::ymd);
+        self.put_term_ymd(array, slot, poll_limit, first, last, recipe, run)
+    }
+
+    /// The same with days that may be any numbers: year, month and day of each.
+    ///
+    /// Errors: those of [`put`](Chip::put), and `Dates`.
+    #[allow(clippy::too_many_arguments)]
+    pub fn put_term_ymd(
+        &mut self,
+        array: &mut [u8],
+        slot: usize,
+        poll_limit: usize,
+        first: [u32; 3],
+        last: [u32; 3],
+        recipe: &[u8],
+        run: &mut Run,
+    ) -> Result<(), Error> {
+        accepted(ffi::calls::put_term(
+            &mut self.record,
+            array,
+            slot,
+            poll_limit,
+            first,
+            last,
+            recipe,
+            run,
+        ))
+    }
+
+    /// Changes bytes of a slot's recipe from `place` on, on any day; its length and
+    /// its term stay.
+    ///
+    /// Errors: all but `Frame`, `Dates` and `Term`. Under `Blank` and `End` every
+    /// frame is sent, and the slot keeps its bytes.
+    ///
+    /// ```
+    /// # use slipknoll::{log_len, Chip, Date, Error, Part, Run, FACTORY_LEN};
     /// # let mut array = vec![0; Part::Short.array_len()];
     /// # let mut chip = Chip::fresh(&[0; FACTORY_LEN], &mut array)?;
     /// let mut log = [0; log_len::patch(1)];
@@ -146,8 +209,8 @@ impl Chip {
     /// let beyond = chip.patch(&mut array, 3, 1, 3, b"ed", &mut run);
     /// assert_eq!((beyond, run.frames()), (Err(Error::End), 35));
     ///
-    /// let mut buffer = [0; Part::Short.recipe_max()];
-    /// assert_eq!(chip.get(&mut array, 3, 1, &mut buffer, &mut run)?, b"malt");
+    /// let (today, mut buffer) = (Date::new(2026, 11, 16)?, [0; Part::Short.recipe_max()]);
+    /// assert_eq!(chip.get(&mut array, 3, 1, today, &mut buffer, &mut run)?, b"malt");
     /// # Ok::<(), slipknoll::Error>(())
     /// ```
     pub fn patch(
@@ -171,18 +234,37 @@ impl Chip {
     }
 
     /// Reads a slot's recipe into the beginning of `buffer`, which has room for
-    /// [`recipe_max`](crate::Part::recipe_max) bytes; the rest of it keeps.
+    /// [`recipe_max`](crate::Part::recipe_max) bytes; the rest of it keeps. A
+    /// recipe with a term is read on its days alone.
     ///
-    /// Errors: all but `Frame`, `Sealed` and `End`; the buffer keeps whole.
+    /// Errors: all but `Frame`, `Sealed`, `End` and `Dates`; the buffer keeps
+    /// whole.
     pub fn get<'b>(
         &mut self,
         array: &mut [u8],
         slot: usize,
         poll_limit: usize,
+        today: Date,
         buffer: &'b mut [u8],
         run: &mut Run,
     ) -> Result<&'b [u8], Error> {
-        let answer = ffi::calls::get(&mut self.record, array, slot, poll_limit, buffer, run);
+        self.get_ymd(array, slot, poll_limit, today.ymd(), buffer, run)
+    }
+
+    /// The same where today may be any numbers: year, month and day.
+    ///
+    /// Errors: those of [`get`](Chip::get), and `Dates`, whatever the slot holds.
+    pub fn get_ymd<'b>(
+        &mut self,
+        array: &mut [u8],
+        slot: usize,
+        poll_limit: usize,
+        today: [u32; 3],
+        buffer: &'b mut [u8],
+        run: &mut Run,
+    ) -> Result<&'b [u8], Error> {
+        let record = &mut self.record;
+        let answer = ffi::calls::get(record, array, slot, poll_limit, today, buffer, run);
         accepted(answer)?;
         let [_, _, len] = run.counts;
         Ok(&buffer[..len as usize])
@@ -190,7 +272,7 @@ impl Chip {
 
     /// Erases a slot.
     ///
-    /// Errors: all but `Frame`, `Size`, `Blank` and `End`.
+    /// Errors: all but `Frame`, `Size`, `Blank`, `End`, `Dates` and `Term`.
     pub fn wipe(
         &mut self,
         array: &mut [u8],

@@ -2,7 +2,7 @@ use std::fmt;
 
 use crate::error::accepted;
 use crate::ffi::driver;
-use crate::{Error, Part, DRIVER_FRAME_LEN, SLOT_ROOM};
+use crate::{Date, Error, Part, Term, DRIVER_FRAME_LEN, SLOT_ROOM};
 
 /// A slot call on a chip elsewhere: it yields frames, is given the replies and
 /// comes to an end.
@@ -11,7 +11,7 @@ use crate::{Error, Part, DRIVER_FRAME_LEN, SLOT_ROOM};
 /// whole and sent once. [`run`](Driver::run) does the loop:
 ///
 /// ```
-/// use slipknoll::{Chip, Driver, Part, FACTORY_LEN};
+/// use slipknoll::{Chip, Date, Driver, Part, FACTORY_LEN};
 ///
 /// // On the other side: a chip that is ready at the next frame.
 /// let mut array = vec![0; Part::Full.array_len()];
@@ -23,7 +23,8 @@ use crate::{Error, Part, DRIVER_FRAME_LEN, SLOT_ROOM};
 ///
 /// Driver::put(Part::Full, 7, 100, b"AB")?.run(&mut exchange)?;
 ///
-/// let mut get = Driver::get(Part::Full, 7, 100)?;
+/// let today = Date::new(2026, 11, 16)?;
+/// let mut get = Driver::get(Part::Full, 7, 100, today)?;
 /// get.run(&mut exchange)?;
 /// assert_eq!(get.recipe(), Some(&b"AB"[..]));
 /// # Ok::<(), Box<dyn std::error::Error>>(())
@@ -62,9 +63,10 @@ pub struct Driver<'a> {
 }
 
 impl<'a> Driver<'a> {
-    /// Starts to store a recipe in a slot.
+    /// Starts to store a recipe in a slot, without a term.
     ///
-    /// Errors of every start: `Slot`, `Limit`, `Size`; nothing is to be sent.
+    /// Errors of every start: `Slot`, `Limit`, `Size`, and of those with `ymd` in
+    /// their names `Dates`; nothing is to be sent.
     pub fn put(
         part: Part,
         slot: usize,
@@ -76,7 +78,34 @@ impl<'a> Driver<'a> {
         })
     }
 
-    /// Starts to change bytes of a slot's recipe, from `place` on.
+    /// Starts to store a recipe in a slot, to be read on the days of a term.
+    pub fn put_term(
+        part: Part,
+        slot: usize,
+        poll_limit: usize,
+        term: Term,
+        recipe: &'a [u8],
+    ) -> Result<Driver<'a>, Error> {
+        let [first, last] = [term.first(), term.last()].map(Date::ymd);
+        Driver::put_term_ymd(part, slot, poll_limit, first, last, recipe)
+    }
+
+    /// The same with days that may be any numbers: year, month and day of each.
+    pub fn put_term_ymd(
+        part: Part,
+        slot: usize,
+        poll_limit: usize,
+        first: [u32; 3],
+        last: [u32; 3],
+        recipe: &'a [u8],
+    ) -> Result<Driver<'a>, Error> {
+        Driver::start(recipe, false, |state| {
+            let array_len = part.array_len();
+            driver::start_put_term(state, array_len, slot, poll_limit, first, last, recipe)
+        })
+    }
+
+    /// Starts to change bytes of a slot's recipe, from `place` on, on any day.
     pub fn patch(
         part: Part,
         slot: usize,
@@ -90,9 +119,25 @@ impl<'a> Driver<'a> {
     }
 
     /// Starts to read a slot's recipe.
-    pub fn get(part: Part, slot: usize, poll_limit: usize) -> Result<Driver<'static>, Error> {
+    pub fn get(
+        part: Part,
+        slot: usize,
+        poll_limit: usize,
+        today: Date,
+    ) -> Result<Driver<'static>, Error> {
+        Driver::get_ymd(part, slot, poll_limit, today.ymd())
+    }
+
+    /// The same where today may be any numbers: year, month and day.
+    pub fn get_ymd(
+        part: Part,
+        slot: usize,
+        poll_limit: usize,
+        today: [u32; 3],
+    ) -> Result<Driver<'static>, Error> {
         Driver::start(&[], true, |state| {
-            driver::start_get(state, part.array_len(), slot, poll_limit, part.recipe_max())
+            let (array_len, room) = (part.array_len(), part.recipe_max());
+            driver::start_get(state, array_len, slot, poll_limit, today, room)
         })
     }
 
@@ -152,8 +197,8 @@ impl<'a> Driver<'a> {
 
     /// How the call has ended; None while there is a frame to send.
     ///
-    /// Errors: `Chip`, `Busy`, `Sealed` (not of a get), `Blank` (patch and get)
-    /// and `End` (patch).
+    /// Errors: `Chip`, `Busy`, `Sealed` (not of a get), `Blank` (patch and get),
+    /// `End` (patch) and `Term` (get).
     pub fn answer(&self) -> Option<Result<(), Error>> {
         driver::answer(&self.state).map(accepted)
     }
@@ -165,7 +210,7 @@ impl<'a> Driver<'a> {
             return None;
         }
         let len = driver::count(&self.state, &self.staged);
-        self.staged[3..].get(..len)
+        self.staged[driver::body(&self.staged)..].get(..len)
     }
 
     /// Goes on to the end over a function that exchanges the bytes of one

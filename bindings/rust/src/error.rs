@@ -3,8 +3,8 @@ use std::fmt;
 /// An answer other than 0, by its number and word in `docs/SPECIFICATION.md`
 /// (12.1).
 ///
-/// After 1 to 7 nothing was sent and nothing has changed. 8 to 13 end a call
-/// that was under way; what its frames have done stays.
+/// After 1 to 7 and 14 nothing was sent and nothing has changed. 8 to 13 and 15
+/// end a call that was under way; what its frames have done stays.
 ///
 /// ```
 /// use slipknoll::Error;
@@ -28,8 +28,9 @@ pub enum Error {
     Slot = 3,
     /// The poll limit is 0, or over 1,000.
     Limit = 4,
-    /// A recipe of more than the part's longest, 2,109 or 2,045 bytes, a patch
-    /// that ends behind it, or a get buffer that is too short for it.
+    /// A recipe of more than the part's longest, 2,109 or 2,045 bytes, with a
+    /// term 2,101 or 2,037; a patch that ends behind 2,109 or 2,045, or a get
+    /// buffer of less.
     Size = 5,
     /// Log shorter than the call's frames may need; see [`crate::log_len`].
     Log = 6,
@@ -44,15 +45,21 @@ pub enum Error {
     Sealed = 10,
     /// The script cut the supply.
     Cut = 11,
-    /// The slot holds no record: its first byte is not 1, or the length behind
-    /// it is over the part's longest recipe.
+    /// The slot holds no record: its first byte, the version, is neither 1 nor
+    /// 2, or the length behind it is over that version's longest recipe.
     Blank = 12,
     /// The patch would end behind the recipe that is there.
     End = 13,
+    /// A date that does not exist, or that lies before 2000 or after 2199, or a
+    /// term whose first day is after its last. It comes after `Size` and before
+    /// `Log`.
+    Dates = 14,
+    /// Today is outside the term in the slot.
+    Term = 15,
 }
 
 /// Every error with its word and what it says, in the order of the numbers.
-const TABLE: [(Error, &str, &str); 13] = [
+const TABLE: [(Error, &str, &str); 15] = [
     (
         Error::Part,
         "part",
@@ -82,10 +89,16 @@ const TABLE: [(Error, &str, &str); 13] = [
     (Error::Cut, "cut", "the script cut the supply"),
     (Error::Blank, "blank", "no recipe in the slot"),
     (Error::End, "end", "patch beyond the end of the recipe"),
+    (
+        Error::Dates,
+        "dates",
+        "no date of 2000 to 2199, or first day after the last",
+    ),
+    (Error::Term, "term", "today is outside the recipe's term"),
 ];
 
 impl Error {
-    /// The error of an answer's number, if it is one of 1 to 13.
+    /// The error of an answer's number, if it is one of 1 to 15.
     pub fn from_number(number: u8) -> Option<Error> {
         let place = usize::from(number).checked_sub(1)?;
         TABLE.get(place).map(|(error, ..)| *error)
@@ -101,9 +114,9 @@ impl Error {
         self.row().1
     }
 
-    /// True for 1 to 7: nothing was sent and nothing has changed.
+    /// True for 1 to 7 and 14: nothing was sent and nothing has changed.
     pub fn is_refusal(self) -> bool {
-        self.number() <= Error::Script.number()
+        self.number() <= Error::Script.number() || self == Error::Dates
     }
 
     fn row(self) -> &'static (Error, &'static str, &'static str) {
@@ -120,7 +133,7 @@ impl fmt::Display for Error {
 
 impl std::error::Error for Error {}
 
-/// An answer as a result. The library answers with 0 to 13 alone.
+/// An answer as a result. The library answers with 0 to 15 alone.
 pub(crate) fn accepted(answer: u8) -> Result<(), Error> {
     match answer {
         0 => Ok(()),
@@ -138,9 +151,9 @@ mod tests {
             assert_eq!(usize::from(error.number()), i + 1);
             assert_eq!(Error::from_number(error.number()), Some(error));
             assert_eq!(format!("{error:?}").to_lowercase(), word);
-            assert_eq!(error.is_refusal(), i < 7);
+            assert_eq!(error.is_refusal(), i < 7 || i + 1 == 14);
         }
         assert_eq!(Error::from_number(0), None);
-        assert_eq!(Error::from_number(14), None);
+        assert_eq!(Error::from_number(16), None);
     }
 }

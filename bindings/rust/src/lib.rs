@@ -3,15 +3,15 @@
 //! * [`Chip`] is a chip that the program holds: its record of registers and
 //!   buffers. The flash array is the caller's and is lent to each call. Frames,
 //!   busy ends, pin moves and cuts reach it one by one, recipes by
-//!   [`put`](Chip::put), [`patch`](Chip::patch), [`get`](Chip::get) and
-//!   [`wipe`](Chip::wipe).
+//!   [`put`](Chip::put), [`put_term`](Chip::put_term), [`patch`](Chip::patch),
+//!   [`get`](Chip::get) and [`wipe`](Chip::wipe).
 //! * [`Driver`] makes the same calls on a chip elsewhere, say a real one behind
 //!   a radio link: it yields frames and is given the replies.
 //!
-//! Every input is answered: the answers 1 to 13 are an [`Error`].
+//! Every input is answered: the answers 1 to 15 are an [`Error`].
 //!
 //! ```
-//! use slipknoll::{log_len, Chip, Part, Run, FACTORY_LEN};
+//! use slipknoll::{log_len, Chip, Date, Part, Run, FACTORY_LEN};
 //!
 //! let part = Part::Short256; // 128 pages of 256 bytes
 //! let mut array = vec![0; part.array_len()];
@@ -22,16 +22,19 @@
 //! chip.put(&mut array, 3, 1, b"AB", &mut run)?;
 //! assert_eq!((run.frames(), run.polls()), (27, 9));
 //!
-//! let mut buffer = vec![0; part.recipe_max()];
-//! assert_eq!(chip.get(&mut array, 3, 1, &mut buffer, &mut run)?, b"AB");
+//! let (today, mut buffer) = (Date::new(2026, 11, 16)?, vec![0; part.recipe_max()]);
+//! assert_eq!(chip.get(&mut array, 3, 1, today, &mut buffer, &mut run)?, b"AB");
 //! # Ok::<(), slipknoll::Error>(())
 //! ```
 //!
+//! A recipe may have a [`Term`], the days on which a get reads it.
+//!
 //! What shows on the wire, the outlines of the frames, depends on nothing of
-//! the recipes; see `docs/THEOREMS.md` of the repository. [`ffi`] is the C
+//! the recipes and their terms; see `docs/THEOREMS.md` of the repository. [`ffi`] is the C
 //! interface as it is.
 
 mod chip;
+mod date;
 mod driver;
 mod error;
 pub mod ffi;
@@ -39,6 +42,7 @@ mod part;
 mod run;
 
 pub use chip::Chip;
+pub use date::{Date, Term};
 pub use driver::{DriveError, Driver};
 pub use error::Error;
 pub use part::{Level, Part};

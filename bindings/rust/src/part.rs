@@ -7,6 +7,7 @@
 /// assert_eq!(Part::from_array_len(32_768), Some(Part::Short256));
 /// assert_eq!(Part::Short256.slots(), 16);
 /// assert_eq!([Part::Full, Part::Full256].map(Part::recipe_max), [2109, 2045]);
+/// assert_eq!([Part::Full, Part::Full256].map(Part::term_recipe_max), [2101, 2037]);
 /// ```
 #[derive(Clone, Copy, Debug, PartialEq, Eq, Hash)]
 pub enum Part {
@@ -61,6 +62,11 @@ impl Part {
         self.slot_len() - 3
     }
 
+    /// The longest recipe with a term, which takes eight bytes.
+    pub const fn term_recipe_max(self) -> usize {
+        self.recipe_max() - 8
+    }
+
     /// The number of slots.
     pub const fn slots(self) -> usize {
         self.array_len() / self.slot_len()
@@ -85,7 +91,8 @@ pub enum Level {
 mod tests {
     use super::*;
 
-    /// Array, page, slot, longest recipe, slots and junk of each part.
+    /// Array, page, slot, longest recipes without and with a term, slots and junk
+    /// of each part.
     #[test]
     fn lengths() {
         let found = Part::ALL.map(|it| {
@@ -94,15 +101,16 @@ mod tests {
                 it.page_len(),
                 it.slot_len(),
                 it.recipe_max(),
+                it.term_recipe_max(),
                 it.slots(),
                 it.junk_len(),
             ]
         });
         let expected = [
-            [1_081_344, 264, 2112, 2109, 512, 1_081_872],
-            [33_792, 264, 2112, 2109, 16, 34_320],
-            [1_048_576, 256, 2048, 2045, 512, 1_049_088],
-            [32_768, 256, 2048, 2045, 16, 33_280],
+            [1_081_344, 264, 2112, 2109, 2101, 512, 1_081_872],
+            [33_792, 264, 2112, 2109, 2101, 16, 34_320],
+            [1_048_576, 256, 2048, 2045, 2037, 512, 1_049_088],
+            [32_768, 256, 2048, 2045, 2037, 16, 33_280],
         ];
         assert_eq!(found, expected);
         for part in Part::ALL {

@@ -1,9 +1,19 @@
 //! The driver over an exchange function does what the calls on the chip do.
 
-use slipknoll::{log_len, Chip, DriveError, Driver, Error, Level, Line, Part, Run, FACTORY_LEN};
+use slipknoll::{
+    log_len, Chip, Date, DriveError, Driver, Error, Level, Line, Part, Run, Term, FACTORY_LEN,
+};
 
 const SLOT: usize = 15;
 const POLL_LIMIT: usize = 3;
+
+fn date(year: u32, month: u32, day: u32) -> Date {
+    Date::new(year, month, day).expect("a date")
+}
+
+fn today() -> Date {
+    date(2026, 11, 16)
+}
 
 /// A chip with its array, and the outlines of the frames exchanged.
 #[derive(Clone, PartialEq, Debug)]
@@ -61,14 +71,21 @@ impl Bench {
 }
 
 /// Makes the four calls in both ways; they must do the same.
-fn compare(bench: &Bench, recipe: &[u8], place: usize, bytes: &[u8]) {
+fn compare(bench: &Bench, term: Option<Term>, recipe: &[u8], place: usize, bytes: &[u8]) {
     let part = Part::from_array_len(bench.array.len()).expect("a part");
     let (mut driven, mut called) = (bench.clone(), bench.clone());
     let mut buffer = vec![0; part.recipe_max()];
 
-    let put = driven.drive(Driver::put(part, SLOT, POLL_LIMIT, recipe).expect("a put"));
+    let put = match term {
+        None => Driver::put(part, SLOT, POLL_LIMIT, recipe),
+        Some(term) => Driver::put_term(part, SLOT, POLL_LIMIT, term, recipe),
+    };
+    let put = driven.drive(put.expect("a put"));
     let expected = called.call(|chip, array, run| {
-        chip.put(array, SLOT, POLL_LIMIT, recipe, run)?;
+        match term {
+            None => chip.put(array, SLOT, POLL_LIMIT, recipe, run)?,
+            Some(term) => chip.put_term(array, SLOT, POLL_LIMIT, term, recipe, run)?,
+        }
         Ok(Vec::new())
     });
     assert_eq!(put, expected);
@@ -83,9 +100,10 @@ fn compare(bench: &Bench, recipe: &[u8], place: usize, bytes: &[u8]) {
     assert_eq!(patch, expected);
     assert!(driven == called);
 
-    let get = driven.drive(Driver::get(part, SLOT, POLL_LIMIT).expect("a get"));
+    let get = Driver::get(part, SLOT, POLL_LIMIT, today()).expect("a get");
+    let get = driven.drive(get);
     let expected = called.call(|chip, array, run| {
-        let recipe = chip.get(array, SLOT, POLL_LIMIT, &mut buffer, run)?;
+        let recipe = chip.get(array, SLOT, POLL_LIMIT, today(), &mut buffer, run)?;
         Ok(recipe.to_vec())
     });
     assert_eq!(get, expected);
@@ -105,12 +123,111 @@ fn driven_as_called() {
     for part in Part::ALL {
         let bench = Bench::new(part);
         let most = part.recipe_max();
-        compare(&bench, b"salt", 0, b"m");
-        compare(&bench, b"", 0, b"");
-        compare(&bench, &vec![0x5A; most], most - 109, &[0xA5; 109]);
+        compare(&bench, None, b"salt", 0, b"m");
+        compare(&bench, None, b"", 0, b"");
+        compare(&bench, None, &vec![0x5A; most], most - 109, &[0xA5; 109]);
         // A patch beyond the end.
-        compare(&bench, b"salt", 3, b"ed");
+        compare(&bench, None, b"salt", 3, b"ed");
     }
+}
+
+/// With terms that today is inside and outside of.
+#[test]
+fn driven_as_called_with_a_term() {
+    let (new_year, october) = (date(2026, 1, 1), date(2026, 10, 31));
+    for part in Part::ALL {
+        let bench = Bench::new(part);
+        let most = part.term_recipe_max();
+        for last in [today(), october] {
+            let term = Some(Term::new(new_year, last).expect("a term"));
+            compare(&bench, term, b"salt", 0, b"m");
+            compare(&bench, term, b"", 0, b"");
+            compare(&bench, term, &vec![0x5A; most], most - 109, &[0xA5; 109]);
+            compare(&bench, term, b"salt", 3, b"ed");
+        }
+    }
+}
+
+/// What a recipe with a term holds, and when it is read.
+#[test]
+fn terms_are_kept() {
+    for part in Part::ALL {
+        let mut bench = Bench::new(part);
+        let (first, last) = (date(2096, 2, 29), date(2100, 3, 1));
+        let term = Term::new(first, last).expect("a term");
+        let put = Driver::put_term(part, SLOT, POLL_LIMIT, term, b"salt").expect("a put");
+        assert_eq!(bench.drive(put).0, Ok(()));
+        // Days 35,123 (8933h) and 36,584 (8EE8h), by `date` of coreutils.
+        let slot = &bench.array[SLOT * part.slot_len()..][..16];
+        let head = [2, 0, 4, 0, 0, 0x89, 0x33, 0, 0, 0x8E, 0xE8];
+        assert_eq!((&slot[..11], &slot[11..15]), (&head[..], &b"salt"[..]));
+        for (today, expected) in [
+            (date(2096, 2, 28), Err(Error::Term)),
+            (first, Ok(())),
+            (date(2100, 2, 28), Ok(())),
+            (last, Ok(())),
+            (date(2100, 3, 2), Err(Error::Term)),
+        ] {
+            let get = Driver::get(part, SLOT, POLL_LIMIT, today).expect("a get");
+            let read = if expected.is_ok() { &b"salt"[..] } else { b"" };
+            assert_eq!(bench.drive(get), (expected, read.to_vec()), "{today}");
+        }
+    }
+}
+
+/// Dates that are none: by the constructors, and by the calls that take numbers.
+#[test]
+fn refused_dates() {
+    const HUGE: u32 = u32::MAX;
+    let part = Part::Short;
+    let mut bench = Bench::new(part);
+    let fresh = bench.clone();
+    let good = [2026, 11, 16];
+    for bad in [
+        [2100, 2, 29],
+        [2026, 2, 30],
+        [2026, 0, 1],
+        [2026, 13, 1],
+        [2026, 1, 0],
+        [2026, 1, HUGE],
+        [1999, 12, 31],
+        [2200, 1, 1],
+        [0, 1, 1],
+        [HUGE, 1, 1],
+        [HUGE, HUGE, HUGE],
+    ] {
+        assert_eq!(Date::new(bad[0], bad[1], bad[2]), Err(Error::Dates));
+        let get = Driver::get_ymd(part, 0, 1, bad);
+        assert_eq!(get.err(), Some(Error::Dates));
+        for [first, last] in [[bad, good], [good, bad]] {
+            let put = Driver::put_term_ymd(part, 0, 1, first, last, b"salt");
+            assert_eq!(put.err(), Some(Error::Dates));
+            let called = bench.call(|chip, array, run| {
+                chip.put_term_ymd(array, 0, 1, first, last, b"salt", run)?;
+                Ok(Vec::new())
+            });
+            assert_eq!(called.0, Err(Error::Dates));
+        }
+        let called = bench.call(|chip, array, run| {
+            let mut buffer = vec![0x5A; part.recipe_max()];
+            let read = chip.get_ymd(array, 0, 1, bad, &mut buffer, run);
+            let read = read.map(<[u8]>::to_vec);
+            assert!(buffer.iter().all(|&byte| byte == 0x5A));
+            read
+        });
+        assert_eq!(called.0, Err(Error::Dates));
+    }
+    assert!(bench == fresh);
+    // The first after the last.
+    let (first, last) = (date(2026, 11, 17), today());
+    assert_eq!(Term::new(first, last), Err(Error::Dates));
+    let put = Driver::put_term_ymd(part, 0, 1, first.ymd(), last.ymd(), b"salt");
+    assert_eq!(put.err(), Some(Error::Dates));
+    assert!(Driver::put_term_ymd(part, 0, 1, last.ymd(), last.ymd(), b"salt").is_ok());
+    // Numbers of a date do what the date does.
+    assert!(Driver::get_ymd(part, 0, 1, good).is_ok());
+    assert_eq!(today().ymd(), good);
+    assert_eq!([today().year(), today().month(), today().day()], good);
 }
 
 /// What stands against a call is met alike: a sealed sector, a deep chip.
@@ -127,7 +244,7 @@ fn errors_on(part: Part) {
     for frame in [[0x3D, 0x2A, 0x7F, 0xCF], [0x3D, 0x2A, 0x7F, 0xA9]] {
         sealed.exchange(&frame, &mut reply).expect("a frame");
     }
-    compare(&sealed, b"salt", 0, b"m");
+    compare(&sealed, None, b"salt", 0, b"m");
     let put = Driver::put(part, SLOT, POLL_LIMIT, b"salt").expect("a put");
     assert_eq!(sealed.drive(put).0, Err(Error::Sealed));
     assert_eq!(sealed.outline.len(), 3);
@@ -142,12 +259,12 @@ fn errors_on(part: Part) {
 
     let mut deep = Bench::new(part);
     deep.exchange(&[0xB9], &mut [0]).expect("a frame");
-    compare(&deep, b"salt", 0, b"m");
-    let get = Driver::get(part, SLOT, POLL_LIMIT).expect("a get");
+    compare(&deep, None, b"salt", 0, b"m");
+    let get = Driver::get(part, SLOT, POLL_LIMIT, today()).expect("a get");
     assert_eq!(deep.drive(get).0, Err(Error::Chip));
 
     let mut fresh = Bench::new(part);
-    let get = Driver::get(part, SLOT, POLL_LIMIT).expect("a get");
+    let get = Driver::get(part, SLOT, POLL_LIMIT, today()).expect("a get");
     assert_eq!(fresh.drive(get), (Err(Error::Blank), Vec::new()));
 }
 
@@ -183,8 +300,9 @@ fn refused_starts() {
     let error = |driver: Result<Driver, Error>| driver.err();
     for (part, slots, most) in [(Part::Short, 16, 2109), (Part::Full256, 512, 2045)] {
         assert_eq!(error(Driver::wipe(part, slots, 1)), Some(Error::Slot));
-        assert_eq!(error(Driver::get(part, 0, 0)), Some(Error::Limit));
-        assert_eq!(error(Driver::get(part, 0, 1001)), Some(Error::Limit));
+        assert_eq!(error(Driver::get(part, 0, 0, today())), Some(Error::Limit));
+        let get = Driver::get(part, 0, 1001, today());
+        assert_eq!(error(get), Some(Error::Limit));
         let long = vec![0; most + 1];
         assert_eq!(error(Driver::put(part, 0, 1, &long)), Some(Error::Size));
         let patch = Driver::patch(part, 0, 1, usize::MAX, &[1]);
@@ -192,5 +310,11 @@ fn refused_starts() {
         let patch = Driver::patch(part, 0, 1, most, &[1]);
         assert_eq!(error(patch), Some(Error::Size));
         assert_eq!(error(Driver::put(part, 0, 1, &long[1..])), None);
+        // Eight bytes less with a term.
+        let term = Term::new(today(), today()).expect("a term");
+        let put = Driver::put_term(part, 0, 1, term, &long[8..]);
+        assert_eq!(error(put), Some(Error::Size));
+        let put = Driver::put_term(part, 0, 1, term, &long[9..]);
+        assert_eq!(error(put), None);
     }
 }

@@ -8,11 +8,13 @@ use mathlib.Core.List.{List, [], _∷_}
 use Prim.Native.Nat.{ℕ}
 use lib.ListN.{length, getD}
 use Rattle.slices.specs.Lists.{over}
+use Rattle.dates.specs.declared.Term.{Term}
 use Rattle.state.specs.Answers.{numberOf}
 use Rattle.state.specs.Outcomes.{sendOutcome, endOutcome, cutOutcome, pinOutcome, pinnedState}
 use Rattle.blocks.specs.Promises.{heldIn, Met, MetPin}
+use Rattle.slots.specs.declared.Detail.{Detail}
 use Rattle.slots.specs.Plans.{Asked}
-use Rattle.slots.specs.Lists.{Op, call, raw, straight, pin, busyEnd, cut, outOf, nextOf, logOf}
+use Rattle.slots.specs.Lists.{Op, call, raw, straight, pin, busyEnd, cut, put, outOf, nextOf, logOf}
 use Rattle.runs.specs.Promises.{Called}
 use Rattle.words.specs.declared.Command.{Command}
 use Rattle.words.specs.declared.Command.the-variants.{Put, Patch, Get, Wipe, Raw, Send, End, Pin, Cut, Part, Sum}
@@ -22,10 +24,18 @@ use Rattle.lengths.specs.Lengths.{callLengths, lengthsBy, Lends}
 use Rattle.acting.specs.Steps.{isStep, blank, opBy, opOf, blockAfter, seenOn, seenBy, Took, told, Spares}
 
 -- ---- a call
+
+-- a put of a term that equals another
+pub put-alike : (slot limit : ℕ) (t : Term) {u : Term} (script recipe junk log block array : List ℕ) {r : ℕ} {held xs l counts : List ℕ} → t ≡ u
+    → Called (put slot limit u script recipe junk log) block array r held xs l counts []
+    → Called (put slot limit t script recipe junk log) block array r held xs l counts []
+put-alike slot limit t script recipe junk log block array {r} {held} {xs} {l} {counts} e x =
+    subst (λ (k : Term). Called (put slot limit k script recipe junk log) block array r held xs l counts []) (sym e) x
+
 module _ {block array : List ℕ} {r : ℕ} {held xs l u counts : List ℕ} where
-  pub call-took : {v : List ℕ} {a : Asked} {place : ℕ} {script payload junk log lent : List ℕ} → u ≡ v
-      → Called (call a place script payload junk log lent) block array r held xs l counts v
-      → Took (seenBy (call a place script payload junk log lent) block array) (told r counts) held xs l u
+  pub call-took : {v : List ℕ} {a : Asked} {d : Detail} {script payload junk log lent : List ℕ} → u ≡ v
+      → Called (call a d script payload junk log lent) block array r held xs l counts v
+      → Took (seenBy (call a d script payload junk log lent) block array) (told r counts) held xs l u
   unfolding seenOn blockAfter
   call-took e x =
       record {

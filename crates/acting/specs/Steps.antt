@@ -60,9 +60,9 @@ blank n = replicate n 0xA5
 -- the call or event by the command, on the bytes of HEX, the script, the junk, the log, and the get buffer or reply; part and sum are none, and
 -- what stands there is not looked at
 abbrev pub opBy : Command → Order → (bytes script junk log out : List ℕ) → Op
-opBy Put o bytes script junk log out = put (o .number) (o .limit) script bytes junk log
+opBy Put o bytes script junk log out = put (o .number) (o .limit) (o .term) script bytes junk log
 opBy Patch o bytes script junk log out = patch (o .number) (o .limit) (o .place) script bytes junk log
-opBy Get o bytes script junk log out = get (o .number) (o .limit) script junk log out
+opBy Get o bytes script junk log out = get (o .number) (o .limit) (o .today) script junk log out
 opBy Wipe o bytes script junk log out = wipe (o .number) (o .limit) script junk log
 opBy Raw o bytes script junk log out = raw bytes script junk log out
 opBy Send o bytes script junk log out = straight bytes out
@@ -89,9 +89,9 @@ pub record Seen : Type 0 where
   pub polls : ℕ
   pub given : ℕ
 
--- the block by the answer and the new chip: a call keeps it under 1 to 7 alone, an event under all but 0, and a pin moves one byte
+-- the block by the answer and the new chip: a call keeps it under 1 to 7 and 14 alone, an event under all but 0, and a pin moves one byte
 unfoldable pub blockAfter : Op → List ℕ → Answer → Chip → List ℕ
-blockAfter (call asked place script payload junk log lent) block a c = keptIn block a c
+blockAfter (call asked detail script payload junk log lent) block a c = keptIn block a c
 blockAfter (raw frame script junk log reply) block a c = keptIn block a c
 blockAfter (straight frame reply) block a c = storedBy block a c
 blockAfter (pin high) block a c = pinMoved block high

@@ -5,6 +5,9 @@ use mathlib.Core.Path.{_≡_}
 use mathlib.Core.Bool.{true, false}
 use mathlib.Core.List.{List, [], _∷_, _++_}
 use lib.ListN.{length, take, drop, replicate}
+use Rattle.dates.specs.declared.Date.{Date}
+use Rattle.dates.specs.declared.Term.the-variants.{Unlimited, Between}
+use Rattle.dates.specs.Calendar.{date}
 use Rattle.geometry.specs.declared.Geometry.{Geometry}
 use Rattle.geometry.specs.declared.Part.the-variants.{Known}
 use Rattle.geometry.specs.Parts.{row, partOf, addressAt, pageAt, byteAt}
@@ -26,9 +29,20 @@ sent f s = nextOf (straight f (replicate (length f) 0)) s
 abbrev pub status : List ℕ
 status = 0xD7 ∷ 0x00 ∷ []
 
+abbrev pub lentBuffer : List ℕ
+lentBuffer = replicate 2109 0
+
 -- a put of a recipe into slot 0 of a fresh part, poll limit 1, empty script
 abbrev pub putFresh : List ℕ → Op
-putFresh recipe = put 0 1 [] recipe [] log
+putFresh recipe = put 0 1 Unlimited [] recipe [] log
+
+-- the same with a term
+abbrev pub putTerm : Date → Date → List ℕ → Op
+putTerm first last recipe = put 0 1 (Between first last) [] recipe [] log
+
+-- a get of slot 0 on a day
+abbrev pub getOn : Date → Op
+getOn today = get 0 1 today [] [] log lentBuffer
 
 -- the first n bytes of the array afterwards
 abbrev pub storedOn : State → ℕ → List ℕ → List ℕ
@@ -37,9 +51,6 @@ storedOn s n recipe = take n (nextOf (putFresh recipe) s .memory .array)
 -- slot 0 of a fresh part with pages of 264 bytes
 abbrev pub stored : List ℕ → List ℕ
 stored recipe = storedOn freshShort 2112 recipe
-
-abbrev pub lentBuffer : List ℕ
-lentBuffer = replicate 2109 0
 
 -- a frame sent straight, as a list's element
 abbrev pub sending : List ℕ → Op
@@ -92,12 +103,22 @@ pub record Bench : Type 0 where
   pub longest : take 3 (stored (replicate 2109 7)) ≡ 0x01 ∷ 0x08 ∷ 0x3D ∷ []
   pub too-long : answers (putFresh (replicate 2110 7) ∷ []) freshShort ≡ 5 ∷ []
   -- a get of a fresh slot meets 12
-  pub blank : answers (get 0 1 [] [] log lentBuffer ∷ []) freshShort ≡ 12 ∷ []
+  pub blank : answers (get 0 1 (date 2000 1 1) [] [] log lentBuffer ∷ []) freshShort ≡ 12 ∷ []
+  -- a record with a term: version 2, the body's length, days 0 and 73,048, the body; 2,102 bytes meet 5
+  pub termed : take 14 (nextOf (putTerm (date 2000 1 1) (date 2199 12 31) (0x41 ∷ 0x42 ∷ [])) freshShort .memory .array)
+      ≡ 0x02 ∷ 0x00 ∷ 0x02 ∷ 0x00 ∷ 0x00 ∷ 0x00 ∷ 0x00 ∷ 0x00 ∷ 0x01 ∷ 0x1D ∷ 0x58 ∷ 0x41 ∷ 0x42 ∷ 0x00 ∷ []
+  pub termed-too-long : answers (putTerm (date 2000 1 1) (date 2199 12 31) (replicate 2102 7) ∷ []) freshShort ≡ 5 ∷ []
+  -- the day before the first meets 15, the first and the last day do not, the day after the last does
+  pub inside : answers (putTerm (date 2027 5 1) (date 2027 5 31) (0x41 ∷ []) ∷ getOn (date 2027 4 30) ∷ getOn (date 2027 5 1) ∷ getOn (date 2027 5 31) ∷ getOn (date 2027 6 1) ∷ []) freshShort
+      ≡ 0 ∷ 15 ∷ 0 ∷ 0 ∷ 15 ∷ []
+  -- 29 February is a day of 2096 and none of 2100; 1999 and 2200 are outside; a first day after the last is no term
+  pub dates : answers (getOn (date 2096 2 29) ∷ getOn (date 2100 2 29) ∷ getOn (date 1999 12 31) ∷ getOn (date 2200 1 1) ∷ putTerm (date 2027 6 1) (date 2027 5 31) [] ∷ []) freshShort
+      ≡ 12 ∷ 14 ∷ 14 ∷ 14 ∷ 14 ∷ []
   -- frames and polls with an empty script
   pub put-frames : outOf (putFresh (0x41 ∷ [])) freshShort .frames ≡ 27
   pub put-polls : outOf (putFresh (0x41 ∷ [])) freshShort .polls ≡ 9
   pub patch-frames : outOf (patch 0 1 0 [] (0x41 ∷ []) [] log) freshShort .frames ≡ 35
-  pub get-frames : outOf (get 0 1 [] [] log lentBuffer) freshShort .frames ≡ 9
+  pub get-frames : outOf (get 0 1 (date 2000 1 1) [] [] log lentBuffer) freshShort .frames ≡ 9
   pub wipe-frames : outOf wipeTwo freshShort .frames ≡ 5
   -- the program's example: its lines, its polls, its answer
   pub wipe-lines : outOf wipeTwo freshShort .lines
@@ -127,10 +148,10 @@ pub record Bench : Type 0 where
   pub longest-256 : storedOn freshShort256 3 (replicate 2045 7) ≡ 0x01 ∷ 0x07 ∷ 0xFD ∷ []
   pub too-long-256 : answers (putFresh (replicate 2046 7) ∷ []) freshShort256 ≡ 5 ∷ []
   -- a get buffer of 2,044 bytes meets 5; one of 2,045 does not, and the fresh slot meets 12
-  pub short-buffer-256 : answers (get 0 1 [] [] log (replicate 2044 0) ∷ []) freshShort256 ≡ 5 ∷ []
-  pub blank-256 : answers (get 0 1 [] [] log (replicate 2045 0) ∷ []) freshShort256 ≡ 12 ∷ []
+  pub short-buffer-256 : answers (get 0 1 (date 2000 1 1) [] [] log (replicate 2044 0) ∷ []) freshShort256 ≡ 5 ∷ []
+  pub blank-256 : answers (get 0 1 (date 2000 1 1) [] [] log (replicate 2045 0) ∷ []) freshShort256 ≡ 12 ∷ []
   -- frames with an empty script: as many, an 84 of 260 bytes, a D2 of 264 at the slot's address, 2,048 times its number
   pub put-frames-256 : outOf (putFresh (0x41 ∷ [])) freshShort256 .frames ≡ 27
   pub load-256 : take 6 (drop 18 (outOf (putFresh (0x41 ∷ [])) freshShort256 .lines)) ≡ 1 ∷ 4 ∷ 0x84 ∷ 0x00 ∷ 0x00 ∷ 0x00 ∷ []
-  pub read-256 : take 6 (drop 6 (outOf (get 2 1 [] [] log (replicate 2045 0)) freshShort256 .lines)) ≡ 1 ∷ 8 ∷ 0xD2 ∷ 0x00 ∷ 0x10 ∷ 0x00 ∷ []
+  pub read-256 : take 6 (drop 6 (outOf (get 2 1 (date 2000 1 1) [] [] log (replicate 2045 0)) freshShort256 .lines)) ≡ 1 ∷ 8 ∷ 0xD2 ∷ 0x00 ∷ 0x10 ∷ 0x00 ∷ []
   pub erase-256 : take 6 (drop 18 (outOf wipeTwo freshShort256 .lines)) ≡ 0 ∷ 4 ∷ 0x50 ∷ 0x00 ∷ 0x10 ∷ 0x00 ∷ []

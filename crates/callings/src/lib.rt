@@ -7,11 +7,12 @@ ghost use Rattle.state.specs.Outcomes.{partIn};
 ghost use Rattle.slots.specs.Lists.{Op, asking};
 ghost use Rattle.blocks.specs.Promises.{heldIn};
 ghost use Rattle.runs.specs.Promises.{Promise};
-ghost use Rattle.runs.specs.Runs.{opOf, Started};
+ghost use Rattle.runs.specs.Runs.{Started, RunBy};
 use geometry::Geometry;
 use geometry::Part;
 use runs::Done;
 use runs::Session;
+use slots::Detail;
 use slots::Driver;
 use slots::Kind;
 use state::Answer;
@@ -23,14 +24,14 @@ pub fn call(
     kind: Kind,
     slot: usize,
     limit: usize,
-    place: usize,
+    detail: Detail,
     payload: &[u8],
     buffer: &mut [u8],
     script: &[u8],
     junk: &[u8],
     log: &mut [u8],
 ) -> Done
-    ensures { λ r. ⌜ Promise (Op.call (asking kind slot limit) place (now (script .entry)) (now (payload .entry)) (now (junk .entry)) (now (log .entry)) (now (buffer .entry))) (now (block .entry)) (now (array .entry)) r (now (block .exit)) (now (array .exit)) (now (log .exit)) (now (buffer .exit)) ⌝ }
+    ensures { λ r. ⌜ Promise (Op.call (asking kind slot limit) detail (now (script .entry)) (now (payload .entry)) (now (junk .entry)) (now (log .entry)) (now (buffer .entry))) (now (block .entry)) (now (array .entry)) r (now (block .exit)) (now (array .exit)) (now (log .exit)) (now (buffer .exit)) ⌝ }
 {
     let o = blocks::operation(block);
     let p = registers::place(array.len(), o);
@@ -42,7 +43,7 @@ pub fn call(
             kind,
             slot,
             limit,
-            place,
+            detail,
             payload,
             buffer,
             script,
@@ -61,7 +62,7 @@ fn call_in(
     kind: Kind,
     slot: usize,
     limit: usize,
-    place: usize,
+    detail: Detail,
     payload: &[u8],
     buffer: &mut [u8],
     script: &[u8],
@@ -69,7 +70,7 @@ fn call_in(
     log: &mut [u8],
 ) -> Done
     requires { ⌜ partIn (heldIn (now block) (now array)) ≡ Part.Known g ⌝ }
-    ensures { λ r. ⌜ Promise (Op.call (asking kind slot limit) place (now (script .entry)) (now (payload .entry)) (now (junk .entry)) (now (log .entry)) (now (buffer .entry))) (now (block .entry)) (now (array .entry)) r (now (block .exit)) (now (array .exit)) (now (log .exit)) (now (buffer .exit)) ⌝ }
+    ensures { λ r. ⌜ Promise (Op.call (asking kind slot limit) detail (now (script .entry)) (now (payload .entry)) (now (junk .entry)) (now (log .entry)) (now (buffer .entry))) (now (block .entry)) (now (array .entry)) r (now (block .exit)) (now (array .exit)) (now (log .exit)) (now (buffer .exit)) ⌝ }
 {
     let a = refusals::call_refusal(
         g,
@@ -77,7 +78,7 @@ fn call_in(
         kind,
         slot,
         limit,
-        place,
+        detail,
         payload.len(),
         buffer.len(),
         log.len(),
@@ -92,7 +93,7 @@ fn call_in(
         kind,
         slot,
         limit,
-        place,
+        detail,
         payload.len(),
         buffer.len(),
     );
@@ -111,8 +112,8 @@ fn run(
     junk: &[u8],
     log: &mut [u8],
 ) -> Done
-    requires { ⌜ (partIn (heldIn (now block) (now array)) ≡ Part.Known g) × (Started g d (now array) (now payload) (now buffer) (now script) (now junk) (now log)) ⌝ }
-    ensures { λ r. ⌜ Promise (opOf d (now (payload .entry)) (now (buffer .entry)) (now (script .entry)) (now (junk .entry)) (now (log .entry))) (now (block .entry)) (now (array .entry)) r (now (block .exit)) (now (array .exit)) (now (log .exit)) (now (buffer .exit)) ⌝ }
+    requires { ⌜ (partIn (heldIn (now block) (now array)) ≡ Part.Known g) × (Started g d (now array) (now script) (now junk) (now log)) ⌝ }
+    ensures { λ r. ⌜ RunBy g d (now (payload .entry)) (now (buffer .entry)) (now (script .entry)) (now (junk .entry)) (now (log .entry)) (now (block .entry)) (now (array .entry)) r (now (block .exit)) (now (array .exit)) (now (log .exit)) (now (buffer .exit)) ⌝ }
 {
     let kind = d.kind;
     let mut staged = blank_slot();

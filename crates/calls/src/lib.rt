@@ -6,22 +6,25 @@ ghost use mathlib.Core.List.{[]};
 ghost use Rattle.state.specs.Answers.{numberOf};
 ghost use Rattle.slots.specs.Lists.{put, patch, get, wipe};
 ghost use Rattle.runs.specs.Promises.{countsOf, Promise};
+use dates::Date;
+use dates::Term;
 use runs::Done;
 use slots::Kind;
 use state::Answer;
 
-// The recipe is stored in the slot.
+// The recipe is stored in the slot with its term.
 pub fn put(
     block: &mut [u8; 765],
     array: &mut [u8],
     slot: usize,
     limit: usize,
+    term: Term,
     recipe: &[u8],
     script: &[u8],
     junk: &[u8],
     log: &mut [u8],
 ) -> Done
-    ensures { λ r. ⌜ Promise (put slot limit (now (script .entry)) (now (recipe .entry)) (now (junk .entry)) (now (log .entry))) (now (block .entry)) (now (array .entry)) r (now (block .exit)) (now (array .exit)) (now (log .exit)) [] ⌝ }
+    ensures { λ r. ⌜ Promise (put slot limit term (now (script .entry)) (now (recipe .entry)) (now (junk .entry)) (now (log .entry))) (now (block .entry)) (now (array .entry)) r (now (block .exit)) (now (array .exit)) (now (log .exit)) [] ⌝ }
 {
     let mut none = [0u8; 1];
     callings::call(
@@ -30,7 +33,7 @@ pub fn put(
         Kind::Put,
         slot,
         limit,
-        0,
+        starts::storing(term),
         recipe,
         &mut none[..0],
         script,
@@ -60,7 +63,7 @@ pub fn patch(
         Kind::Patch,
         slot,
         limit,
-        place,
+        starts::changing(place),
         bytes,
         &mut none[..0],
         script,
@@ -69,18 +72,19 @@ pub fn patch(
     )
 }
 
-// The recipe goes to the lent buffer, and its length to the result.
+// The recipe goes to the lent buffer, and its length to the result, if today is inside its term.
 pub fn get(
     block: &mut [u8; 765],
     array: &mut [u8],
     slot: usize,
     limit: usize,
+    today: Date,
     buffer: &mut [u8],
     script: &[u8],
     junk: &[u8],
     log: &mut [u8],
 ) -> Done
-    ensures { λ r. ⌜ Promise (get slot limit (now (script .entry)) (now (junk .entry)) (now (log .entry)) (now (buffer .entry))) (now (block .entry)) (now (array .entry)) r (now (block .exit)) (now (array .exit)) (now (log .exit)) (now (buffer .exit)) ⌝ }
+    ensures { λ r. ⌜ Promise (get slot limit today (now (script .entry)) (now (junk .entry)) (now (log .entry)) (now (buffer .entry))) (now (block .entry)) (now (array .entry)) r (now (block .exit)) (now (array .exit)) (now (log .exit)) (now (buffer .exit)) ⌝ }
 {
     callings::call(
         block,
@@ -88,7 +92,7 @@ pub fn get(
         Kind::Get,
         slot,
         limit,
-        0,
+        starts::reading(today),
         &junk[..0],
         buffer,
         script,
@@ -116,7 +120,7 @@ pub fn wipe(
         Kind::Wipe,
         slot,
         limit,
-        0,
+        starts::untold(),
         &junk[..0],
         &mut none[..0],
         script,

@@ -4,14 +4,17 @@
 use Prim.Native.Nat.{ℕ, _≤_}
 use native.Mathlib.Omega.{arith}
 use mathlib.Core.Path.{_≡_, refl, sym, ap, subst, _∙_}
-use mathlib.Core.Bool.{true, false, _&&_}
+use mathlib.Core.Bool.{Bool, true, false, _&&_, _||_, or-true}
 use mathlib.Core.List.{List, [], _∷_}
 use mathlib.Core.Logic.{_⊎_, inl, inr}
 use lib.ListN.{length, take}
 use lib.Dec.{eqb, leb}
-use borrow.Author.Tests.{le-leb, leb-true, ne-eqb}
+use borrow.Author.Tests.{le-leb, eq-eqb, ne-eqb}
 use Rattle.slices.specs.Lists.{over}
 use Rattle.slices.proofs.Laws.{over-nil}
+use Rattle.dates.specs.declared.Date.{Date}
+use Rattle.dates.specs.declared.Term.{Term}
+use Rattle.dates.specs.Calendar.{dayOf}
 use Rattle.state.specs.declared.Answer.{Answer}
 use Rattle.state.specs.declared.Answer.the-variants as Answers
 use Rattle.state.specs.Answers.{numberOf}
@@ -21,10 +24,12 @@ use Rattle.blocks.specs.Block.{encodeChip}
 use Rattle.blocks.specs.Promises.{heldIn, storedBy, Met}
 use Rattle.blocks.proofs.Decoded.{whole-decode}
 use Rattle.slots.specs.Calls.{Out}
+use Rattle.slots.specs.Details.{periodOf}
+use Rattle.slots.specs.Records.{isWithin}
 use Rattle.slots.specs.Lists.{Op, call, raw, straight, pin, busyEnd, cut, put, get, outOf, nextOf, runList, leftBy, boundOf, isRefusal, logOf}
 use Rattle.slots.specs.Alike.{Twins, AlikeLists, Soft, Same, AllSame}
-use Rattle.slots.specs.Quiet.{QuietIn, Refuses, Returns}
-use Rattle.slots.proofs.Places.{never, both}
+use Rattle.slots.specs.Quiet.{QuietIn, Refuses, Delivers, Returns}
+use Rattle.slots.proofs.Places.{never}
 use Rattle.slots.proofs.Accepted.{picked}
 use Rattle.slots.proofs.Driven.{other}
 use Rattle.slots.proofs.Bound.{within-bound}
@@ -34,7 +39,7 @@ use Rattle.slots.proofs.ReadBack.{read-back}
 use Rattle.driver_blocks.specs.Block.{answerAt}
 use Rattle.driver_blocks.proofs.RoundTrip.{answer-back}
 use Rattle.runs.specs.Promises.{keptIn}
-use Rattle.chains.specs.Chains.{Seen, Does, Chain, lastIn, framesIn, pollsIn, SoftNumber, SameSeen, AllSeen, ReturnsIn, Refused}
+use Rattle.chains.specs.Chains.{Seen, Does, Chain, lastIn, framesIn, pollsIn, SoftNumber, SameSeen, AllSeen, DeliversIn, ReturnsIn, RefusalNumber, Refused}
 use Rattle.chains.proofs.Seen.{Shows, shows}
 
 -- ---- demand 3
@@ -43,7 +48,8 @@ pub soft-number : (a : Answer) (n : ℕ) → n ≡ numberOf a → Soft a → Sof
 unfolding numberOf
 soft-number a n e (inl (inl h)) = inl (inl (e ∙ ap numberOf h))
 soft-number a n e (inl (inr h)) = inl (inr (e ∙ ap numberOf h))
-soft-number a n e (inr h) = inr (e ∙ ap numberOf h)
+soft-number a n e (inr (inl h)) = inr (inl (e ∙ ap numberOf h))
+soft-number a n e (inr (inr h)) = inr (inr (e ∙ ap numberOf h))
 
 same-seen : {x y : Out} {s t : State} {l k : List ℕ} {z w : Seen} → Shows x s l z → Shows y t k w → Same x y → SameSeen z w
 same-seen {x} {y} {s} {t} {l} {k} {z} {w} a b e =
@@ -99,58 +105,66 @@ zero-done : (a : Answer) → numberOf a ≡ 0 → a ≡ Answers.Done
 unfolding answerAt
 zero-done a e = sym (answer-back a) ∙ ap answerAt e
 
-refuses-number : {a : Answer} (n : ℕ) → n ≡ numberOf a → Refuses a → ((1 ≤ n) × (n ≤ 9)) ⊎ (n ≡ 11)
+refuses-number : {a : Answer} (n : ℕ) → n ≡ numberOf a → Refuses a → (((1 ≤ n) × (n ≤ 9)) ⊎ (n ≡ 14)) ⊎ (n ≡ 11)
 unfolding numberOf
-refuses-number n e Refuses.part = inl (omega (arith, e), omega (arith, e))
-refuses-number n e Refuses.frame = inl (omega (arith, e), omega (arith, e))
-refuses-number n e Refuses.slot = inl (omega (arith, e), omega (arith, e))
-refuses-number n e Refuses.limit = inl (omega (arith, e), omega (arith, e))
-refuses-number n e Refuses.size = inl (omega (arith, e), omega (arith, e))
-refuses-number n e Refuses.log = inl (omega (arith, e), omega (arith, e))
-refuses-number n e Refuses.script = inl (omega (arith, e), omega (arith, e))
-refuses-number n e Refuses.device = inl (omega (arith, e), omega (arith, e))
-refuses-number n e Refuses.busy = inl (omega (arith, e), omega (arith, e))
+refuses-number n e Refuses.part = inl (inl (omega (arith, e), omega (arith, e)))
+refuses-number n e Refuses.frame = inl (inl (omega (arith, e), omega (arith, e)))
+refuses-number n e Refuses.slot = inl (inl (omega (arith, e), omega (arith, e)))
+refuses-number n e Refuses.limit = inl (inl (omega (arith, e), omega (arith, e)))
+refuses-number n e Refuses.size = inl (inl (omega (arith, e), omega (arith, e)))
+refuses-number n e Refuses.log = inl (inl (omega (arith, e), omega (arith, e)))
+refuses-number n e Refuses.script = inl (inl (omega (arith, e), omega (arith, e)))
+refuses-number n e Refuses.device = inl (inl (omega (arith, e), omega (arith, e)))
+refuses-number n e Refuses.busy = inl (inl (omega (arith, e), omega (arith, e)))
 refuses-number n e Refuses.lost = inr e
+refuses-number n e Refuses.dates = inl (inr e)
 
-returns-in : (recipe : List ℕ) {o : Out} {t : State} {log : List ℕ} (z : Seen) → Shows o t log z → Returns recipe o → ReturnsIn recipe z
+delivers-in : (b : Bool) (recipe buffer : List ℕ) {o : Out} {t : State} {log : List ℕ} (z : Seen) → Shows o t log z → Delivers b recipe buffer o
+    → DeliversIn b recipe buffer z
 unfolding numberOf
-returns-in recipe z a (inl h) = inl (refuses-number (z .number) (a .number) h)
-returns-in recipe z a (inr h) =
-    inr (a .number ∙ ap numberOf (h .0), a .count ∙ h .1, (λ i. take (a .count i) (a .lent i)) ∙ h .2)
+delivers-in true recipe buffer z a h = (a .number ∙ ap numberOf (h .0), a .count ∙ h .1, (λ i. take (a .count i) (a .lent i)) ∙ h .2)
+delivers-in false recipe buffer z a h = (a .number ∙ ap numberOf (h .0), a .count ∙ h .1, a .lent ∙ h .2)
 
--- READ BACK: a put that answered 0, then any list of calls and events none of whose frames programs or erases in its slot, then a get of it
-pub read-back-called : (slot limit : ℕ) (script recipe junk log held xs : List ℕ) (z : Seen) → length held ≡ 765
-    → Does (put slot limit script recipe junk log) held xs z → z .number ≡ 0
+returns-in : (term : Term) (today : Date) (recipe buffer : List ℕ) {o : Out} {t : State} {log : List ℕ} (z : Seen) → Shows o t log z
+    → Returns (periodOf term) (dayOf today) recipe buffer o → ReturnsIn term today recipe buffer z
+returns-in term today recipe buffer z a (inl h) = inl (refuses-number (z .number) (a .number) h)
+returns-in term today recipe buffer z a (inr h) = inr (delivers-in (isWithin (periodOf term) (dayOf today)) recipe buffer z a h)
+
+-- READ BACK: a put, with a term or without, that answered 0, then any list of calls and events none of whose frames programs or erases in its slot, then a
+-- get of it on any day
+pub read-back-called : (slot limit : ℕ) (term : Term) (script recipe junk log held xs : List ℕ) (z : Seen) → length held ≡ 765
+    → Does (put slot limit term script recipe junk log) held xs z → z .number ≡ 0
     → (os : List Op) (zs : List Seen) → Chain (z .block) (z .array) os zs → QuietIn slot os (heldIn (z .block) (z .array))
-    → (limit' : ℕ) (script' junk' log' buffer : List ℕ) (y : Seen)
-    → Does (get slot limit' script' junk' log' buffer) (lastIn z zs .block) (lastIn z zs .array) y → ReturnsIn recipe y
-read-back-called slot limit script recipe junk log held xs z l w n os zs c q limit' script' junk' log' buffer y d =
+    → (limit' : ℕ) (today : Date) (script' junk' log' buffer : List ℕ) (y : Seen)
+    → Does (get slot limit' today script' junk' log' buffer) (lastIn z zs .block) (lastIn z zs .array) y → ReturnsIn term today recipe buffer y
+read-back-called slot limit term script recipe junk log held xs z l w n os zs c q limit' today script' junk' log' buffer y d =
     let s = heldIn held xs in
-    let p = put slot limit script recipe junk log in
-    let o = get slot limit' script' junk' log' buffer in
+    let p = put slot limit term script recipe junk log in
+    let o = get slot limit' today script' junk' log' buffer in
     let a = shows p held xs z w in
     let e : outOf p s .answer ≡ Answers.Done = zero-done (outOf p s .answer) (sym (a .number) ∙ n) in
     let t : heldIn (lastIn z zs .block) (lastIn z zs .array) ≡ leftBy os (nextOf p s) = left-held os z zs c ∙ ap (leftBy os) (a .holds) in
-    returns-in recipe y (shows o (lastIn z zs .block) (lastIn z zs .array) y d)
-    (subst (λ (u : State). Returns recipe (outOf o u)) (sym t)
-    (read-back slot limit script recipe junk log s (whole-decode held l) e os (subst (QuietIn slot os) (a .holds) q) limit' script' junk' log' buffer))
+    returns-in term today recipe buffer y (shows o (lastIn z zs .block) (lastIn z zs .array) y d)
+    (subst (λ (u : State). Returns (periodOf term) (dayOf today) recipe buffer (outOf o u)) (sym t)
+    (read-back slot limit term script recipe junk log s (whole-decode held l) e os (subst (QuietIn slot os) (a .holds) q) limit' today script' junk' log' buffer))
 
 -- ---- demand 1
 
 -- every answer is a number of the table, and no call sends more frames than its bound
-pub in-table-called : (o : Op) (held xs : List ℕ) (z : Seen) → Does o held xs z → (z .number ≤ 13) × (framesIn z ≤ boundOf o) × (pollsIn z ≤ framesIn z)
+pub in-table-called : (o : Op) (held xs : List ℕ) (z : Seen) → Does o held xs z → (z .number ≤ 15) × (framesIn z ≤ boundOf o) × (pollsIn z ≤ framesIn z)
 in-table-called o held xs z d =
     let a = shows o held xs z d in
     let w = within-bound o (heldIn held xs) in
-    (subst (λ (n : ℕ). n ≤ 13) (sym (a .number)) (in-table (outOf o (heldIn held xs) .answer)), omega (arith, a .frames, w .frames), omega (arith, a .frames, a .polls, w .polls))
+    (subst (λ (n : ℕ). n ≤ 15) (sym (a .number)) (in-table (outOf o (heldIn held xs) .answer)), omega (arith, a .frames, w .frames), omega (arith, a .frames, a .polls, w .polls))
 
-refusal-is : (a : Answer) (n : ℕ) → n ≡ numberOf a → 1 ≤ n → n ≤ 7 → isRefusal a ≡ true
-refusal-is a n e h l = λ i. le-leb 1 (numberOf a) (omega arith) i && le-leb (numberOf a) 7 (omega arith) i
+refusal-is : (a : Answer) (n : ℕ) → n ≡ numberOf a → RefusalNumber n → isRefusal a ≡ true
+refusal-is a n e (inl h) = λ i. (le-leb 1 (numberOf a) (omega (arith, h .0)) i && le-leb (numberOf a) 7 (omega (arith, h .1)) i) || eqb (numberOf a) 14
+refusal-is a n e (inr h) =
+    ap (λ (b : Bool). (leb 1 (numberOf a) && leb (numberOf a) 7) || b) (eq-eqb (numberOf a) 14 (sym e ∙ h)) ∙ or-true (leb 1 (numberOf a) && leb (numberOf a) 7)
 
 some-refusal : (a : Answer) → isRefusal a ≡ true → eqb (numberOf a) 0 ≡ false
-some-refusal a e =
-    let l = leb-true 1 (numberOf a) (both (leb 1 (numberOf a)) (leb (numberOf a) 7) e) in
-    ne-eqb (numberOf a) 0 (λ z. omega arith)
+unfolding numberOf
+some-refusal a e = ne-eqb (numberOf a) 0 (λ z. never (ap isRefusal (sym (zero-done a z)) ∙ e))
 
 kept-met : {held : List ℕ} {o : Left} {r : ℕ} {kept xs ys : List ℕ} → Met held o r kept xs ys → isRefusal (o .answer) ≡ true → kept ≡ held
 unfolding storedBy
@@ -159,19 +173,19 @@ kept-met {held} {o} w e = w .block ∙ other (eqb (numberOf (o .answer)) 0) (enc
 -- the block of a call or event that is refused
 kept-called : (o : Op) (held xs : List ℕ) (z : Seen) → Does o held xs z → isRefusal (outOf o (heldIn held xs) .answer) ≡ true → z .block ≡ held
 unfolding outOf keptIn pinOutcome numberOf
-kept-called (call a place script payload junk log lent) held xs z d r = d .block ∙ picked (isRefusal (outOf (call a place script payload junk log lent) (heldIn held xs) .answer)) held _ r
+kept-called (call a detail script payload junk log lent) held xs z d r = d .block ∙ picked (isRefusal (outOf (call a detail script payload junk log lent) (heldIn held xs) .answer)) held _ r
 kept-called (raw frame script junk log reply) held xs z d r = d .block ∙ picked (isRefusal (outOf (raw frame script junk log reply) (heldIn held xs) .answer)) held _ r
 kept-called (straight frame reply) held xs z d r = kept-met (d .0) r
 kept-called (pin high) held xs z d r = never r
 kept-called busyEnd held xs z d r = kept-met (d .0) r
 kept-called (cut junk) held xs z d r = kept-met (d .0) r
 
--- REFUSALS: a C function that answers 1 to 7 leaves block, array, log and what was lent as they were, and counts 0
-pub refusals-called : (o : Op) (held xs : List ℕ) (z : Seen) → Does o held xs z → 1 ≤ z .number → z .number ≤ 7 → Refused o held xs z
-refusals-called o held xs z d h l =
+-- REFUSALS: a C function that answers 1 to 7 or 14 leaves block, array, log and what was lent as they were, and counts 0
+pub refusals-called : (o : Op) (held xs : List ℕ) (z : Seen) → Does o held xs z → RefusalNumber (z .number) → Refused o held xs z
+refusals-called o held xs z d h =
     let s = heldIn held xs in
     let a = shows o held xs z d in
-    let r = refusal-is (outOf o s .answer) (z .number) (a .number) h l in
+    let r = refusal-is (outOf o s .answer) (z .number) (a .number) h in
     let u = refusals o s r in
     record {
       block = kept-called o held xs z d r;

@@ -4,7 +4,7 @@
 use Prim.Native.Nat.{ℕ, zero, suc, _+_, _^_, _≤_, _<_}
 use native.Mathlib.Omega.{arith}
 use mathlib.Core.Path.{_≡_, refl, sym, ap, subst, _∙_}
-use mathlib.Core.Bool.{Bool, true, false, cond, _||_}
+use mathlib.Core.Bool.{Bool, true, false, cond}
 use mathlib.Core.List.{List, [], _++_}
 use mathlib.Core.Logic.{_⊎_, inl, inr}
 use lib.ListN.{length, getD}
@@ -17,13 +17,14 @@ use Rattle.geometry.specs.declared.Part.the-variants.{Known, Unknown}
 use Rattle.geometry.specs.Parts.{partOf}
 use Rattle.state.specs.declared.Answer.{Answer}
 use Rattle.state.specs.Answers.{numberOf}
+use Rattle.slots.specs.declared.Detail.{Detail}
 use Rattle.slots.specs.declared.Driver.{Driver}
 use Rattle.slots.specs.declared.Stage.{Stage}
 use Rattle.slots.specs.declared.Stage.the-variants.{Going, Ended}
 use Rattle.slots.specs.declared.Told.the-variants.{Answered}
 use Rattle.slots.specs.declared.Verdict.{Verdict}
 use Rattle.slots.specs.Plans.{Asked, stated}
-use Rattle.slots.specs.Refusals.{isOver, isShort}
+use Rattle.slots.specs.Refusals.{flawsIn}
 use Rattle.slots.specs.Driver.{shapeOf, frameByte, loaded, isEnded, weighed, toldBy}
 use Rattle.slots.specs.Calls.{outline}
 use Rattle.slots.specs.Alike.{Soft}
@@ -165,31 +166,31 @@ same-held {h} {k} {y} {z} r t s =
     }
 
 -- the block that a start leaves
-start-reads : (array : ℕ) (a : Asked) (place payload lent : ℕ) (staged : List ℕ) → Fits (startDriver array a place payload lent)
-    → Reads (begun (encodeDriver (startDriver array a place payload lent)) staged) (W.begun (startDriver array a place payload lent) staged)
-start-reads array a place payload lent staged f =
-    record { block = decode-encode (startDriver array a place payload lent) f; staged = refl; lines = refl; frames = refl; polls = refl }
+start-reads : (array : ℕ) (a : Asked) (t : Detail) (payload lent : ℕ) (staged : List ℕ) → Fits (startDriver array a t payload lent)
+    → Reads (begun (encodeDriver (startDriver array a t payload lent)) staged) (W.begun (startDriver array a t payload lent) staged)
+start-reads array a t payload lent staged f =
+    record { block = decode-encode (startDriver array a t payload lent) f; staged = refl; lines = refl; frames = refl; polls = refl }
 
--- ANY WORLD, over the driver's C functions: one call on one part, with any two recipes, patches or places of which 5 is alike, and any two sequences of
--- replies that agree in what is heard
-pub any-world-blocks : (n : ℕ) (g : Geometry) (array : ℕ) (a : Asked) (place there lent room : ℕ) (payload other staged bytes : List ℕ)
-    (replies others : ℕ → List ℕ) → partOf array ≡ Known g → array < 2 ^ 64 → a .slot < 2 ^ 64 → a .limit < 2 ^ 64 → place < 2 ^ 64 → there < 2 ^ 64
-    → (isOver (a .kind) g place (length payload) || isShort (a .kind) g lent) ≡ (isOver (a .kind) g there (length other) || isShort (a .kind) g room)
-    → Agree n g payload replies others (begun (encodeDriver (startDriver array a place (length payload) lent)) staged)
-    → Same (chain n payload replies (begun (encodeDriver (startDriver array a place (length payload) lent)) staged))
+-- ANY WORLD, over the driver's C functions: one call on one part, with any two recipes, patches, places, terms or dates of which 5 and 14 are alike, and any
+-- two sequences of replies that agree in what is heard
+pub any-world-blocks : (n : ℕ) (g : Geometry) (array : ℕ) (a : Asked) (t there : Detail) (lent room : ℕ) (payload other staged bytes : List ℕ)
+    (replies others : ℕ → List ℕ) → partOf array ≡ Known g → array < 2 ^ 64 → a .slot < 2 ^ 64 → a .limit < 2 ^ 64 → t .place < 2 ^ 64 → there .place < 2 ^ 64
+    → flawsIn (a .kind) g t (length payload) lent ≡ flawsIn (a .kind) g there (length other) room
+    → Agree n g payload replies others (begun (encodeDriver (startDriver array a t (length payload) lent)) staged)
+    → Same (chain n payload replies (begun (encodeDriver (startDriver array a t (length payload) lent)) staged))
     (chain n other others (begun (encodeDriver (startDriver array a there (length other) room)) bytes))
-any-world-blocks n g array a place there lent room payload other staged bytes replies others p na ns nl np nt five h =
-    let d = startDriver array a place (length payload) lent in
+any-world-blocks n g array a t there lent room payload other staged bytes replies others p na ns nl np nt alike h =
+    let d = startDriver array a t (length payload) lent in
     let e = startDriver array a there (length other) room in
-    let fd = fits-start array a place (length payload) lent na ns nl np in
+    let fd = fits-start array a t (length payload) lent na ns nl np in
     let fe = fits-start array a there (length other) room na ns nl nt in
-    let rd = start-reads array a place (length payload) lent staged fd in
+    let rd = start-reads array a t (length payload) lent staged fd in
     let re = start-reads array a there (length other) room bytes fe in
     same-held (chain-reads payload replies n (begun (encodeDriver d) staged) (W.begun d staged) rd fd) (chain-reads other others n (begun (encodeDriver e) bytes) (W.begun e bytes) re fe)
-    (any-world-called n g array a place there lent room payload other staged bytes replies others p five
+    (any-world-called n g array a t there lent room payload other staged bytes replies others p alike
     (agree-in n g payload replies others (begun (encodeDriver d) staged) (W.begun d staged) rd fd h))
 
--- EVERY BLOCK ENDS: any 48 bytes are a state that comes to an end within the bound of its call, whatever comes back
+-- EVERY BLOCK ENDS: any 72 bytes are a state that comes to an end within the bound of its call, whatever comes back
 pub any-block-ends : (block payload staged : List ℕ) (replies : ℕ → List ℕ) → ((k : ℕ) → k < length block → getD block k 0 < 256)
     → sends payload (chain (stated (decodeDriver block .kind) (decodeDriver block .limit)) payload replies (begun block staged)) ≡ []
 any-block-ends block payload staged replies bytes =

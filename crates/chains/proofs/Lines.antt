@@ -16,6 +16,7 @@ use Rattle.state.specs.Answers.{numberOf}
 use Rattle.state.specs.Memory.{State}
 use Rattle.state.specs.Outcomes.{partIn}
 use Rattle.blocks.specs.Promises.{heldIn}
+use Rattle.slots.specs.declared.Detail.{Detail}
 use Rattle.slots.specs.Plans.{Asked, stated, bound}
 use Rattle.slots.specs.Driver.{isEnded}
 use Rattle.slots.specs.Refusals.{rawRefusal}
@@ -59,24 +60,24 @@ pub record Fits (log : ℕ) (o : Out) : Type 0 where
 none-fits : (log : ℕ) (o : Out) → o .lines ≡ [] → o .frames ≡ 0 → Fits log o
 none-fits log o e f = record { six = ap length e ∙ omega (arith, f); room = omega (arith, f) }
 
-call-fits : (g : Geometry) (a : Asked) (place : ℕ) (script payload junk log lent : List ℕ) (s : State) → partIn s ≡ Known g
-    → Fits (length log) (callOut g (asks g a place script payload junk log lent) (secret payload place junk lent) s)
+call-fits : (g : Geometry) (a : Asked) (detail : Detail) (script payload junk log lent : List ℕ) (s : State) → partIn s ≡ Known g
+    → Fits (length log) (callOut g (asks g a detail script payload junk log lent) (secret payload detail junk lent) s)
 unfolding callOut outFrom outOf callBy boundOf
-call-fits g a place script payload junk log lent s p = go (eqb (numberOf (refusalOf g n v)) 0) refl
+call-fits g a detail script payload junk log lent s p = go (eqb (numberOf (refusalOf g n v)) 0) refl
   where
     n : ℕ
     n = length (s .memory .array)
 
     v : Request
-    v = asks g a place script payload junk log lent
+    v = asks g a detail script payload junk log lent
 
     x : Secret
-    x = secret payload place junk lent
+    x = secret payload detail junk lent
 
     few : callOut g v x s .frames ≤ stated (a .kind) (a .limit)
     few =
-        subst (λ (q : Part). callBy q a place script payload junk log lent s .frames ≤ stated (a .kind) (a .limit)) p
-        (within-bound (call a place script payload junk log lent) s .frames)
+        subst (λ (q : Part). callBy q a detail script payload junk log lent s .frames ≤ stated (a .kind) (a .limit)) p
+        (within-bound (call a detail script payload junk log lent) s .frames)
 
     go : (b : Bool) → eqb (numberOf (refusalOf g n v)) 0 ≡ b → Fits (length log) (callOut g v x s)
     go true e =
@@ -105,10 +106,10 @@ raw-fits g f script junk log reply held xs p = go (eqb (numberOf refusal) 0) ref
 
 pub lines-fit : (o : Op) (held xs : List ℕ) → Fits (length (logOf o)) (outOf o (heldIn held xs))
 unfolding outOf callBy rawBy logOf
-lines-fit (call a place script payload junk log lent) held xs = go (partIn (heldIn held xs)) refl
+lines-fit (call a detail script payload junk log lent) held xs = go (partIn (heldIn held xs)) refl
   where
-    go : (p : Part) → partIn (heldIn held xs) ≡ p → Fits (length log) (callBy p a place script payload junk log lent (heldIn held xs))
-    go (Known g) p = call-fits g a place script payload junk log lent (heldIn held xs) p
+    go : (p : Part) → partIn (heldIn held xs) ≡ p → Fits (length log) (callBy p a detail script payload junk log lent (heldIn held xs))
+    go (Known g) p = call-fits g a detail script payload junk log lent (heldIn held xs) p
     go Unknown p = none-fits (length log) _ refl refl
 lines-fit (raw f script junk log reply) held xs = go (partIn (heldIn held xs)) refl
   where

@@ -68,7 +68,7 @@ event-shows o z e f b l =
 
 pub shows : (o : Op) (held xs : List ℕ) (z : Seen) → Does o held xs z → Shows (outOf o (heldIn held xs)) (nextOf o (heldIn held xs)) (logOf o) z
 unfolding outOf nextOf pinOutcome numberOf logOf
-shows (call a place script payload junk log lent) held xs z w = called-shows (call a place script payload junk log lent) held xs z w
+shows (call a detail script payload junk log lent) held xs z w = called-shows (call a detail script payload junk log lent) held xs z w
 shows (raw frame script junk log reply) held xs z w = called-shows (raw frame script junk log reply) held xs z w
 shows (straight frame reply) held xs z w = event-shows (sendOutcome (heldIn held xs) frame reply) z (w .0 .answer) (w .0 .holds) (w .1) (w .0 .reply)
 shows (pin high) held xs z w =

@@ -3,11 +3,17 @@
 -- Assumes nothing.
 use Prim.Native.Nat.{ℕ, _*_, _≤_}
 use mathlib.Core.Path.{_≡_}
+use mathlib.Core.Bool.{Bool, true, false}
 use mathlib.Core.List.{List, [], _∷_}
 use mathlib.Core.Logic.{_⊎_}
 use lib.ListN.{length, getD, take}
+use Rattle.dates.specs.declared.Date.{Date}
+use Rattle.dates.specs.declared.Term.{Term}
+use Rattle.dates.specs.Calendar.{dayOf}
 use Rattle.state.specs.Outcomes.{sendOutcome, endOutcome, cutOutcome}
 use Rattle.blocks.specs.Promises.{heldIn, Met, MetPin}
+use Rattle.slots.specs.Details.{periodOf}
+use Rattle.slots.specs.Records.{isWithin}
 use Rattle.slots.specs.Lists.{Op, call, raw, straight, pin, busyEnd, cut, lentTo, logOf}
 use Rattle.runs.specs.Promises.{Called}
 
@@ -25,10 +31,11 @@ pub record Seen : Type 0 where
 abbrev pub Bare : Seen → Type 0
 Bare z = (z .log ≡ []) × (z .counts ≡ [])
 
--- (14.4) the promise of the function that is called: slipknoll_put, _patch, _get, _wipe, _raw, _send, _move_pin, _end_busy, _cut
+-- (14.4) the promise of the function that is called: slipknoll_put (a put without a term), _put_term (one between its two dates), _patch, _get (on its date),
+-- _wipe, _raw, _send, _move_pin, _end_busy, _cut
 abbrev pub Does : Op → (held xs : List ℕ) → Seen → Type 0
-Does (call a place script payload junk log lent) held xs z =
-    Called (call a place script payload junk log lent) held xs (z .number) (z .block) (z .array) (z .log) (z .counts) (z .lent)
+Does (call a detail script payload junk log lent) held xs z =
+    Called (call a detail script payload junk log lent) held xs (z .number) (z .block) (z .array) (z .log) (z .counts) (z .lent)
 Does (raw frame script junk log reply) held xs z =
     Called (raw frame script junk log reply) held xs (z .number) (z .block) (z .array) (z .log) (z .counts) (z .lent)
 Does (straight frame reply) held xs z = Met held (sendOutcome (heldIn held xs) frame reply) (z .number) (z .block) (z .array) (z .lent) × Bare z
@@ -66,9 +73,9 @@ writtenIn z = take (6 * framesIn z) (z .log)
 
 -- ---- demand 3: what is the same of two
 
--- (14.24) 0, 12, 13
+-- (14.24) 0, 12, 13, 15
 abbrev pub SoftNumber : ℕ → Type 0
-SoftNumber n = ((n ≡ 0) ⊎ (n ≡ 12)) ⊎ (n ≡ 13)
+SoftNumber n = ((n ≡ 0) ⊎ (n ≡ 12)) ⊎ ((n ≡ 13) ⊎ (n ≡ 15))
 
 -- (14.24) what is compared of two calls
 pub record SameSeen (y z : Seen) : Type 0 where
@@ -86,13 +93,22 @@ AllSeen (y ∷ ys) (z ∷ zs) = SameSeen y z × AllSeen ys zs
 
 -- ---- demand 2: what a get returns
 
--- (14.10) refused (1 to 9), cut (11), or 0 with exactly the recipe
-abbrev pub ReturnsIn : List ℕ → Seen → Type 0
-ReturnsIn recipe z =
-    (((1 ≤ z .number) × (z .number ≤ 9)) ⊎ (z .number ≡ 11))
-    ⊎ ((z .number ≡ 0) × (countIn z ≡ length recipe) × (take (countIn z) (z .lent) ≡ recipe))
+-- (14.10) on a day inside the term 0 with exactly the recipe, outside it 15, n 0 and the buffer as it was
+abbrev pub DeliversIn : Bool → (recipe buffer : List ℕ) → Seen → Type 0
+DeliversIn true recipe buffer z = (z .number ≡ 0) × (countIn z ≡ length recipe) × (take (countIn z) (z .lent) ≡ recipe)
+DeliversIn false recipe buffer z = (z .number ≡ 15) × (countIn z ≡ 0) × (z .lent ≡ buffer)
+
+-- (14.10) refused (1 to 9, 14), cut (11), or the one or the other by the term and today's date
+abbrev pub ReturnsIn : Term → Date → (recipe buffer : List ℕ) → Seen → Type 0
+ReturnsIn term today recipe buffer z =
+    ((((1 ≤ z .number) × (z .number ≤ 9)) ⊎ (z .number ≡ 14)) ⊎ (z .number ≡ 11))
+    ⊎ DeliversIn (isWithin (periodOf term) (dayOf today)) recipe buffer z
 
 -- ---- demand 1: as a refusal leaves it
+
+-- (14.4) 1 to 7, 14
+abbrev pub RefusalNumber : ℕ → Type 0
+RefusalNumber n = ((1 ≤ n) × (n ≤ 7)) ⊎ (n ≡ 14)
 
 -- (14.4) block, array, log and what was lent as they were; no frame, no poll, n 0
 pub record Refused (o : Op) (held xs : List ℕ) (z : Seen) : Type 0 where

@@ -1,4 +1,4 @@
--- The driver's C functions on a block of 48 bytes, one after another: a start, then a frame and a reply in turn, to the end.
+-- The driver's C functions on a block of 72 bytes, one after another: a start, then a frame and a reply in turn, to the end.
 -- Assumes nothing.
 use Prim.Native.Nat.{ℕ, zero, suc, _+_}
 use mathlib.Core.Path.{_≡_}
@@ -58,7 +58,7 @@ Agree (suc n) g payload replies others z =
     (eqb (length (sends payload z)) 0 ≡ false → heardIn g (decodeDriver (z .block)) (replies (z .frames)) ≡ heardIn g (decodeDriver (z .block)) (others (z .frames)))
     × Agree n g payload replies others (linked payload replies z)
 
--- (14.28) what is the same of both: the frames' outlines, their number, the polls, and what is told (0, 12 and 13 as one)
+-- (14.28) what is the same of both: the frames' outlines, their number, the polls, and what is told (0, 12, 13 and 15 as one)
 pub record Same (y z : Held) : Type 0 where
   pub lines : y .lines ≡ z .lines
   pub frames : y .frames ≡ z .frames

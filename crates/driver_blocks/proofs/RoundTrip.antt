@@ -1,6 +1,7 @@
 -- What is stored is read back: each byte and each word of the block lies where its offset says, a place below 256 is its byte, and a
 -- number below 2 ^ 64 is the number that its eight bytes make.
 -- Assumes nothing.
+use Prim.Native.Nat.{ℕ}
 use mathlib.Core.Path.{_≡_, refl, ap, _∙_}
 use mathlib.Core.Bool.{Bool, true, false, _&&_}
 use native.Mathlib.Nat.{mod-eq-of-lt}
@@ -13,13 +14,15 @@ use Rattle.state.specs.declared.Answer.the-variants as Answers
 use Rattle.state.specs.Answers.{numberOf}
 use Rattle.slots.specs.declared.Kind.{Kind}
 use Rattle.slots.specs.declared.Kind.the-variants.{Put, Patch, Get, Wipe}
+use Rattle.slots.specs.declared.Period.{Period}
+use Rattle.slots.specs.declared.Period.the-variants.{Always, Days}
 use Rattle.slots.specs.declared.Stage.{Stage}
 use Rattle.slots.specs.declared.Stage.the-variants.{Going, Ended}
 use Rattle.slots.specs.declared.Verdict.{Verdict}
-use Rattle.slots.specs.declared.Verdict.the-variants.{Good, Blank, Beyond}
+use Rattle.slots.specs.declared.Verdict.the-variants.{Good, Blank, Beyond, Outside}
 use Rattle.slots.specs.declared.Driver.{Driver}
 use Rattle.slots.proofs.Refused.{in-table}
-use Rattle.driver_blocks.specs.Block.{kindOf, verdictOf, answerAt, isKind, isOurs, stageOf, flag, kindNumber, verdictNumber, stageNumber, endNumber, flagByte, decodeCourse, decodeDriver, headBytes, encodeDriver, Fits}
+use Rattle.driver_blocks.specs.Block.{kindOf, verdictOf, answerAt, isKind, isOurs, stageOf, flag, periodAt, kindNumber, verdictNumber, stageNumber, endNumber, flagByte, datedNumber, firstOf, lastOf, decodeCourse, decodeAim, decodeDriver, headBytes, dayWords, encodeDriver, Fits}
 
 -- ---- bytes
 kind-back : (k : Kind) → kindOf (kindNumber k) ≡ k
@@ -34,6 +37,7 @@ unfolding verdictOf verdictNumber
 verdict-back Good = refl
 verdict-back Blank = refl
 verdict-back Beyond = refl
+verdict-back Outside = refl
 
 pub answer-back : (a : Answer) → answerAt (numberOf a) ≡ a
 unfolding answerAt numberOf
@@ -51,27 +55,33 @@ answer-back Answers.Sealed = refl
 answer-back Answers.Cut = refl
 answer-back Answers.Blank = refl
 answer-back Answers.End = refl
+answer-back Answers.Dates = refl
+answer-back Answers.Term = refl
 
 -- what is written is ours
-stage-ours : (st : Stage) → (leb (stageNumber st) 1 && leb (endNumber st) 13) ≡ true
+stage-ours : (st : Stage) → (leb (stageNumber st) 1 && leb (endNumber st) 15) ≡ true
 unfolding stageNumber endNumber
 stage-ours Going = refl
-stage-ours (Ended a) = le-leb (numberOf a) 13 (in-table a)
+stage-ours (Ended a) = le-leb (numberOf a) 15 (in-table a)
 
-head-ours : (k : Kind) (v : Verdict) → (isKind (kindNumber k) && leb (verdictNumber v) 2) ≡ true
+head-ours : (k : Kind) (v : Verdict) → (isKind (kindNumber k) && leb (verdictNumber v) 3) ≡ true
 unfolding isKind kindNumber verdictNumber
 head-ours Put Good = refl
 head-ours Put Blank = refl
 head-ours Put Beyond = refl
+head-ours Put Outside = refl
 head-ours Patch Good = refl
 head-ours Patch Blank = refl
 head-ours Patch Beyond = refl
+head-ours Patch Outside = refl
 head-ours Get Good = refl
 head-ours Get Blank = refl
 head-ours Get Beyond = refl
+head-ours Get Outside = refl
 head-ours Wipe Good = refl
 head-ours Wipe Blank = refl
 head-ours Wipe Beyond = refl
+head-ours Wipe Outside = refl
 
 stage-back : (st : Stage) → stageOf true (stageNumber st) (endNumber st) ≡ st
 unfolding stageOf stageNumber endNumber
@@ -82,20 +92,33 @@ flag-back : (b : Bool) → flag (flagByte b) ≡ b
 flag-back true = refl
 flag-back false = refl
 
+-- the term, whatever numbers are read for days that are none
+period-back : (p : Period) (first last : ℕ) → first ≡ firstOf p → last ≡ lastOf p → periodAt (datedNumber p) first last ≡ p
+unfolding periodAt datedNumber firstOf lastOf
+period-back Always first last e f = refl
+period-back (Days m n) first last e f = λ i. Days (e i) (f i)
+
 -- ---- the state
 ours : (d : Driver) → isOurs (encodeDriver d) ≡ true
 unfolding isOurs encodeDriver headBytes
 ours d = λ i. head-ours (d .kind) (d .verdict) i && stage-ours (d .course .stage) i
 
 pub decode-encode : (d : Driver) → Fits d → decodeDriver (encodeDriver d) ≡ d
-unfolding decodeDriver decodeCourse encodeDriver headBytes wordAt wordBytes
+unfolding decodeDriver decodeCourse decodeAim encodeDriver headBytes dayWords wordAt wordBytes
 decode-encode d h = λ i.
     record {
       array = wordAt-wordBytes (d .array) (h .array) i;
       kind = kind-back (d .kind) i;
       slot = wordAt-wordBytes (d .slot) (h .slot) i;
       limit = wordAt-wordBytes (d .limit) (h .limit) i;
-      place = wordAt-wordBytes (d .place) (h .place) i;
+      aim =
+          record {
+            place = wordAt-wordBytes (d .aim .place) (h .place) i;
+            period =
+                period-back (d .aim .period) _ _ (wordAt-wordBytes (firstOf (d .aim .period)) (h .first))
+                (wordAt-wordBytes (lastOf (d .aim .period)) (h .last)) i;
+            today = wordAt-wordBytes (d .aim .today) (h .today) i;
+          };
       verdict = verdict-back (d .verdict) i;
       course =
           record {

@@ -1,13 +1,15 @@
-// The state of the slot driver as a block of 48 bytes, for the C interface: the definitions, and reading it. Crate driver_storing writes it.
+// The state of the slot driver as a block of 72 bytes, for the C interface: the definitions, and reading it. Crate driver_storing writes it.
 // Internal to this repository: the entry points are in crate slipknoll.
 ghost use mathlib.Core.Path.{_≡_};
 ghost use Prim.Native.Nat.{_+_, _≤_};
 ghost use lib.ListN.{length};
 ghost use Rattle.slices.specs.Words.{wordAt};
-ghost use Rattle.driver_blocks.specs.Block.{kindOf, verdictOf, answerAt, isKind, isOurs, stageOf, flag, decodeCourse, decodeDriver};
+ghost use Rattle.driver_blocks.specs.Block.{kindOf, verdictOf, answerAt, isKind, isOurs, stageOf, flag, periodAt, decodeCourse, decodeAim, decodeDriver};
+use slots::Aim;
 use slots::Course;
 use slots::Driver;
 use slots::Kind;
+use slots::Period;
 use slots::Stage;
 use slots::Verdict;
 use state::Answer;
@@ -29,7 +31,8 @@ fn verdict(n: u8) -> Verdict
     match n {
         0 => Verdict::Good,
         1 => Verdict::Blank,
-        _ => Verdict::Beyond,
+        2 => Verdict::Beyond,
+        _ => Verdict::Outside,
     }
 }
 
@@ -51,7 +54,9 @@ fn answer_at(n: u8) -> Answer
         10 => Answer::Sealed,
         11 => Answer::Cut,
         12 => Answer::Blank,
-        _ => Answer::End,
+        13 => Answer::End,
+        14 => Answer::Dates,
+        _ => Answer::Term,
     }
 }
 
@@ -68,19 +73,19 @@ fn is_kind(n: u8) -> bool
 }
 
 // Whether the first four bytes are such as a state is written with.
-fn is_ours(block: &[u8; 48]) -> bool
+fn is_ours(block: &[u8; 72]) -> bool
     ensures { λ r. ⌜ r ≡ isOurs (now (block .entry)) ⌝ }
 {
     if !is_kind(block[0]) {
         return false;
     }
-    if 2 < block[1] {
+    if 3 < block[1] {
         return false;
     }
     if 1 < block[2] {
         return false;
     }
-    block[3] <= 13
+    block[3] <= 15
 }
 
 fn stage(ours: bool, n: u8, a: u8) -> Stage
@@ -105,6 +110,16 @@ fn is_set(x: u8) -> bool
     x != 0
 }
 
+// No term under 0, whatever the two numbers.
+fn period(n: u8, first: usize, last: usize) -> Period
+    ensures { λ r. ⌜ r ≡ periodAt n first last ⌝ }
+{
+    if n == 0 {
+        return Period::Always;
+    }
+    Period::Days { first, last }
+}
+
 // The number of eight bytes from index `at` on.
 fn number_at(block: &[u8], at: usize) -> usize
     requires { ⌜ at + 8 ≤ length (now block) ⌝ }
@@ -113,7 +128,7 @@ fn number_at(block: &[u8], at: usize) -> usize
     slices::word_at(block, at) as usize
 }
 
-fn decode_course(block: &[u8; 48]) -> Course
+fn decode_course(block: &[u8; 72]) -> Course
     ensures { λ r. ⌜ r ≡ decodeCourse (now (block .entry)) ⌝ }
 {
     Course {
@@ -125,15 +140,25 @@ fn decode_course(block: &[u8; 48]) -> Course
     }
 }
 
+fn decode_aim(block: &[u8; 72]) -> Aim
+    ensures { λ r. ⌜ r ≡ decodeAim (now (block .entry)) ⌝ }
+{
+    Aim {
+        place: number_at(block, 32),
+        period: period(block[7], number_at(block, 48), number_at(block, 56)),
+        today: number_at(block, 64),
+    }
+}
+
 // The state that a block of any content holds.
-pub fn decode(block: &[u8; 48]) -> Driver
+pub fn decode(block: &[u8; 72]) -> Driver
     ensures { λ r. ⌜ r ≡ decodeDriver (now (block .entry)) ⌝ }
 {
     Driver {
         array: number_at(block, 8),
         slot: number_at(block, 16),
         limit: number_at(block, 24),
-        place: number_at(block, 32),
+        aim: decode_aim(block),
         kind: kind(block[0]),
         verdict: verdict(block[1]),
         course: decode_course(block),

@@ -66,7 +66,8 @@ pub fn deliver(kind: Kind, a: Answer, staged: &[u8; 2112], buffer: &mut [u8]) ->
 {
     let n = tellings::count_of(kind, a, staged);
     let bytes = &staged[..];
-    lay_over(buffer, &bytes[3..], n);
+    let start = records::body_start(bytes);
+    lay_over(buffer, &bytes[start..], n);
     n
 }
 

@@ -29,6 +29,9 @@ key-short Key.Junk = omega arith
 key-short Key.Log = omega arith
 key-short Key.Buffer = omega arith
 key-short Key.Reply = omega arith
+key-short Key.First = omega arith
+key-short Key.Last = omega arith
+key-short Key.Today = omega arith
 
 name-short : (n : Name) → length (nameText n) ≤ 7
 unfolding nameText
@@ -49,6 +52,9 @@ over-short Key.Junk = omega arith
 over-short Key.Log = omega arith
 over-short Key.Buffer = omega arith
 over-short Key.Reply = omega arith
+over-short Key.First = omega arith
+over-short Key.Last = omega arith
+over-short Key.Today = omega arith
 
 two-short : (xs ys : List ℕ) → length xs ≤ 7 → length ys ≤ 48 → length (xs ++ ys) ≤ 64
 two-short xs ys h k = simp length-append (omega arith)
@@ -60,6 +66,7 @@ text-short Fault.NoCommand = omega arith
 text-short Fault.UnknownCommand = omega arith
 text-short (Fault.Missing n) = two-short (nameText n) (bytes " is missing") (name-short n) (omega arith)
 text-short (Fault.NotNumber n) = two-short (nameText n) (bytes " is not a number") (name-short n) (omega arith)
+text-short (Fault.NotDate n) = two-short (nameText n) (bytes " is not a date") (name-short n) (omega arith)
 text-short (Fault.TooLarge n) = two-short (nameText n) (bytes " is too large") (name-short n) (omega arith)
 text-short (Fault.NotHex n) =
     two-short (nameText n) (bytes " has a character that is not a hexadecimal digit") (name-short n) (omega arith)
@@ -90,6 +97,9 @@ key-told Key.Junk = refl
 key-told Key.Log = refl
 key-told Key.Buffer = refl
 key-told Key.Reply = refl
+key-told Key.First = refl
+key-told Key.Last = refl
+key-told Key.Today = refl
 
 name-told : (n : Name) → partText (namePart n) ≡ nameText n
 unfolding nameText partText partAt texts starts
@@ -110,6 +120,9 @@ over-told Key.Junk = refl
 over-told Key.Log = refl
 over-told Key.Buffer = refl
 over-told Key.Reply = refl
+over-told Key.First = refl
+over-told Key.Last = refl
+over-told Key.Today = refl
 
 told : (f : Fault) → partText (subjectPart f) ++ partText (saidPart f) ≡ textOf f
 unfolding textOf partText partAt texts starts
@@ -118,6 +131,7 @@ told Fault.NoCommand = refl
 told Fault.UnknownCommand = refl
 told (Fault.Missing n) = ap (λ (l : List ℕ). l ++ partText (saidPart (Fault.Missing n))) (name-told n)
 told (Fault.NotNumber n) = ap (λ (l : List ℕ). l ++ partText (saidPart (Fault.NotNumber n))) (name-told n)
+told (Fault.NotDate n) = ap (λ (l : List ℕ). l ++ partText (saidPart (Fault.NotDate n))) (name-told n)
 told (Fault.TooLarge n) = ap (λ (l : List ℕ). l ++ partText (saidPart (Fault.TooLarge n))) (name-told n)
 told (Fault.NotHex n) = ap (λ (l : List ℕ). l ++ partText (saidPart (Fault.NotHex n))) (name-told n)
 told (Fault.Odd n) = ap (λ (l : List ℕ). l ++ partText (saidPart (Fault.Odd n))) (name-told n)

@@ -22,6 +22,9 @@ keyText Key.Junk = bytes "junklen"
 keyText Key.Log = bytes "log"
 keyText Key.Buffer = bytes "buffer"
 keyText Key.Reply = bytes "reply"
+keyText Key.First = bytes "first"
+keyText Key.Last = bytes "last"
+keyText Key.Today = bytes "today"
 
 -- what is written for an operand or an option
 unfoldable pub nameText : Name → List ℕ
@@ -42,6 +45,9 @@ overText Key.Junk = bytes " is over 1114112"
 overText Key.Log = bytes " is over 65536"
 overText Key.Buffer = bytes " is over 65536"
 overText Key.Reply = bytes " is over 65536"
+overText Key.First = bytes " is over 65536"
+overText Key.Last = bytes " is over 65536"
+overText Key.Today = bytes " is over 65536"
 
 -- the text behind `line N: `
 unfoldable pub textOf : Fault → List ℕ
@@ -50,6 +56,7 @@ textOf Fault.NoCommand = bytes "no command"
 textOf Fault.UnknownCommand = bytes "unknown command"
 textOf (Fault.Missing n) = nameText n ++ bytes " is missing"
 textOf (Fault.NotNumber n) = nameText n ++ bytes " is not a number"
+textOf (Fault.NotDate n) = nameText n ++ bytes " is not a date"
 textOf (Fault.TooLarge n) = nameText n ++ bytes " is too large"
 textOf (Fault.NotHex n) = nameText n ++ bytes " has a character that is not a hexadecimal digit"
 textOf (Fault.Odd n) = nameText n ++ bytes " has an odd number of digits"

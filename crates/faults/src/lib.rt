@@ -26,6 +26,7 @@ pub enum Fault {
     UnknownCommand,
     Missing(Name),
     NotNumber(Name),
+    NotDate(Name),
     TooLarge(Name),
     NotHex(Name),
     Odd(Name),
@@ -38,11 +39,11 @@ pub enum Fault {
 }
 
 // What the messages are made of, one after the other: names, then what is said of them.
-const TEXTS: [u8; 359] =
-    *b"SPLACEHEXSEEDlevelpartbscriptjunkjunklenlogbufferreplylonger than 8192 charactersno commandunknown command is missing is not a number is too large has a character that is not a hexadecimal digit has an odd number of digitslevel is not 0 or 1part is not 128, 4096, 128x256 or 4096x256unknown optiontoo many wordsoption given twice is over 65536 is over 1114112";
+const TEXTS: [u8; 387] =
+    *b"SPLACEHEXSEEDlevelpartbscriptjunkjunklenlogbufferreplyfirstlasttodaylonger than 8192 charactersno commandunknown command is missing is not a number is not a date is too large has a character that is not a hexadecimal digit has an odd number of digitslevel is not 0 or 1part is not 128, 4096, 128x256 or 4096x256unknown optiontoo many wordsoption given twice is over 65536 is over 1114112";
 
 // Part i lies from entry i to entry i + 1. Part 0 is empty.
-const STARTS: [usize; 30] = [
+const STARTS: [usize; 34] = [
     0,
     0, // 1: S
     1, // 2: PLACE
@@ -57,26 +58,30 @@ const STARTS: [usize; 30] = [
     40, // 11: log
     43, // 12: buffer
     49, // 13: reply
-    54, // 14: longer than 8192 characters
-    81, // 15: no command
-    91, // 16: unknown command
-    106, // 17: is missing
-    117, // 18: is not a number
-    133, // 19: is too large
-    146, // 20: has a character that is not a hexadecimal digit
-    194, // 21: has an odd number of digits
-    222, // 22: level is not 0 or 1
-    241, // 23: part is not 128, 4096, 128x256 or 4096x256
-    283, // 24: unknown option
-    297, // 25: too many words
-    311, // 26: option given twice
-    329, // 27: is over 65536
-    343, // 28: is over 1114112
-    359,
+    54, // 14: first
+    59, // 15: last
+    63, // 16: today
+    68, // 17: longer than 8192 characters
+    95, // 18: no command
+    105, // 19: unknown command
+    120, // 20: is missing
+    131, // 21: is not a number
+    147, // 22: is not a date
+    161, // 23: is too large
+    174, // 24: has a character that is not a hexadecimal digit
+    222, // 25: has an odd number of digits
+    250, // 26: level is not 0 or 1
+    269, // 27: part is not 128, 4096, 128x256 or 4096x256
+    311, // 28: unknown option
+    325, // 29: too many words
+    339, // 30: option given twice
+    357, // 31: is over 65536
+    371, // 32: is over 1114112
+    387,
 ];
 
 fn key_part(k: Key) -> usize
-    ensures { λ r. ⌜ (r ≡ keyPart k) × (r < 29) ⌝ }
+    ensures { λ r. ⌜ (r ≡ keyPart k) × (r < 33) ⌝ }
 {
     match k {
         Key::Limit => 7,
@@ -86,11 +91,14 @@ fn key_part(k: Key) -> usize
         Key::Log => 11,
         Key::Buffer => 12,
         Key::Reply => 13,
+        Key::First => 14,
+        Key::Last => 15,
+        Key::Today => 16,
     }
 }
 
 fn name_part(n: Name) -> usize
-    ensures { λ r. ⌜ (r ≡ namePart n) × (r < 29) ⌝ }
+    ensures { λ r. ⌜ (r ≡ namePart n) × (r < 33) ⌝ }
 {
     match n {
         Name::Slot => 1,
@@ -105,7 +113,7 @@ fn name_part(n: Name) -> usize
 
 // The part that names what the fault lies in.
 fn subject_part(f: Fault) -> usize
-    ensures { λ r. ⌜ (r ≡ subjectPart f) × (r < 29) ⌝ }
+    ensures { λ r. ⌜ (r ≡ subjectPart f) × (r < 33) ⌝ }
 {
     match f {
         Fault::TooLong => 0,
@@ -113,6 +121,7 @@ fn subject_part(f: Fault) -> usize
         Fault::UnknownCommand => 0,
         Fault::Missing(n) => name_part(n),
         Fault::NotNumber(n) => name_part(n),
+        Fault::NotDate(n) => name_part(n),
         Fault::TooLarge(n) => name_part(n),
         Fault::NotHex(n) => name_part(n),
         Fault::Odd(n) => name_part(n),
@@ -126,42 +135,46 @@ fn subject_part(f: Fault) -> usize
 }
 
 fn over_part(k: Key) -> usize
-    ensures { λ r. ⌜ (r ≡ overPart k) × (r < 29) ⌝ }
+    ensures { λ r. ⌜ (r ≡ overPart k) × (r < 33) ⌝ }
 {
     match k {
-        Key::Limit => 27,
-        Key::Script => 27,
-        Key::Seed => 27,
-        Key::Junk => 28,
-        Key::Log => 27,
-        Key::Buffer => 27,
-        Key::Reply => 27,
+        Key::Limit => 31,
+        Key::Script => 31,
+        Key::Seed => 31,
+        Key::Junk => 32,
+        Key::Log => 31,
+        Key::Buffer => 31,
+        Key::Reply => 31,
+        Key::First => 31,
+        Key::Last => 31,
+        Key::Today => 31,
     }
 }
 
 // The part that says what is wrong.
 fn said_part(f: Fault) -> usize
-    ensures { λ r. ⌜ (r ≡ saidPart f) × (r < 29) ⌝ }
+    ensures { λ r. ⌜ (r ≡ saidPart f) × (r < 33) ⌝ }
 {
     match f {
-        Fault::TooLong => 14,
-        Fault::NoCommand => 15,
-        Fault::UnknownCommand => 16,
-        Fault::Missing(_) => 17,
-        Fault::NotNumber(_) => 18,
-        Fault::TooLarge(_) => 19,
-        Fault::NotHex(_) => 20,
-        Fault::Odd(_) => 21,
-        Fault::NotLevel => 22,
-        Fault::NotPart => 23,
-        Fault::UnknownOption => 24,
-        Fault::TooManyWords => 25,
-        Fault::Twice => 26,
+        Fault::TooLong => 17,
+        Fault::NoCommand => 18,
+        Fault::UnknownCommand => 19,
+        Fault::Missing(_) => 20,
+        Fault::NotNumber(_) => 21,
+        Fault::NotDate(_) => 22,
+        Fault::TooLarge(_) => 23,
+        Fault::NotHex(_) => 24,
+        Fault::Odd(_) => 25,
+        Fault::NotLevel => 26,
+        Fault::NotPart => 27,
+        Fault::UnknownOption => 28,
+        Fault::TooManyWords => 29,
+        Fault::Twice => 30,
         Fault::Over(k) => over_part(k),
     }
 }
 
-fn text_table() -> [u8; 359]
+fn text_table() -> [u8; 387]
     ensures { λ r. ⌜ r ≡ texts ⌝ }
 {
     TEXTS
@@ -169,7 +182,7 @@ fn text_table() -> [u8; 359]
 
 // Where part `i` begins.
 fn start_of(i: usize) -> usize
-    requires { ⌜ i < 30 ⌝ }
+    requires { ⌜ i < 34 ⌝ }
     ensures { λ r. ⌜ r ≡ getD starts i 0 ⌝ }
 {
     STARTS[i]
@@ -177,10 +190,10 @@ fn start_of(i: usize) -> usize
 
 // Where part `i` lies in the table.
 fn part(i: usize) -> Span
-    requires { ⌜ i < 29 ⌝ }
-    ensures { λ r. ⌜ Within 359 r × (r ≡ partAt i) ⌝ }
+    requires { ⌜ i < 33 ⌝ }
+    ensures { λ r. ⌜ Within 387 r × (r ≡ partAt i) ⌝ }
 {
-    let end = numbers::lesser(start_of(i + 1), 359);
+    let end = numbers::lesser(start_of(i + 1), 387);
     let start = numbers::lesser(start_of(i), end);
     Span {
         start: start,

@@ -13,7 +13,7 @@ use Rattle.geometry.specs.declared.Part.the-variants.{Known, Unknown}
 use Rattle.geometry.specs.Parts.{partOf, Sized}
 use Rattle.geometry.proofs.Pages.{sized, sized-small}
 use Rattle.state.specs.Outcomes.{cutFits}
-use Rattle.slots.specs.Records.{limitOf, slotSize}
+use Rattle.slots.specs.Records.{headSize, limitOf, slotSize}
 use Rattle.words.specs.declared.Command.{Command}
 use Rattle.orders.specs.declared.Order.{Order}
 use Rattle.lengths.specs.declared.room.Lengths.{Lengths}
@@ -42,7 +42,7 @@ module _ (n : ℕ) {g : Geometry} {p : Part} (e : p ≡ partOf n) (k : p ≡ Kno
   junk-known = ap (λ (q : Part). junkFor q n) (sym k ∙ e)
 
   pub buffer-known : 8 * g .size - 3 ≡ bufferFor (partOf n)
-  unfolding bufferFor limitOf slotSize
+  unfolding bufferFor headSize limitOf slotSize
   buffer-known = ap bufferFor (sym k ∙ e)
 
 module _ (n : ℕ) {p : Part} (e : p ≡ partOf n) (k : p ≡ Unknown) where

@@ -59,9 +59,9 @@ unfoldable pub junkFor : Part → ℕ → ℕ
 junkFor (Known g) n = 2 * g .size + n
 junkFor Unknown n = 0
 
--- the get buffer: the longest recipe
+-- the get buffer: the longest recipe of either version
 unfoldable pub bufferFor : Part → ℕ
-bufferFor (Known g) = limitOf g
+bufferFor (Known g) = limitOf g 1
 bufferFor Unknown = 0
 
 -- ---- what a step lends

@@ -14,7 +14,8 @@ use Rattle.text.specs.declared.values.Number.the-variants as Number
 use Rattle.text.specs.Decimal.{numberOf}
 use Rattle.words.specs.Words.{wordFrom, partOf, isCall, keyOf}
 use Rattle.word_values.specs.Values.{testHex}
-use Rattle.options.specs.Options.{isGiven, isScript, roomOf, withNumber, numberTaken, scriptTaken, takeValue, keyTaken, takeOption, takeWord, takeWords, optionsOf}
+use Rattle.word_values.specs.Days.{dateOf}
+use Rattle.options.specs.Options.{isGiven, isScript, isDay, roomOf, withNumber, numberTaken, dateTaken, scriptTaken, takeValue, keyTaken, takeOption, takeWord, takeWords, wordsOf, bothOrNone, paired, optionsOf}
 use Rattle.words.specs.Bounds.{Within, SoundKeyed}
 use Rattle.options.specs.Bounds.{SoundSettings, SoundChoice}
 use Rattle.words.specs.declared.Command.{Command}
@@ -28,6 +29,8 @@ use Rattle.words.specs.declared.Keyed.{Keyed}
 use Rattle.words.specs.declared.Keyed.the-variants as Keyed
 use Rattle.word_values.specs.declared.Tested.{Tested}
 use Rattle.word_values.specs.declared.Tested.the-variants as Tested
+use Rattle.word_values.specs.declared.Dated.{Dated}
+use Rattle.word_values.specs.declared.Dated.the-variants as Dated
 use Rattle.options.specs.declared.Settings.{Settings}
 use Rattle.options.specs.declared.Choice.{Choice}
 use Rattle.options.specs.declared.Choice.the-variants as Choice
@@ -47,6 +50,9 @@ set-sound n s Key.Junk v e h =
 set-sound n s Key.Log v e h = record { script = h .script; junk = h .junk; log = e; buffer = h .buffer; reply = h .reply }
 set-sound n s Key.Buffer v e h = record { script = h .script; junk = h .junk; log = h .log; buffer = e; reply = h .reply }
 set-sound n s Key.Reply v e h = record { script = h .script; junk = h .junk; log = h .log; buffer = h .buffer; reply = e }
+set-sound n s Key.First v e h = h
+set-sound n s Key.Last v e h = h
+set-sound n s Key.Today v e h = h
 
 given-sound : (n : ℕ) (s : Settings) (k : Key) (v : Number) → SoundSettings n s → SoundChoice n (numberTaken s k v)
 given-sound n s k (Number.Value v) h = go (ltb (roomOf k) v) refl
@@ -56,6 +62,10 @@ given-sound n s k (Number.Value v) h = go (ltb (roomOf k) v) refl
     go false e = set-sound n s k v (ltb-false (roomOf k) v e) h
 given-sound n s k Number.NotNumber h = tt
 given-sound n s k Number.TooLarge h = tt
+
+date-sound : (n : ℕ) (s : Settings) (k : Key) (d : Dated) → SoundSettings n s → SoundChoice n (dateTaken s k d)
+date-sound n s k (Dated.Value x) h = record { script = h .script; junk = h .junk; log = h .log; buffer = h .buffer; reply = h .reply }
+date-sound n s k (Dated.Fault f) h = tt
 
 script-sound : (n : ℕ) (s : Settings) (w : Span) (h : Tested) → Within n w → SoundSettings n s → SoundChoice n (scriptTaken s w h)
 script-sound n s w Tested.Fine i h = record { script = i; junk = h .junk; log = h .log; buffer = h .buffer; reply = h .reply }
@@ -67,11 +77,12 @@ unfolding takeValue
 value-sound xs s k w i h =
     let n = length xs in
     let a = scriptTaken s w (testHex (partOf xs w) (Name.Option Key.Script)) in
-    let b = numberTaken s k (numberOf (partOf xs w)) in
-    pick-choice n (isGiven s k) (Choice.Fault Fault.Twice) (cond (isScript k) a b) tt
-    (pick-choice n (isScript k) a b
+    let b = dateTaken s k (dateOf (partOf xs w) (Name.Option k)) in
+    let d = numberTaken s k (numberOf (partOf xs w)) in
+    pick-choice n (isGiven s k) (Choice.Fault Fault.Twice) (cond (isScript k) a (cond (isDay k) b d)) tt
+    (pick-choice n (isScript k) a (cond (isDay k) b d)
     (script-sound n s w (testHex (partOf xs w) (Name.Option Key.Script)) i h)
-    (given-sound n s k (numberOf (partOf xs w)) h))
+    (pick-choice n (isDay k) b d (date-sound n s k (dateOf (partOf xs w) (Name.Option k)) h) (given-sound n s k (numberOf (partOf xs w)) h)))
 
 option-sound : (xs : List ℕ) (s : Settings) (w : Span) → Within (length xs) w → SoundSettings (length xs) s
     → SoundChoice (length xs) (takeOption xs s w)
@@ -100,8 +111,19 @@ words-sound (suc n) xs c s w i h =
     pick-choice (length xs) (ltb (w .start) (w .end)) (takeWords n xs c (takeWord xs c s w) v) s
     (words-sound n xs c (takeWord xs c s w) v (word-within xs (w .end)) (taken-sound xs c s w i h)) h
 
+pair-sound : (n : ℕ) (s : Settings) (a b : Bool) → SoundSettings n s → SoundChoice n (bothOrNone s a b)
+pair-sound n s true true h = h
+pair-sound n s true false h = tt
+pair-sound n s false true h = tt
+pair-sound n s false false h = h
+
+paired-sound : (n : ℕ) (p : Choice) → SoundChoice n p → SoundChoice n (paired p)
+paired-sound n (Choice.More s) h = pair-sound n s (s .days .first .given) (s .days .last .given) h
+paired-sound n (Choice.Fault f) h = tt
+
 pub options-sound : (xs : List ℕ) (c : Command) (at : ℕ) → SoundChoice (length xs) (optionsOf xs c at)
-unfolding optionsOf
+unfolding wordsOf optionsOf
 options-sound xs c at =
-    words-sound (length xs) xs c _ (wordFrom xs at) (word-within xs at)
-    (record { script = (zero-le, zero-le); junk = zero-le; log = zero-le; buffer = zero-le; reply = zero-le })
+    paired-sound (length xs) (wordsOf xs c at)
+    (words-sound (length xs) xs c _ (wordFrom xs at) (word-within xs at)
+    (record { script = (zero-le, zero-le); junk = zero-le; log = zero-le; buffer = zero-le; reply = zero-le }))

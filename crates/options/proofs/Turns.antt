@@ -10,7 +10,7 @@ use lib.ListN.{length}
 use lib.Dec.{ltb}
 use borrow.Author.Tests.{ltb-true, ltb-false, lt-ltb, le-ltb}
 use Rattle.words.specs.Words.{wordFrom}
-use Rattle.options.specs.Options.{takeWord, takeWords, optionsOf, unsetOf}
+use Rattle.options.specs.Options.{takeWord, takeWords, wordsOf, unsetOf}
 use Rattle.words.specs.Bounds.{Within}
 use Rattle.words.specs.declared.Command.{Command}
 use Rattle.words.specs.declared.Span.{Span}
@@ -65,8 +65,8 @@ module _ (xs : List ℕ) (c : Command) where
 
   -- one turn of the loop
   pub turned : (at : ℕ) (s r : Choice) (w v : Span) → Within (length xs) w → w .start < w .end
-      → takeWords (length xs) xs c s w ≡ optionsOf xs c at → r ≡ takeWord xs c s w → v ≡ wordFrom xs (w .end)
-      → takeWords (length xs) xs c r v ≡ optionsOf xs c at
+      → takeWords (length xs) xs c s w ≡ wordsOf xs c at → r ≡ takeWord xs c s w → v ≡ wordFrom xs (w .end)
+      → takeWords (length xs) xs c r v ≡ wordsOf xs c at
   turned at s r w v i h e p q =
       ap (λ (d : Choice). takeWords (length xs) xs c d v) p
       ∙ ap (takeWords (length xs) xs c (takeWord xs c s w)) q
@@ -74,7 +74,7 @@ module _ (xs : List ℕ) (c : Command) where
       ∙ enough (suc (length xs)) (length xs) s w i (omega arith) (omega arith)
       ∙ e
 
-  pub begun : (at : ℕ) (s : Settings) (w : Span) → s ≡ unsetOf → w ≡ wordFrom xs at → takeWords (length xs) xs c (Choice.More s) w ≡ optionsOf xs c at
-  unfolding optionsOf
+  pub begun : (at : ℕ) (s : Settings) (w : Span) → s ≡ unsetOf → w ≡ wordFrom xs at → takeWords (length xs) xs c (Choice.More s) w ≡ wordsOf xs c at
+  unfolding wordsOf
   begun at s w p q =
       ap (λ (d : Settings). takeWords (length xs) xs c (Choice.More d) w) p ∙ ap (takeWords (length xs) xs c (Choice.More unsetOf)) q

@@ -10,7 +10,9 @@ use Rattle.text.specs.declared.values.Number.the-variants as Number
 use Rattle.text.specs.Decimal.{numberOf}
 use Rattle.words.specs.Words.{wordFrom, partOf, keyOf, isCall}
 use Rattle.word_values.specs.Values.{testHex}
+use Rattle.word_values.specs.Days.{dateOf}
 use Rattle.operands.specs.Operands.{nowhere}
+use Rattle.dates.specs.declared.Date.{Date}
 use Rattle.words.specs.declared.Command.{Command}
 use Rattle.words.specs.declared.Span.{Span}
 use Rattle.words.specs.declared.Key.{Key}
@@ -22,7 +24,11 @@ use Rattle.words.specs.declared.Keyed.{Keyed}
 use Rattle.words.specs.declared.Keyed.the-variants as Keyed
 use Rattle.word_values.specs.declared.Tested.{Tested}
 use Rattle.word_values.specs.declared.Tested.the-variants as Tested
+use Rattle.word_values.specs.declared.Dated.{Dated}
+use Rattle.word_values.specs.declared.Dated.the-variants as Dated
 use Rattle.options.specs.declared.Setting.{Setting}
+use Rattle.options.specs.declared.DateSetting.{DateSetting}
+use Rattle.options.specs.declared.Days.{Days}
 use Rattle.options.specs.declared.Settings.{Settings}
 use Rattle.options.specs.declared.Choice.{Choice}
 use Rattle.options.specs.declared.Choice.the-variants as Choice
@@ -31,10 +37,24 @@ use Rattle.options.specs.declared.Choice.the-variants as Choice
 abbrev pub missing : Setting
 missing = record { given = false; value = 0 }
 
+-- a date that is not given
+abbrev pub noDate : DateSetting
+noDate = record { given = false; date = record { year = 0; month = 0; day = 0 } }
+
 -- no option is given
 abbrev pub unsetOf : Settings
 unsetOf =
-    record { limit = missing; seed = missing; junk = missing; log = missing; buffer = missing; reply = missing; scripted = false; script = nowhere }
+    record {
+      limit = missing;
+      seed = missing;
+      junk = missing;
+      log = missing;
+      buffer = missing;
+      reply = missing;
+      scripted = false;
+      script = nowhere;
+      days = record { first = noDate; last = noDate; today = noDate };
+    }
 
 -- script= alone has HEX for its value
 abbrev pub isScript : Key → Bool
@@ -45,6 +65,22 @@ isScript Key.Junk = false
 isScript Key.Log = false
 isScript Key.Buffer = false
 isScript Key.Reply = false
+isScript Key.First = false
+isScript Key.Last = false
+isScript Key.Today = false
+
+-- first=, last= and today= have a date for their value
+abbrev pub isDay : Key → Bool
+isDay Key.Limit = false
+isDay Key.Script = false
+isDay Key.Seed = false
+isDay Key.Junk = false
+isDay Key.Log = false
+isDay Key.Buffer = false
+isDay Key.Reply = false
+isDay Key.First = true
+isDay Key.Last = true
+isDay Key.Today = true
 
 -- the option was given before
 abbrev pub isGiven : Settings → Key → Bool
@@ -55,6 +91,9 @@ isGiven s Key.Junk = s .junk .given
 isGiven s Key.Log = s .log .given
 isGiven s Key.Buffer = s .buffer .given
 isGiven s Key.Reply = s .reply .given
+isGiven s Key.First = s .days .first .given
+isGiven s Key.Last = s .days .last .given
+isGiven s Key.Today = s .days .today .given
 
 -- the most that an option's number may be: the room of junklen, log, buffer and reply; of the others, any number that is read
 abbrev pub roomOf : Key → ℕ
@@ -65,27 +104,51 @@ roomOf Key.Junk = 1114112
 roomOf Key.Log = 65536
 roomOf Key.Buffer = 65536
 roomOf Key.Reply = 65536
+roomOf Key.First = 0xFFFF_FFFF_FFFF_FFFF
+roomOf Key.Last = 0xFFFF_FFFF_FFFF_FFFF
+roomOf Key.Today = 0xFFFF_FFFF_FFFF_FFFF
 
 -- the option set to the number
 abbrev pub withNumber : Settings → Key → ℕ → Settings
 withNumber s Key.Limit n =
-    record { limit = record { given = true; value = n }; seed = s .seed; junk = s .junk; log = s .log; buffer = s .buffer; reply = s .reply; scripted = s .scripted; script = s .script }
+    record { limit = record { given = true; value = n }; seed = s .seed; junk = s .junk; log = s .log; buffer = s .buffer; reply = s .reply; scripted = s .scripted; script = s .script; days = s .days }
 withNumber s Key.Script n = s
 withNumber s Key.Seed n =
-    record { limit = s .limit; seed = record { given = true; value = n }; junk = s .junk; log = s .log; buffer = s .buffer; reply = s .reply; scripted = s .scripted; script = s .script }
+    record { limit = s .limit; seed = record { given = true; value = n }; junk = s .junk; log = s .log; buffer = s .buffer; reply = s .reply; scripted = s .scripted; script = s .script; days = s .days }
 withNumber s Key.Junk n =
-    record { limit = s .limit; seed = s .seed; junk = record { given = true; value = n }; log = s .log; buffer = s .buffer; reply = s .reply; scripted = s .scripted; script = s .script }
+    record { limit = s .limit; seed = s .seed; junk = record { given = true; value = n }; log = s .log; buffer = s .buffer; reply = s .reply; scripted = s .scripted; script = s .script; days = s .days }
 withNumber s Key.Log n =
-    record { limit = s .limit; seed = s .seed; junk = s .junk; log = record { given = true; value = n }; buffer = s .buffer; reply = s .reply; scripted = s .scripted; script = s .script }
+    record { limit = s .limit; seed = s .seed; junk = s .junk; log = record { given = true; value = n }; buffer = s .buffer; reply = s .reply; scripted = s .scripted; script = s .script; days = s .days }
 withNumber s Key.Buffer n =
-    record { limit = s .limit; seed = s .seed; junk = s .junk; log = s .log; buffer = record { given = true; value = n }; reply = s .reply; scripted = s .scripted; script = s .script }
+    record { limit = s .limit; seed = s .seed; junk = s .junk; log = s .log; buffer = record { given = true; value = n }; reply = s .reply; scripted = s .scripted; script = s .script; days = s .days }
 withNumber s Key.Reply n =
-    record { limit = s .limit; seed = s .seed; junk = s .junk; log = s .log; buffer = s .buffer; reply = record { given = true; value = n }; scripted = s .scripted; script = s .script }
+    record { limit = s .limit; seed = s .seed; junk = s .junk; log = s .log; buffer = s .buffer; reply = record { given = true; value = n }; scripted = s .scripted; script = s .script; days = s .days }
+withNumber s Key.First n = s
+withNumber s Key.Last n = s
+withNumber s Key.Today n = s
+
+-- the option set to the date
+abbrev pub withDay : Days → Key → Date → Days
+withDay d Key.Limit x = d
+withDay d Key.Script x = d
+withDay d Key.Seed x = d
+withDay d Key.Junk x = d
+withDay d Key.Log x = d
+withDay d Key.Buffer x = d
+withDay d Key.Reply x = d
+withDay d Key.First x = record { first = record { given = true; date = x }; last = d .last; today = d .today }
+withDay d Key.Last x = record { first = d .first; last = record { given = true; date = x }; today = d .today }
+withDay d Key.Today x = record { first = d .first; last = d .last; today = record { given = true; date = x } }
+
+-- the dates set to these
+abbrev pub withDays : Settings → Days → Settings
+withDays s d =
+    record { limit = s .limit; seed = s .seed; junk = s .junk; log = s .log; buffer = s .buffer; reply = s .reply; scripted = s .scripted; script = s .script; days = d }
 
 -- the script set to a part of the line
 abbrev pub withScript : Settings → Span → Settings
 withScript s w =
-    record { limit = s .limit; seed = s .seed; junk = s .junk; log = s .log; buffer = s .buffer; reply = s .reply; scripted = true; script = w }
+    record { limit = s .limit; seed = s .seed; junk = s .junk; log = s .log; buffer = s .buffer; reply = s .reply; scripted = true; script = w; days = s .days }
 
 -- a number as the option's value, within its room
 abbrev pub numberTaken : Settings → Key → Number → Choice
@@ -93,7 +156,12 @@ numberTaken s k (Number.Value n) = cond (ltb (roomOf k) n) (Choice.Fault (Fault.
 numberTaken s k Number.NotNumber = Choice.Fault (Fault.NotNumber (Name.Option k))
 numberTaken s k Number.TooLarge = Choice.Fault (Fault.TooLarge (Name.Option k))
 
--- the same, or the fault of its digits
+-- a date as the option's value
+abbrev pub dateTaken : Settings → Key → Dated → Choice
+dateTaken s k (Dated.Value x) = Choice.More (withDays s (withDay (s .days) k x))
+dateTaken s k (Dated.Fault f) = Choice.Fault f
+
+-- the script set, or the fault of its digits
 abbrev pub scriptTaken : Settings → Span → Tested → Choice
 scriptTaken s w Tested.Fine = Choice.More (withScript s w)
 scriptTaken s w (Tested.Fault f) = Choice.Fault f
@@ -102,7 +170,8 @@ scriptTaken s w (Tested.Fault f) = Choice.Fault f
 unfoldable pub takeValue : List ℕ → Settings → Key → Span → Choice
 takeValue xs s k w =
     cond (isGiven s k) (Choice.Fault Fault.Twice)
-    (cond (isScript k) (scriptTaken s w (testHex (partOf xs w) (Name.Option Key.Script))) (numberTaken s k (numberOf (partOf xs w))))
+    (cond (isScript k) (scriptTaken s w (testHex (partOf xs w) (Name.Option Key.Script)))
+    (cond (isDay k) (dateTaken s k (dateOf (partOf xs w) (Name.Option k))) (numberTaken s k (numberOf (partOf xs w)))))
 
 -- the option that the word w is, with the part of w that is its value
 abbrev pub keyTaken : List ℕ → Settings → Span → Keyed → Choice
@@ -124,5 +193,21 @@ takeWords zero xs c s w = s
 takeWords (suc n) xs c s w = cond (ltb (w .start) (w .end)) (takeWords n xs c (takeWord xs c s w) (wordFrom xs (w .end))) s
 
 -- all words from index at on: a line has no more words than bytes
+unfoldable pub wordsOf : List ℕ → Command → ℕ → Choice
+wordsOf xs c at = takeWords (length xs) xs c (Choice.More unsetOf) (wordFrom xs at)
+
+-- whether first= and last= are given: both or neither; else the other one is missing
+abbrev pub bothOrNone : Settings → (first last : Bool) → Choice
+bothOrNone s true true = Choice.More s
+bothOrNone s true false = Choice.Fault (Fault.Missing (Name.Option Key.Last))
+bothOrNone s false true = Choice.Fault (Fault.Missing (Name.Option Key.First))
+bothOrNone s false false = Choice.More s
+
+-- the same of options without a fault
+abbrev pub paired : Choice → Choice
+paired (Choice.More s) = bothOrNone s (s .days .first .given) (s .days .last .given)
+paired (Choice.Fault f) = Choice.Fault f
+
+-- the options from index at on
 unfoldable pub optionsOf : List ℕ → Command → ℕ → Choice
-optionsOf xs c at = takeWords (length xs) xs c (Choice.More unsetOf) (wordFrom xs at)
+optionsOf xs c at = paired (wordsOf xs c at)

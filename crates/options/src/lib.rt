@@ -5,10 +5,13 @@ ghost use Rattle.text.specs.Decimal.{numberOf};
 ghost use Rattle.words.specs.Bounds.{Within};
 ghost use Rattle.words.specs.Words.{partOf};
 ghost use Rattle.word_values.specs.Values.{testHex};
-ghost use Rattle.options.specs.Options.{unsetOf, isScript, isGiven, roomOf, withNumber, numberTaken, scriptTaken, takeValue, takeOption, takeWord, optionsOf};
+ghost use Rattle.word_values.specs.Days.{dateOf};
+ghost use Rattle.options.specs.Options.{unsetOf, isScript, isDay, isGiven, roomOf, withNumber, withDay, numberTaken, dateTaken, scriptTaken, takeValue, takeOption, takeWord, wordsOf, paired, optionsOf};
+use dates::Date;
 use faults::Fault;
 use faults::Name;
 use text::Number;
+use word_values::Dated;
 use word_values::Tested;
 use words::Command;
 use words::Key;
@@ -21,6 +24,19 @@ pub struct Setting {
     pub value: usize,
 }
 
+// A date that an option gives; zeros where it is not given.
+pub struct DateSetting {
+    pub given: bool,
+    pub date: Date,
+}
+
+// first=, last= and today=.
+pub struct Days {
+    pub first: DateSetting,
+    pub last: DateSetting,
+    pub today: DateSetting,
+}
+
 // What the options read so far say.
 pub struct Settings {
     pub limit: Setting,
@@ -31,6 +47,7 @@ pub struct Settings {
     pub reply: Setting,
     pub scripted: bool,
     pub script: Span,
+    pub days: Days,
 }
 
 pub enum Choice {
@@ -46,6 +63,14 @@ fn unset() -> Settings
         value: 0,
     };
     let e = Span { start: 0, end: 0 };
+    let d = DateSetting {
+        given: false,
+        date: Date {
+            year: 0,
+            month: 0,
+            day: 0,
+        },
+    };
     Settings {
         limit: s,
         seed: s,
@@ -55,6 +80,11 @@ fn unset() -> Settings
         reply: s,
         scripted: false,
         script: e,
+        days: Days {
+            first: d,
+            last: d,
+            today: d,
+        },
     }
 }
 
@@ -69,6 +99,26 @@ fn is_script(k: Key) -> bool
         Key::Log => false,
         Key::Buffer => false,
         Key::Reply => false,
+        Key::First => false,
+        Key::Last => false,
+        Key::Today => false,
+    }
+}
+
+fn is_day(k: Key) -> bool
+    ensures { λ r. ⌜ r ≡ isDay k ⌝ }
+{
+    match k {
+        Key::Limit => false,
+        Key::Script => false,
+        Key::Seed => false,
+        Key::Junk => false,
+        Key::Log => false,
+        Key::Buffer => false,
+        Key::Reply => false,
+        Key::First => true,
+        Key::Last => true,
+        Key::Today => true,
     }
 }
 
@@ -83,6 +133,9 @@ fn is_given(s: Settings, k: Key) -> bool
         Key::Log => s.log.given,
         Key::Buffer => s.buffer.given,
         Key::Reply => s.reply.given,
+        Key::First => s.days.first.given,
+        Key::Last => s.days.last.given,
+        Key::Today => s.days.today.given,
     }
 }
 
@@ -98,6 +151,9 @@ fn room_of(k: Key) -> usize
         Key::Log => 65_536,
         Key::Buffer => 65_536,
         Key::Reply => 65_536,
+        Key::First => 0xFFFF_FFFF_FFFF_FFFF,
+        Key::Last => 0xFFFF_FFFF_FFFF_FFFF,
+        Key::Today => 0xFFFF_FFFF_FFFF_FFFF,
     }
 }
 
@@ -135,6 +191,40 @@ fn with_number(s: Settings, k: Key, n: usize) -> Settings
             t.reply = v;
             t
         }
+        Key::First => t,
+        Key::Last => t,
+        Key::Today => t,
+    }
+}
+
+fn with_day(days: Days, k: Key, date: Date) -> Days
+    ensures { λ r. ⌜ r ≡ withDay days k date ⌝ }
+{
+    let v = DateSetting {
+        given: true,
+        date: date,
+    };
+    let mut t = days;
+    match k {
+        Key::Limit => t,
+        Key::Script => t,
+        Key::Seed => t,
+        Key::Junk => t,
+        Key::Log => t,
+        Key::Buffer => t,
+        Key::Reply => t,
+        Key::First => {
+            t.first = v;
+            t
+        }
+        Key::Last => {
+            t.last = v;
+            t
+        }
+        Key::Today => {
+            t.today = v;
+            t
+        }
     }
 }
 
@@ -152,6 +242,21 @@ fn take_number(s: Settings, k: Key, word: &[u8]) -> Choice
         }
         Number::NotNumber => Choice::Fault(Fault::NotNumber(Name::Option(k))),
         Number::TooLarge => Choice::Fault(Fault::TooLarge(Name::Option(k))),
+    }
+}
+
+fn take_date(s: Settings, k: Key, word: &[u8]) -> Choice
+    ensures { λ r. ⌜ r ≡ dateTaken s k (dateOf (now (word .entry)) (Name.Option k)) ⌝ }
+{
+    let d = word_values::date(word, Name::Option(k));
+    match d {
+        Dated::Value(date) => {
+            let days = s.days;
+            let mut t = s;
+            t.days = with_day(days, k, date);
+            Choice::More(t)
+        }
+        Dated::Fault(f) => Choice::Fault(f),
     }
 }
 
@@ -186,6 +291,9 @@ fn take_value(line: &[u8], s: Settings, k: Key, w: Span) -> Choice
     }
     let start = w.start;
     let end = w.end;
+    if is_day(k) {
+        return take_date(s, k, &line[start..end]);
+    }
     take_number(s, k, &line[start..end])
 }
 
@@ -228,8 +336,8 @@ fn take_word(line: &[u8], c: Command, s: Choice, w: Span) -> Choice
 }
 
 // All words from index `at` on.
-pub fn read_options(line: &[u8], c: Command, at: usize) -> Choice
-    ensures { λ r. ⌜ r ≡ optionsOf (now (line .entry)) c at ⌝ }
+fn read_words(line: &[u8], c: Command, at: usize) -> Choice
+    ensures { λ r. ⌜ r ≡ wordsOf (now (line .entry)) c at ⌝ }
 {
     let mut s = Choice::More(unset());
     let mut w = words::next_word(line, at);
@@ -238,4 +346,34 @@ pub fn read_options(line: &[u8], c: Command, at: usize) -> Choice
         w = words::next_word(line, w.end);
     }
     s
+}
+
+// The options, if first= and last= are given both or neither.
+fn pair(s: Choice) -> Choice
+    ensures { λ r. ⌜ r ≡ paired s ⌝ }
+{
+    match s {
+        Choice::More(t) => {
+            let first = t.days.first.given;
+            let last = t.days.last.given;
+            if first {
+                if last {
+                    return Choice::More(t);
+                }
+                return Choice::Fault(Fault::Missing(Name::Option(Key::Last)));
+            }
+            if last {
+                return Choice::Fault(Fault::Missing(Name::Option(Key::First)));
+            }
+            Choice::More(t)
+        }
+        Choice::Fault(f) => Choice::Fault(f),
+    }
+}
+
+// The options from index `at` on.
+pub fn read_options(line: &[u8], c: Command, at: usize) -> Choice
+    ensures { λ r. ⌜ r ≡ optionsOf (now (line .entry)) c at ⌝ }
+{
+    pair(read_words(line, c, at))
 }

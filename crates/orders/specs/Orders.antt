@@ -2,12 +2,17 @@
 -- Assumes nothing.
 use Prim.Native.Nat.{ℕ, _%_}
 use mathlib.Core.Bool.{cond}
+use Rattle.dates.specs.declared.Date.{Date}
+use Rattle.dates.specs.declared.Term.{Term}
+use Rattle.dates.specs.declared.Term.the-variants as Term
 use Rattle.words.specs.declared.Command.{Command}
 use Rattle.orders.specs.declared.Lent.{Lent}
 use Rattle.orders.specs.declared.Lent.the-variants as Lent
 use Rattle.orders.specs.declared.Order.{Order}
 use Rattle.operands.specs.declared.Taken.{Taken}
 use Rattle.options.specs.declared.Setting.{Setting}
+use Rattle.options.specs.declared.DateSetting.{DateSetting}
+use Rattle.options.specs.declared.Days.{Days}
 use Rattle.options.specs.declared.Settings.{Settings}
 
 -- an option's value, or its default
@@ -17,6 +22,14 @@ valueOr s default = cond (s .given) (s .value) default
 -- a length lent, as given or as the call needs
 abbrev pub lentOf : Setting → Lent
 lentOf s = cond (s .given) (Lent.Given (s .value)) Lent.Needed
+
+-- the term from first= to last=, which are given both or neither
+abbrev pub termOf : Days → Term
+termOf d = cond (d .first .given) (Term.Between (d .first .date) (d .last .date)) Term.Unlimited
+
+-- today=, or 1 January 2000
+abbrev pub todayOf : DateSetting → Date
+todayOf s = cond (s .given) (s .date) (record { year = 2000; month = 1; day = 1 })
 
 -- the order: b is 1, and the seed 0, where they are not given
 unfoldable pub orderOf : Command → Taken → Settings → Order
@@ -33,4 +46,6 @@ orderOf c t s =
       log = lentOf (s .log);
       buffer = lentOf (s .buffer);
       reply = lentOf (s .reply);
+      term = termOf (s .days);
+      today = todayOf (s .days .today);
     }

@@ -3,13 +3,17 @@ ghost use mathlib.Core.Path.{_≡_};
 ghost use lib.ListN.{length};
 ghost use Rattle.operands.specs.Operands.{operandsOf};
 ghost use Rattle.orders.specs.Bounds.{SoundReading};
-ghost use Rattle.orders.specs.Orders.{valueOr, lentOf, orderOf};
+ghost use Rattle.orders.specs.Orders.{valueOr, lentOf, termOf, todayOf, orderOf};
 ghost use Rattle.orders.specs.Lines.{withOperands, readOf};
+use dates::Date;
+use dates::Term;
 pub use faults::Fault;
 pub use faults::message;
 use operands::Step;
 use operands::Taken;
 use options::Choice;
+use options::DateSetting;
+use options::Days;
 use options::Setting;
 use options::Settings;
 use words::Chosen;
@@ -45,6 +49,10 @@ pub struct Order {
     pub log: Lent,
     pub buffer: Lent,
     pub reply: Lent,
+    // first= and last=
+    pub term: Term,
+    // today=, else 1 January 2000.
+    pub today: Date,
 }
 
 pub enum Reading {
@@ -105,6 +113,32 @@ fn lent_by(s: Setting) -> Lent
     }
 }
 
+// The term from first= to last=. They are given both or neither.
+fn term_of(d: Days) -> Term
+    ensures { λ r. ⌜ r ≡ termOf d ⌝ }
+{
+    let first = d.first.date;
+    let last = d.last.date;
+    if d.first.given {
+        Term::Between { first, last }
+    } else {
+        Term::Unlimited
+    }
+}
+
+fn today_of(s: DateSetting) -> Date
+    ensures { λ r. ⌜ r ≡ todayOf s ⌝ }
+{
+    if s.given {
+        return s.date;
+    }
+    Date {
+        year: 2000,
+        month: 1,
+        day: 1,
+    }
+}
+
 fn order_of(c: Command, t: Taken, s: Settings) -> Order
     ensures { λ r. ⌜ r ≡ orderOf c t s ⌝ }
 {
@@ -116,6 +150,8 @@ fn order_of(c: Command, t: Taken, s: Settings) -> Order
     let log = s.log;
     let buffer = s.buffer;
     let reply = s.reply;
+    let days = s.days;
+    let today = days.today;
     Order {
         command: c,
         number: t.number,
@@ -128,5 +164,7 @@ fn order_of(c: Command, t: Taken, s: Settings) -> Order
         log: lent_by(log),
         buffer: lent_by(buffer),
         reply: lent_by(reply),
+        term: term_of(days),
+        today: today_of(today),
     }
 }

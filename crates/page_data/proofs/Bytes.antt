@@ -105,16 +105,16 @@ behind : (first start i m k : ℕ) → first + m ≤ start + i → k ≤ m - (st
 behind first start i m k h l p = omega arith
 
 -- a patch laid over the part xs of a slot, from index `start` of the slot on: one run of its bytes, or none
-pub laid : (place : ℕ) (bytes : List ℕ) (start : ℕ) (xs : List ℕ)
-    → splice (place + 3 - start) (take (min (length xs - (place + 3 - start)) (length bytes - (start - (place + 3)))) (drop (start - (place + 3)) bytes)) xs
-    ≡ tabulate (length xs) (λ i. patched place bytes (getD xs i 0) (start + i))
+pub laid : (head place : ℕ) (bytes : List ℕ) (start : ℕ) (xs : List ℕ)
+    → splice (place + head - start) (take (min (length xs - (place + head - start)) (length bytes - (start - (place + head)))) (drop (start - (place + head)) bytes)) xs
+    ≡ tabulate (length xs) (λ i. patched head place bytes (getD xs i 0) (start + i))
 unfolding patched
-laid place bytes start xs =
+laid head place bytes start xs =
     ext-getD 0 (splice to ys xs) (tabulate (length xs) f) (length-splice to ys xs ∙ sym (length-tabulate (length xs) f))
-    (λ i h. let l : i < length xs = omega (arith, length-splice to ys xs) in go i l (leb (3 + place) (start + i)) (ltb (start + i) (3 + place + length bytes)) refl refl ∙ sym (getD-tabulate (length xs) f i 0 l))
+    (λ i h. let l : i < length xs = omega (arith, length-splice to ys xs) in go i l (leb (head + place) (start + i)) (ltb (start + i) (head + place + length bytes)) refl refl ∙ sym (getD-tabulate (length xs) f i 0 l))
   where
     first : ℕ
-    first = place + 3
+    first = place + head
 
     to : ℕ
     to = first - start
@@ -129,7 +129,7 @@ laid place bytes start xs =
     ys = take n (drop from bytes)
 
     f : ℕ → ℕ
-    f i = patched place bytes (getD xs i 0) (start + i)
+    f i = patched head place bytes (getD xs i 0) (start + i)
 
     length-ys : length ys ≡ n
     length-ys = simp (length-take, length-drop) (least (length xs - to) (length bytes - from))
@@ -140,43 +140,43 @@ laid place bytes start xs =
     most : (a b m : ℕ) → m ≡ min a b → m ≤ b
     most a b m e = omega arith
 
-    inside : (i : ℕ) → i < length xs → first ≤ start + i → start + i < first + length bytes → getD (splice to ys xs) i 0 ≡ getD bytes (start + i - (3 + place)) 0
+    inside : (i : ℕ) → i < length xs → first ≤ start + i → start + i < first + length bytes → getD (splice to ys xs) i 0 ≡ getD bytes (start + i - (head + place)) 0
     inside i h p q =
         let r = reaches first start i p in
         let o = offset first start i p in
         let k : i - to < n = less-min (length xs - to) (length bytes - from) (i - to) (left i to (length xs) r h) (less from (i - to) (start + i - first) (length bytes) o (omega arith)) in
-        let e : from + (i - to) ≡ start + i - (3 + place) = o ∙ ap (λ (j : ℕ). start + i - j) (add-comm place 3) in
+        let e : from + (i - to) ≡ start + i - (head + place) = o ∙ ap (λ (j : ℕ). start + i - j) (add-comm place head) in
         splice-in to ys xs i 0 r (within i to n (length ys) r k length-ys) h ∙ getD-take n (drop from bytes) (i - to) 0 k ∙ getD-drop from bytes (i - to) 0 ∙ ap (λ (j : ℕ). getD bytes j 0) e
 
-    go : (i : ℕ) → i < length xs → (a b : Bool) → leb (3 + place) (start + i) ≡ a → ltb (start + i) (3 + place + length bytes) ≡ b
-        → getD (splice to ys xs) i 0 ≡ cond (a && b) (getD bytes (start + i - (3 + place)) 0) (getD xs i 0)
+    go : (i : ℕ) → i < length xs → (a b : Bool) → leb (head + place) (start + i) ≡ a → ltb (start + i) (head + place + length bytes) ≡ b
+        → getD (splice to ys xs) i 0 ≡ cond (a && b) (getD bytes (start + i - (head + place)) 0) (getD xs i 0)
     go i h true true p q =
-        inside i h (omega (arith, leb-true (3 + place) (start + i) p)) (omega (arith, ltb-true (start + i) (3 + place + length bytes) q))
+        inside i h (omega (arith, leb-true (head + place) (start + i) p)) (omega (arith, ltb-true (start + i) (head + place + length bytes) q))
     go i h true false p q =
         splice-after to ys xs i 0
-        (behind first start i (length bytes) (length ys) (omega (arith, ltb-false (start + i) (3 + place + length bytes) q))
-        (most (length xs - to) (length bytes - from) (length ys) length-ys) (omega (arith, leb-true (3 + place) (start + i) p)))
-    go i h false b p q = splice-before to ys xs i 0 (omega (arith, leb-false (3 + place) (start + i) p))
+        (behind first start i (length bytes) (length ys) (omega (arith, ltb-false (start + i) (head + place + length bytes) q))
+        (most (length xs - to) (length bytes - from) (length ys) length-ys) (omega (arith, leb-true (head + place) (start + i) p)))
+    go i h false b p q = splice-before to ys xs i 0 (omega (arith, leb-false (head + place) (start + i) p))
 
 -- none of the patch's bytes lies in the part
-laid-none : (place : ℕ) (bytes : List ℕ) (start : ℕ) (xs : List ℕ)
-    → min (length xs - (place + 3 - start)) (length bytes - (start - (place + 3))) ≡ 0 → xs ≡ tabulate (length xs) (λ i. patched place bytes (getD xs i 0) (start + i))
-laid-none place bytes start xs e =
-    sym (splice-nil (place + 3 - start) xs) ∙ ap (λ (n : ℕ). splice (place + 3 - start) (take n (drop (start - (place + 3)) bytes)) xs) (sym e)
-    ∙ laid place bytes start xs
+laid-none : (head place : ℕ) (bytes : List ℕ) (start : ℕ) (xs : List ℕ)
+    → min (length xs - (place + head - start)) (length bytes - (start - (place + head))) ≡ 0 → xs ≡ tabulate (length xs) (λ i. patched head place bytes (getD xs i 0) (start + i))
+laid-none head place bytes start xs e =
+    sym (splice-nil (place + head - start) xs) ∙ ap (λ (n : ℕ). splice (place + head - start) (take n (drop (start - (place + head)) bytes)) xs) (sym e)
+    ∙ laid head place bytes start xs
 
 -- it ends before the patch's first byte
-pub laid-before : (place : ℕ) (bytes : List ℕ) (start : ℕ) (xs : List ℕ) (to : ℕ) → to ≡ place + 3 - start → length xs ≤ to
-    → xs ≡ tabulate (length xs) (λ i. patched place bytes (getD xs i 0) (start + i))
-laid-before place bytes start xs to e h = laid-none place bytes start xs (none (length xs) (place + 3 - start) (length bytes - (start - (place + 3))) (omega (arith, e, h)))
+pub laid-before : (head place : ℕ) (bytes : List ℕ) (start : ℕ) (xs : List ℕ) (to : ℕ) → to ≡ place + head - start → length xs ≤ to
+    → xs ≡ tabulate (length xs) (λ i. patched head place bytes (getD xs i 0) (start + i))
+laid-before head place bytes start xs to e h = laid-none head place bytes start xs (none (length xs) (place + head - start) (length bytes - (start - (place + head))) (omega (arith, e, h)))
   where
     none : (n a b : ℕ) → n ≤ a → min (n - a) b ≡ 0
     none n a b l = omega arith
 
 -- or begins behind its last
-pub laid-after : (place : ℕ) (bytes : List ℕ) (start : ℕ) (xs : List ℕ) (from : ℕ) → from ≡ start - (place + 3) → length bytes ≤ from
-    → xs ≡ tabulate (length xs) (λ i. patched place bytes (getD xs i 0) (start + i))
-laid-after place bytes start xs from e h = laid-none place bytes start xs (none (length bytes) (start - (place + 3)) (length xs - (place + 3 - start)) (omega (arith, e, h)))
+pub laid-after : (head place : ℕ) (bytes : List ℕ) (start : ℕ) (xs : List ℕ) (from : ℕ) → from ≡ start - (place + head) → length bytes ≤ from
+    → xs ≡ tabulate (length xs) (λ i. patched head place bytes (getD xs i 0) (start + i))
+laid-after head place bytes start xs from e h = laid-none head place bytes start xs (none (length bytes) (start - (place + head)) (length xs - (place + head - start)) (omega (arith, e, h)))
   where
     none : (n a b : ℕ) → n ≤ a → min b (n - a) ≡ 0
     none n a b l = omega arith
@@ -195,11 +195,11 @@ run-right a b to from n e h = omega (arith, min-right (a - to) (b - from) n e)
     min-right i j k q = omega arith
 
 -- one run of them does: the part was lent from `to` on and came back as ys
-pub laid-some : (place : ℕ) (bytes : List ℕ) (start : ℕ) (xs : List ℕ) (to from n : ℕ) (ys : List ℕ)
-    → to ≡ place + 3 - start → from ≡ start - (place + 3) → to < length xs → from < length bytes → n ≡ min (length xs - to) (length bytes - from)
+pub laid-some : (head place : ℕ) (bytes : List ℕ) (start : ℕ) (xs : List ℕ) (to from n : ℕ) (ys : List ℕ)
+    → to ≡ place + head - start → from ≡ start - (place + head) → to < length xs → from < length bytes → n ≡ min (length xs - to) (length bytes - from)
     → ys ≡ take (from + n - from) (drop from bytes)
-    → take to xs ++ (ys ++ drop (to + n - to) (drop to xs)) ≡ tabulate (length xs) (λ i. patched place bytes (getD xs i 0) (start + i))
-laid-some place bytes start xs to from n ys et ef lt lf en q =
+    → take to xs ++ (ys ++ drop (to + n - to) (drop to xs)) ≡ tabulate (length xs) (λ i. patched head place bytes (getD xs i 0) (start + i))
+laid-some head place bytes start xs to from n ys et ef lt lf en q =
     let k : to + n - to ≡ n = add-sub-cancel-left to n in
     let m : n ≡ length (take n (drop from bytes)) =
     sym (ap length (sym (run-part from n bytes)) ∙ run-length from n bytes (run-right (length xs) (length bytes) to from n en lf)) in
@@ -207,7 +207,7 @@ laid-some place bytes start xs to from n ys et ef lt lf en q =
     ∙ spliced to xs (run-left (length xs) (length bytes) to from n en lt) m (q ∙ run-part from n bytes)
     ∙ ap (λ (j : ℕ). splice to (take j (drop from bytes)) xs) en
     ∙ (λ i. splice (et i) (take (min (length xs - et i) (length bytes - ef i)) (drop (ef i) bytes)) xs)
-    ∙ laid place bytes start xs
+    ∙ laid head place bytes start xs
 
 -- ---- two parts lent one after the other: `&mut xs[..k]` came back as ys, and then `&mut xs[k..]` as zs
 
@@ -227,12 +227,3 @@ module _ (k : ℕ) (xs ys : List ℕ) where
       let n : length (ys ++ drop k xs) - k ≡ length (drop k xs) = omega (arith, joined h e, length-drop k xs) in
       (λ i. take-at ys (drop k xs) k e i ++ (zs ++ drop (n i) (d i))) ∙ ap (λ (r : List ℕ). ys ++ (zs ++ r)) (drop-length (drop k xs))
       ∙ ap (λ (r : List ℕ). ys ++ r) (append-nil zs)
-
--- ---- three bytes
-
-pub three-set : (xs : List ℕ) (a b c : ℕ) → length xs ≡ 3 → set (set (set xs 0 a) 1 b) 2 c ≡ a ∷ b ∷ c ∷ []
-three-set [] a b c e = absurd (omega arith)
-three-set (x ∷ []) a b c e = absurd (omega arith)
-three-set (x ∷ y ∷ []) a b c e = absurd (omega arith)
-three-set (x ∷ y ∷ z ∷ []) a b c e = refl
-three-set (x ∷ y ∷ z ∷ w ∷ xs) a b c e = absurd (omega arith)

@@ -13,15 +13,18 @@ use lib.ListN.{length, getD, take, drop}
 use borrow.Author.Tests.{eq-eqb, ne-eqb}
 use Rattle.geometry.specs.Parts.{slotRoom, pageRoom}
 use Rattle.slices.specs.Lists.{tabulate, splice}
-use Rattle.slices.proofs.Laws.{length-tabulate, getD-tabulate, tabulate-same, tabulate-append, tabulate-part, length-splice, spliced, splice-part, run-length, run-part}
+use Rattle.slices.proofs.Laws.{length-tabulate, getD-tabulate, tabulate-getD, tabulate-same, tabulate-append, tabulate-part, length-splice, spliced, splice-part, run-length, run-part}
 use Rattle.geometry.specs.declared.Geometry.{Geometry}
+use Rattle.slots.specs.declared.Aim.{Aim}
+use Rattle.slots.specs.declared.Period.{Period}
 use Rattle.slots.specs.declared.Kind.{Kind}
 use Rattle.slots.specs.declared.Kind.the-variants.{Patch}
 use Rattle.slots.specs.declared.Verdict.{Verdict}
-use Rattle.slots.specs.declared.Verdict.the-variants.{Good, Blank, Beyond}
-use Rattle.slots.specs.Records.{changed, image, patched}
+use Rattle.slots.specs.declared.Verdict.the-variants.{Good, Blank, Beyond, Outside}
+use Rattle.slots.specs.Records.{headSize, versionOf, headOf, versionIn, changed, image, patched}
 use Rattle.slots.specs.Driver.{Holding, storedBy, judged, readIn}
 use Rattle.records.specs.Held.{held, Pages}
+use Rattle.slots.proofs.Image.{head-length, head-most, image-head, image-byte}
 use Rattle.page_data.proofs.Bytes.{rest-long, two-parts}
 
 -- ---- where a page lies
@@ -39,7 +42,7 @@ page-least size page h =
     let n : 1 ≤ suc page = omega arith in
     mul-le-mul h n
 
-pub page-apart : (size page : ℕ) → 64 ≤ size → 0 < size * page → 3 ≤ size * page
+pub page-apart : (size page : ℕ) → 64 ≤ size → 0 < size * page → 11 ≤ size * page
 page-apart size zero h l = absurd (omega arith)
 page-apart size (suc page) h l = omega (arith, page-least size page h)
 
@@ -49,52 +52,63 @@ page-zero size (suc page) h e = absurd (omega (arith, page-least size page h))
 
 -- ---- a put
 
-image-body : (recipe : List ℕ) (n : ℕ) → 3 ≤ n → image recipe n ≡ getD recipe (n - 3) 0
-unfolding image
-image-body recipe n h = simp (ne-eqb n 0 (λ e. omega arith), ne-eqb n 1 (λ e. omega arith), ne-eqb n 2 (λ e. omega arith))
-
 -- a slot's first page: the head, and then the recipe
-image-first : (recipe : List ℕ) (n start : ℕ) → 3 ≤ n → start ≡ 0
-    → (1 ∷ length recipe / 256 % 256 ∷ length recipe % 256 ∷ []) ++ tabulate (n - 3) (λ i. getD recipe (0 + i) 0) ≡ tabulate n (λ i. image recipe (start + i))
-unfolding tabulate image
-image-first recipe n start h e =
-    let k : 3 + (n - 3) ≡ n = omega arith in
-    ap (λ (l : List ℕ). (1 ∷ length recipe / 256 % 256 ∷ length recipe % 256 ∷ []) ++ l)
-    (tabulate-same (n - 3) (λ i. getD recipe (0 + i) 0) (λ i. image recipe (0 + (3 + i))) (λ i l. body i))
-    ∙ sym (tabulate-append 3 (n - 3) (λ i. image recipe (0 + i)))
-    ∙ (λ i. tabulate (k i) (λ j. image recipe (sym e i + j)))
+image-first : (period : Period) (recipe : List ℕ) (n start : ℕ) → headSize (versionOf period) ≤ n → start ≡ 0
+    → headOf period (length recipe) ++ tabulate (n - headSize (versionOf period)) (λ i. getD recipe (0 + i) 0) ≡ tabulate n (λ i. image period recipe (start + i))
+image-first period recipe n start h e =
+    (λ i. heads i ++ tabulate-same (n - k) (λ i. getD recipe (0 + i) 0) (λ i. image period recipe (0 + (k + i))) (λ i l. body i) i)
+    ∙ sym (tabulate-append k (n - k) (λ i. image period recipe (0 + i)))
+    ∙ (λ i. tabulate (all i) (λ j. image period recipe (sym e i + j)))
   where
-    body : (i : ℕ) → getD recipe (0 + i) 0 ≡ image recipe (0 + (3 + i))
+    k : ℕ
+    k = headSize (versionOf period)
+
+    head : List ℕ
+    head = headOf period (length recipe)
+
+    all : k + (n - k) ≡ n
+    all = omega arith
+
+    heads : head ≡ tabulate k (λ i. image period recipe (0 + i))
+    heads =
+        sym (tabulate-getD head 0) ∙ ap (λ (m : ℕ). tabulate m (λ i. getD head i 0)) (head-length period (length recipe))
+        ∙ tabulate-same k (λ i. getD head i 0) (λ i. image period recipe (0 + i)) (λ i l. let z : i ≡ 0 + i = omega arith in sym (image-head period recipe i l) ∙ ap (image period recipe) z)
+
+    body : (i : ℕ) → getD recipe (0 + i) 0 ≡ image period recipe (0 + (k + i))
     body i =
-        let k : 0 + i ≡ 0 + (3 + i) - 3 = omega arith in
-        ap (λ (j : ℕ). getD recipe j 0) k ∙ sym (image-body recipe (0 + (3 + i)) (omega arith))
+        let m : 0 + i ≡ 0 + (k + i) - k = omega arith in
+        ap (λ (j : ℕ). getD recipe j 0) m ∙ sym (image-byte period recipe (0 + (k + i)) (omega arith))
 
 -- as its two parts come back
-pub image-made : (recipe part ys zs : List ℕ) (start : ℕ) → 3 ≤ length part → start ≡ 0
-    → ys ≡ 1 ∷ length recipe / 256 % 256 ∷ length recipe % 256 ∷ []
-    → zs ≡ tabulate (length (take (length (ys ++ drop 3 part) - 3) (drop 3 (ys ++ drop 3 part)))) (λ i. getD recipe (0 + i) 0)
-    → take 3 (ys ++ drop 3 part) ++ (zs ++ drop (length (ys ++ drop 3 part) - 3) (drop 3 (ys ++ drop 3 part))) ≡ tabulate (length part) (λ i. image recipe (start + i))
-image-made recipe part ys zs start h e q r =
-    let m : length (take (length (ys ++ drop 3 part) - 3) (drop 3 (ys ++ drop 3 part))) ≡ length part - 3 = omega (arith, rest-long 3 part ys h (ap length q)) in
-    two-parts 3 part ys zs h (ap length q) ∙ (λ i. q i ++ (r ∙ ap (λ (k : ℕ). tabulate k (λ j. getD recipe (0 + j) 0)) m) i) ∙ image-first recipe (length part) start h e
+pub image-made : (period : Period) (recipe part ys zs : List ℕ) (start k : ℕ) → 11 ≤ length part → k ≡ headSize (versionOf period) → start ≡ 0
+    → ys ≡ headOf period (length recipe)
+    → zs ≡ tabulate (length (take (length (ys ++ drop k part) - k) (drop k (ys ++ drop k part)))) (λ i. getD recipe (0 + i) 0)
+    → take k (ys ++ drop k part) ++ (zs ++ drop (length (ys ++ drop k part) - k) (drop k (ys ++ drop k part))) ≡ tabulate (length part) (λ i. image period recipe (start + i))
+image-made period recipe part ys zs start k h w e q r =
+    let l : k ≤ length part = omega (arith, w, head-most period) in
+    let y : length ys ≡ k = ap length q ∙ head-length period (length recipe) ∙ sym w in
+    let m : length (take (length (ys ++ drop k part) - k) (drop k (ys ++ drop k part))) ≡ length part - headSize (versionOf period) = omega (arith, rest-long k part ys l y, w) in
+    two-parts k part ys zs l y ∙ (λ i. q i ++ (r ∙ ap (λ (j : ℕ). tabulate j (λ i. getD recipe (0 + i) 0)) m) i)
+    ∙ image-first period recipe (length part) start (omega (arith, head-most period)) e
 
 -- another page
-pub image-later : (recipe : List ℕ) (n start : ℕ) → 3 ≤ start
-    → tabulate n (λ i. getD recipe (start - 3 + i) 0) ≡ tabulate n (λ i. image recipe (start + i))
-image-later recipe n start h =
-    tabulate-same n (λ i. getD recipe (start - 3 + i) 0) (λ i. image recipe (start + i))
-    (λ i l. let k : start - 3 + i ≡ start + i - 3 = omega arith in ap (λ (j : ℕ). getD recipe j 0) k ∙ sym (image-body recipe (start + i) (omega arith)))
+pub image-later : (period : Period) (recipe : List ℕ) (n start k : ℕ) → k ≡ headSize (versionOf period) → 11 ≤ start
+    → tabulate n (λ i. getD recipe (start - k + i) 0) ≡ tabulate n (λ i. image period recipe (start + i))
+image-later period recipe n start k w h =
+    tabulate-same n (λ i. getD recipe (start - k + i) 0) (λ i. image period recipe (start + i))
+    (λ i l. let m : start - k + i ≡ start + i - headSize (versionOf period) = omega (arith, w, head-most period) in ap (λ (j : ℕ). getD recipe j 0) m
+    ∙ sym (image-byte period recipe (start + i) (omega (arith, head-most period))))
 
 -- ---- a patch: the part of the bytes read that begins at `start` came back as `part`
 
-module _ (place : ℕ) (payload staged : List ℕ) (start size : ℕ) (fits : start + size ≤ length staged)
+module _ (aim : Aim) (payload staged : List ℕ) (start size : ℕ) (fits : start + size ≤ length staged)
     (part : List ℕ) (read : part ≡ take (start + size - start) (drop start staged)) where
   as-read : part ≡ tabulate size (λ i. getD staged (start + i) 0)
   as-read = read ∙ run-part start size staged ∙ sym (tabulate-part size start staged 0 fits)
 
   -- what an 84 carries, by the verdict
   abbrev laden : Verdict → List ℕ
-  laden v = tabulate size (λ i. storedBy Patch (held v place payload staged) (start + i))
+  laden v = tabulate size (λ i. storedBy Patch (held v aim payload staged) (start + i))
 
   -- under 12 and 13 the page stays
   pub patch-blank : {v : Verdict} → v ≡ Blank → part ≡ laden v
@@ -105,14 +119,19 @@ module _ (place : ℕ) (payload staged : List ℕ) (start size : ℕ) (fits : st
   unfolding storedBy changed
   patch-beyond e = as-read ∙ ap (λ (v : Verdict). laden v) (sym e)
 
-  -- else the patch is laid over it
-  pub patch-good : {v : Verdict} (ys : List ℕ) → v ≡ Good → ys ≡ tabulate (length part) (λ i. patched place payload (getD part i 0) (start + i)) → ys ≡ laden v
+  pub patch-outside : {v : Verdict} → v ≡ Outside → part ≡ laden v
   unfolding storedBy changed
-  patch-good ys e q =
-      q ∙ ap (λ (n : ℕ). tabulate n (λ i. patched place payload (getD part i 0) (start + i))) long
-      ∙ tabulate-same size (λ i. patched place payload (getD part i 0) (start + i))
-      (λ i. patched place payload (getD staged (start + i) 0) (start + i))
-      (λ i l j. patched place payload (byte i l j) (start + i))
+  patch-outside e = as-read ∙ ap (λ (v : Verdict). laden v) (sym e)
+
+  -- else the patch is laid over it
+  pub patch-good : {v : Verdict} (head : ℕ) (ys : List ℕ) → v ≡ Good → head ≡ headSize (versionIn staged)
+      → ys ≡ tabulate (length part) (λ i. patched head (aim .place) payload (getD part i 0) (start + i)) → ys ≡ laden v
+  unfolding storedBy changed
+  patch-good head ys e w q =
+      q ∙ ap (λ (n : ℕ). tabulate n (λ i. patched head (aim .place) payload (getD part i 0) (start + i))) long
+      ∙ tabulate-same size (λ i. patched head (aim .place) payload (getD part i 0) (start + i))
+      (λ i. patched (headSize (versionIn staged)) (aim .place) payload (getD staged (start + i) 0) (start + i))
+      (λ i l j. patched (w j) (aim .place) payload (byte i l j) (start + i))
       ∙ ap (λ (v : Verdict). laden v) (sym e)
     where
       long : length part ≡ size
@@ -123,7 +142,7 @@ module _ (place : ℕ) (payload staged : List ℕ) (start size : ℕ) (fits : st
 
 -- ---- a reply to D2: the page came back as ys
 
-module _ {g : Geometry} (s : Pages g) (kind : Kind) (v : Verdict) (place page : ℕ) (payload staged : List ℕ) (start : ℕ)
+module _ {g : Geometry} (s : Pages g) (kind : Kind) (v : Verdict) (aim : Aim) (page : ℕ) (payload staged : List ℕ) (start : ℕ)
     (at : start ≡ g .size * (page % 8)) (long : length staged ≡ slotRoom)
     (reply ys : List ℕ) (copied : ys ≡ tabulate (length (take (start + g .size - start) (drop start staged))) (λ i. getD reply (8 + i) 255)) where
   fits : start + g .size ≤ length staged
@@ -150,27 +169,27 @@ module _ {g : Geometry} (s : Pages g) (kind : Kind) (v : Verdict) (place page : 
 
   -- the data after the reply, whose verdict is this
   abbrev left : Verdict → Holding
-  left w = record { payload = payload; place = place; staged = splice (g .size * (page % 8)) told staged; verdict = w }
+  left w = record { payload = payload; aim = aim; staged = splice (g .size * (page % 8)) told staged; verdict = w }
 
   abbrev judging : Bool → Holding
-  judging b = left (cond b (judged g kind (held v place payload staged) told) v)
+  judging b = left (cond b (judged g kind (held v aim payload staged) told) v)
 
-  read-as : (w : Verdict) (b : Bool) → eqb (page % 8) 0 ≡ b → w ≡ cond b (judged g kind (held v place payload staged) told) v
-      → held w place payload back ≡ readIn g kind page (held v place payload staged) told
+  read-as : (w : Verdict) (b : Bool) → eqb (page % 8) 0 ≡ b → w ≡ cond b (judged g kind (held v aim payload staged) told) v
+      → held w aim payload back ≡ readIn g kind page (held v aim payload staged) told
   unfolding readIn
   read-as w b z e =
-      (λ i. held (e i) place payload ((back-spliced ∙ ap (λ (a : ℕ). splice a told staged) at) i)) ∙ ap (λ (c : Bool). judging c) (sym z)
+      (λ i. held (e i) aim payload ((back-spliced ∙ ap (λ (a : ℕ). splice a told staged) at) i)) ∙ ap (λ (c : Bool). judging c) (sym z)
 
   -- a slot's first page is judged by its bytes, which stand at the beginning
-  pub read-first : (w : Verdict) → start ≡ 0 → w ≡ judged g kind (held v place payload staged) (take (g .size) back)
-      → held w place payload back ≡ readIn g kind page (held v place payload staged) told
+  pub read-first : (w : Verdict) → start ≡ 0 → w ≡ judged g kind (held v aim payload staged) (take (g .size) back)
+      → held w aim payload back ≡ readIn g kind page (held v aim payload staged) told
   read-first w z e =
       let p : page % 8 ≡ 0 = page-zero (g .size) (page % 8) (s .some) (sym at ∙ z) in
       let t : take (g .size) back ≡ told =
       (λ i. take (sym length-told i) ((back-spliced ∙ ap (λ (a : ℕ). splice a told staged) z) i))
       ∙ splice-part 0 told staged (omega (arith, length-told, fits)) in
-      read-as w _ (eq-eqb (page % 8) 0 p) (e ∙ ap (λ (l : List ℕ). judged g kind (held v place payload staged) l) t)
+      read-as w _ (eq-eqb (page % 8) 0 p) (e ∙ ap (λ (l : List ℕ). judged g kind (held v aim payload staged) l) t)
 
   -- no other page is
-  pub read-later : (start ≡ 0 → ⊥) → held v place payload back ≡ readIn g kind page (held v place payload staged) told
+  pub read-later : (start ≡ 0 → ⊥) → held v aim payload back ≡ readIn g kind page (held v aim payload staged) told
   read-later z = read-as v _ (ne-eqb (page % 8) 0 (λ e. z (at ∙ ap (λ (n : ℕ). g .size * n) e ∙ mul-zero (g .size)))) refl

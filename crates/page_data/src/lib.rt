@@ -2,15 +2,16 @@
 // Internal to this repository: a caller here meets each `requires`; no entry point is in this crate.
 ghost use mathlib.Core.Path.{_≡_};
 ghost use Prim.Native.Nat.{ℕ, _+_, _-_, _*_, _/_, _%_, _≤_, _<_};
-ghost use mathlib.Core.List.{[], _∷_};
-ghost use lib.ListN.{length, getD};
+ghost use lib.ListN.{length, getD, take};
 ghost use Rattle.geometry.specs.Parts.{slotRoom};
 ghost use Rattle.slices.specs.Lists.{tabulate};
-ghost use Rattle.slots.specs.Records.{image, patched};
+ghost use Rattle.slots.specs.Records.{headSize, versionOf, headOf, image, patched};
 ghost use Rattle.slots.specs.Driver.{storedBy, readIn};
 ghost use Rattle.records.specs.Held.{held, Pages};
 use geometry::Geometry;
+use slots::Aim;
 use slots::Kind;
+use slots::Period;
 use slots::Verdict;
 
 // ---- leaves
@@ -53,45 +54,71 @@ fn excess(a: usize, b: usize) -> usize
 // Where a page of the part begins among its slot's bytes.
 fn page_start(g: Geometry, page: usize) -> usize
     requires { ⌜ Pages g ⌝ }
-    ensures { λ r. ⌜ (r ≡ g .size * (page % 8)) × (r + g .size ≤ slotRoom) × (0 < r → 3 ≤ r) ⌝ }
+    ensures { λ r. ⌜ (r ≡ g .size * (page % 8)) × (r + g .size ≤ slotRoom) × (0 < r → 11 ≤ r) ⌝ }
 {
     g.size * (page % 8)
 }
 
 // ---- the page of an 84
 
-// The three bytes before a recipe of n bytes.
-fn write_head(n: usize, part: &mut [u8])
-    requires { ⌜ length (now part) ≡ 3 ⌝ }
-    ensures { λ _. ⌜ now (part .exit) ≡ 1 ∷ n / 256 % 256 ∷ n % 256 ∷ [] ⌝ }
+// The lowest byte of a number.
+fn low_byte(n: usize) -> u8
+    ensures { λ r. ⌜ r ≡ n % 256 ⌝ }
 {
-    part[0] = 1;
-    part[1] = (n / 256 % 256) as u8;
-    part[2] = (n % 256) as u8;
+    (n % 256) as u8
+}
+
+// The head of a recipe of n bytes, and zeros up to the longest head.
+fn head_bytes(period: Period, n: usize) -> [u8; 11]
+    ensures { λ r. ⌜ take (headSize (versionOf period)) r ≡ headOf period n ⌝ }
+{
+    let a = low_byte(n / 256);
+    let b = low_byte(n);
+    match period {
+        Period::Always => [1, a, b, 0, 0, 0, 0, 0, 0, 0, 0],
+        Period::Days {
+            first: first,
+            last: last,
+        } => [
+            2,
+            a,
+            b,
+            low_byte(first / 16777216),
+            low_byte(first / 65536),
+            low_byte(first / 256),
+            low_byte(first),
+            low_byte(last / 16777216),
+            low_byte(last / 65536),
+            low_byte(last / 256),
+            low_byte(last),
+        ],
+    }
 }
 
 // The page of the slot in which the recipe is stored; it begins at index `start` of the slot.
-fn load_image(start: usize, recipe: &[u8], part: &mut [u8])
-    requires { ⌜ (0 < start → 3 ≤ start) × (3 ≤ length (now part)) ⌝ }
-    ensures { λ _. ⌜ now (part .exit) ≡ tabulate (length (now (part .entry))) (λ i. image (now (recipe .entry)) (start + i)) ⌝ }
+fn load_image(start: usize, period: Period, recipe: &[u8], part: &mut [u8])
+    requires { ⌜ (0 < start → 11 ≤ start) × (11 ≤ length (now part)) ⌝ }
+    ensures { λ _. ⌜ now (part .exit) ≡ tabulate (length (now (part .entry))) (λ i. image period (now (recipe .entry)) (start + i)) ⌝ }
 {
+    let head = records::head_size(records::version_of(period));
     if start == 0 {
-        write_head(recipe.len(), &mut part[..3]);
-        copy_from(&mut part[3..], recipe, 0, 0);
+        let bytes = head_bytes(period, recipe.len());
+        slices::copy(&mut part[..head], &bytes[..head]);
+        copy_from(&mut part[head..], recipe, 0, 0);
         return;
     }
-    copy_from(part, recipe, start - 3, 0);
+    copy_from(part, recipe, start - head, 0);
 }
 
-// The patch's bytes are laid over a part of the slot that begins at index `start`.
-fn lay_patch(place: usize, bytes: &[u8], start: usize, part: &mut [u8])
-    requires { ⌜ start + length (now part) ≤ slotRoom ⌝ }
-    ensures { λ _. ⌜ now (part .exit) ≡ tabulate (length (now (part .entry))) (λ i. patched place (now (bytes .entry)) (getD (now (part .entry)) i 0) (start + i)) ⌝ }
+// The patch's bytes are laid over a part of the slot that begins at index `start`; the body begins at index `head`.
+fn lay_patch(head: usize, place: usize, bytes: &[u8], start: usize, part: &mut [u8])
+    requires { ⌜ (head ≤ 11) × (start + length (now part) ≤ slotRoom) ⌝ }
+    ensures { λ _. ⌜ now (part .exit) ≡ tabulate (length (now (part .entry))) (λ i. patched head place (now (bytes .entry)) (getD (now (part .entry)) i 0) (start + i)) ⌝ }
 {
     if 2112 <= place {
         return;
     }
-    let first = place + 3;
+    let first = place + head;
     let to = excess(first, start);
     let from = excess(start, first);
     if part.len() <= to {
@@ -109,21 +136,22 @@ fn lay_patch(place: usize, bytes: &[u8], start: usize, part: &mut [u8])
 // The page as a patch changes it; under 12 or 13 as it was read.
 fn load_patched(
     verdict: Verdict,
-    place: usize,
+    aim: Aim,
     start: usize,
     payload: &[u8],
     staged: &[u8],
     part: &mut [u8],
 )
     requires { ⌜ (length (now staged) ≡ slotRoom) × (start + length (now part) ≤ slotRoom) ⌝ }
-    ensures { λ _. ⌜ now (part .exit) ≡ tabulate (length (now (part .entry))) (λ i. storedBy Kind.Patch (held verdict place (now (payload .entry)) (now (staged .entry))) (start + i)) ⌝ }
+    ensures { λ _. ⌜ now (part .exit) ≡ tabulate (length (now (part .entry))) (λ i. storedBy Kind.Patch (held verdict aim (now (payload .entry)) (now (staged .entry))) (start + i)) ⌝ }
 {
     let e = start + part.len();
     slices::copy(part, &staged[start..e]);
     match verdict {
-        Verdict::Good => lay_patch(place, payload, start, part),
+        Verdict::Good => lay_patch(records::body_start(staged), aim.place, payload, start, part),
         Verdict::Blank => {}
         Verdict::Beyond => {}
+        Verdict::Outside => {}
     }
 }
 
@@ -132,19 +160,20 @@ pub fn load_page(
     g: Geometry,
     kind: Kind,
     verdict: Verdict,
-    place: usize,
+    aim: Aim,
     page: usize,
     payload: &[u8],
     staged: &[u8],
     part: &mut [u8],
 )
     requires { ⌜ (Pages g) × (length (now staged) ≡ slotRoom) × (length (now part) ≡ g .size) ⌝ }
-    ensures { λ _. ⌜ now (part .exit) ≡ tabulate (g .size) (λ i. storedBy kind (held verdict place (now (payload .entry)) (now (staged .entry))) (g .size * (page % 8) + i)) ⌝ }
+    ensures { λ _. ⌜ now (part .exit) ≡ tabulate (g .size) (λ i. storedBy kind (held verdict aim (now (payload .entry)) (now (staged .entry))) (g .size * (page % 8) + i)) ⌝ }
 {
     let start = page_start(g, page);
+    let period = aim.period;
     match kind {
-        Kind::Put => load_image(start, payload, part),
-        Kind::Patch => load_patched(verdict, place, start, payload, staged, part),
+        Kind::Put => load_image(start, period, payload, part),
+        Kind::Patch => load_patched(verdict, aim, start, payload, staged, part),
         Kind::Get => slices::fill(part, 0),
         Kind::Wipe => slices::fill(part, 0),
     }
@@ -157,21 +186,21 @@ pub fn read_page(
     g: Geometry,
     kind: Kind,
     verdict: Verdict,
-    place: usize,
+    aim: Aim,
     page: usize,
     payload: &[u8],
     reply: &[u8],
     staged: &mut [u8],
 ) -> Verdict
     requires { ⌜ (Pages g) × (length (now staged) ≡ slotRoom) ⌝ }
-    ensures { λ r. ⌜ held r place (now (payload .entry)) (now (staged .exit)) ≡ readIn g kind page (held verdict place (now (payload .entry)) (now (staged .entry))) (tabulate (g .size) (λ i. getD (now (reply .entry)) (8 + i) 255)) ⌝ }
+    ensures { λ r. ⌜ held r aim (now (payload .entry)) (now (staged .exit)) ≡ readIn g kind page (held verdict aim (now (payload .entry)) (now (staged .entry))) (tabulate (g .size) (λ i. getD (now (reply .entry)) (8 + i) 255)) ⌝ }
 {
     let size = g.size;
     let start = page_start(g, page);
     let e = start + size;
     copy_from(&mut staged[start..e], reply, 8, 255);
     if start == 0 {
-        return records::judge(g, kind, place, payload, &staged[..size]);
+        return records::judge(g, kind, aim, payload, &staged[..size]);
     }
     verdict
 }

@@ -1,14 +1,14 @@
-// The tests of a call before any frame: 3 to 7, and raw's 2, in the order of their numbers. Done where none is met.
+// The tests of a call before any frame: 3 to 7 and 14, and raw's 2, in the order of their numbers, 14 behind 5. Done where none is met.
 // Internal to this repository: a caller here meets each `requires`; no entry point is in this crate.
 ghost use mathlib.Core.Path.{_≡_};
-ghost use mathlib.Core.Bool.{_||_};
 ghost use Prim.Native.Nat.{max};
 ghost use Rattle.geometry.specs.Parts.{Sized, partOf};
-ghost use Rattle.slots.specs.Refusals.{badScript, isOver, isShort, lateRefusal, callRefusal, rawRefusal};
+ghost use Rattle.slots.specs.Refusals.{flawsIn, badScript, lateRefusal, callRefusal, rawRefusal};
 ghost use Rattle.slots.specs.Lists.{asking};
 ghost use Rattle.refusals.specs.Largest.{largestIn};
 use geometry::Geometry;
 use geometry::Part;
+use slots::Detail;
 use slots::Kind;
 use state::Answer;
 
@@ -74,7 +74,7 @@ pub fn call_refusal(
     kind: Kind,
     slot: usize,
     limit: usize,
-    place: usize,
+    detail: Detail,
     n: usize,
     lent: usize,
     log: usize,
@@ -82,9 +82,9 @@ pub fn call_refusal(
     junk: usize,
 ) -> Answer
     requires { ⌜ (Sized g array) × (partOf array ≡ Part.Known g) ⌝ }
-    ensures { λ r. ⌜ r ≡ callRefusal g array (asking kind slot limit) (isOver kind g place n || isShort kind g lent) log (now (script .entry)) junk ⌝ }
+    ensures { λ r. ⌜ r ≡ callRefusal g array (asking kind slot limit) (flawsIn kind g detail n lent) log (now (script .entry)) junk ⌝ }
 {
-    let a = starts::refusal(array, kind, slot, limit, place, n, lent);
+    let a = starts::refusal(array, kind, slot, limit, detail, n, lent);
     if state::number(a) != 0 {
         return a;
     }

@@ -64,7 +64,7 @@ unfolding unsealedFrom
 from-small g r zero s = omega arith
 from-small g r (suc n) s = omega (arith, pow-suc 2 n, from-small g r n (s + 1), bit (sealed g r s))
 
--- .. and as many as a register serves are 17 at most
+-- .. and those of as many sectors as a register serves are below 2 ^ 17
 pub from-most : (g : Geometry) (r : Registers) (n s : ℕ) → n ≤ registerRoom + 1 → unsealedFrom g r n s < 131072
 from-most g r n s l = omega (arith, from-small g r n s, pow-mono {i = n} {j = 17} l)
 

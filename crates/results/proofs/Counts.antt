@@ -1,13 +1,11 @@
--- n of a get is the length in the record that it read: a record's length is at most the limit, which is at most 2,109.
+-- n of a get is the length in the record that it read: a record's length is at most its version's limit, which is at most 2,109.
 -- Assumes nothing.
-use Prim.Native.Nat.{ℕ, _≤_, _-_}
+use Prim.Native.Nat.{ℕ, _≤_, _+_, _-_, _*_}
 use native.Mathlib.Omega.{arith}
 use mathlib.Core.Path.{_≡_, sym, ap, _∙_}
 use mathlib.Core.Bool.{Bool, true, false, cond}
 use mathlib.Core.List.{List}
-use lib.ListN.{getD}
-use lib.Dec.{eqb, leb}
-use borrow.Author.Tests.{leb-true}
+use lib.Dec.{eqb}
 use Rattle.geometry.specs.declared.Geometry.{Geometry}
 use Rattle.geometry.specs.declared.Part.the-variants.{Known}
 use Rattle.geometry.specs.Parts.{partOf, slotRoom}
@@ -17,9 +15,10 @@ use Rattle.slots.specs.declared.Kind.{Kind}
 use Rattle.slots.specs.declared.Kind.the-variants.{Put, Patch, Get, Wipe}
 use Rattle.slots.specs.declared.Told.{Told}
 use Rattle.slots.specs.declared.Told.the-variants.{Running, Answered}
-use Rattle.slots.specs.Records.{slotSize, limitOf, lengthIn, isRecord}
+use Rattle.slots.specs.Records.{lengthIn, isRecord}
 use Rattle.slots.specs.Calls.{countBy, countOf}
-use Rattle.slots.proofs.Places.{second}
+use Rattle.slots.specs.Exchanges.{Begins, plain, termed}
+use Rattle.slots.proofs.Verdicts.{record-true}
 use Rattle.slots.proofs.Accepted.{picked}
 use Rattle.records.proofs.Parts.{part-pages}
 use Rattle.worlds.specs.Step.{toldIn, countTold}
@@ -44,10 +43,14 @@ told-few (Answered a) k staged = go (eqb (numberOf a) 0)
 -- what is told of a record
 pub record-count : (g : Geometry) (d : Driver) (staged : List ℕ) {t : Told} {m : ℕ} → partOf (d .array) ≡ Known g → isRecord g staged ≡ true → t ≡ toldIn d
     → m ≡ countTold t (d .kind) staged → (m ≡ step.countBy (Known g) d staged) × (m ≤ slotRoom - 3)
-unfolding step.countBy isRecord limitOf slotSize
+unfolding step.countBy lengthIn
 record-count g d staged {t} {m} p r e h =
-    let l : lengthIn staged ≤ limitOf g = leb-true (lengthIn staged) (limitOf g) (second (eqb (getD staged 0 0) 1) (leb (lengthIn staged) (limitOf g)) r) in
-    let z = part-pages (d .array) g p in (
+    let z = part-pages (d .array) g p in
+    let l = fits (record-true g staged (omega (arith, z .some)) r) in (
       h ∙ ap (λ (u : Told). countTold u (d .kind) staged) e ∙ sym (picked (isRecord g staged) (countTold (toldIn d) (d .kind) staged) 0 r),
       omega (arith, h, told-few t (d .kind) staged, l, z .most),
     )
+  where
+    fits : Begins g staged → 3 + lengthIn staged ≤ 8 * g .size
+    fits (plain v l) = l
+    fits (termed v l) = omega (arith, l)

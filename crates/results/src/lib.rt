@@ -22,6 +22,7 @@ pub fn with_stage(d: Driver, s: Stage) -> Driver
 {
     let k = d.kind;
     let v = d.verdict;
+    let aim = d.aim;
     let c = d.course;
     let course = Course {
         place: c.place,
@@ -34,7 +35,7 @@ pub fn with_stage(d: Driver, s: Stage) -> Driver
         array: d.array,
         slot: d.slot,
         limit: d.limit,
-        place: d.place,
+        aim: aim,
         kind: k,
         verdict: v,
         course: course,
@@ -81,7 +82,7 @@ fn count_on(g: Geometry, d: Driver, staged: &[u8]) -> usize
     }
 }
 
-// Of a get that has ended with 0 the recipe's length; the recipe stands in the bytes read behind the first three. Else 0.
+// Of a get that has ended with 0 the recipe's length; the recipe stands in the bytes read behind the head. Else 0.
 pub fn count(d: Driver, staged: &[u8; 2112]) -> usize
     ensures { λ r. ⌜ (r ≡ countIn d (now (staged .entry))) × (r ≤ slotRoom - 3) ⌝ }
 {

@@ -2,13 +2,12 @@
 -- is left.
 -- Assumes nothing.
 use mathlib.Core.Path.{_≡_, refl, sym, ap, subst⁻¹, _∙_}
-use mathlib.Core.Bool.{Bool, true, false, cond, not, _&&_}
+use mathlib.Core.Bool.{Bool, true, false, cond, not, _&&_, _||_}
 use mathlib.Core.List.{List, [], _∷_}
-use Prim.Native.Nat.{ℕ, _*_, _/_, _≤_}
+use Prim.Native.Nat.{ℕ, _*_, _/_}
 use native.Mathlib.Omega.{arith}
 use lib.ListN.{length}
-use lib.Dec.{eqb, ltb, leb, lit≤}
-use borrow.Author.Tests.{le-leb, eqb-false}
+use lib.Dec.{eqb, ltb, leb}
 use Rattle.slices.specs.Lists.{over}
 use Rattle.slices.proofs.Laws.{over-nil}
 use Rattle.geometry.specs.declared.Geometry.{Geometry}
@@ -18,6 +17,7 @@ use Rattle.state.specs.Answers.{numberOf}
 use Rattle.state.specs.Memory.{State, chipIn}
 use Rattle.blocks.specs.Block.{encodeChip}
 use Rattle.state.specs.Outcomes.{framed}
+use Rattle.slots.specs.declared.Flaws.{Flaws}
 use Rattle.slots.specs.Plans.{Asked, bound}
 use Rattle.slots.specs.Refusals.{badScript, lateRefusal, earlyRefusal, orElse, callRefusal, rawRefusal}
 use Rattle.slots.specs.Calls.{Out, refused}
@@ -30,36 +30,35 @@ use Rattle.runs.specs.Promises.{keptIn, Leaves, countsOf, Promise, Calle
 
 -- ---- which answers are refusals
 
--- a number up to 7 that is not 0
-pub is-refusal : (a : Answer) → numberOf a ≤ 7 → eqb (numberOf a) 0 ≡ false → isRefusal a ≡ true
-is-refusal a l e =
-    let n = eqb-false (numberOf a) 0 e in
-    λ i. le-leb 1 (numberOf a) (omega (arith, n)) i && le-leb (numberOf a) 7 l i
+-- 0, or a refusal
+abbrev pub Few : Answer → Type 0
+Few a = (eqb (numberOf a) 0 || isRefusal a) ≡ true
 
-abbrev Few : Answer → Type 0
-Few a = numberOf a ≤ 7
+-- the one that is not 0
+pub is-refusal : (a : Answer) → Few a → eqb (numberOf a) 0 ≡ false → isRefusal a ≡ true
+is-refusal a l e = ap (λ (b : Bool). b || isRefusal a) (sym e) ∙ l
 
 late-few : (g : Geometry) (array log least : ℕ) (script : List ℕ) (junk : ℕ) → Few (lateRefusal g array log least script junk)
 unfolding lateRefusal numberOf
 late-few g array log least script junk =
-    cases Few (ltb log least) {x = Answers.Log} (lit≤ tt) (cases Few (badScript g array script junk) {x = Answers.Script} {y = Answers.Done} (lit≤ tt) (lit≤ tt))
+    cases Few (ltb log least) {x = Answers.Log} refl (cases Few (badScript g array script junk) {x = Answers.Script} {y = Answers.Done} refl refl)
 
-early-few : (g : Geometry) (a : Asked) (oversize : Bool) → Few (earlyRefusal g a oversize)
+early-few : (g : Geometry) (a : Asked) (flaws : Flaws) → Few (earlyRefusal g a flaws)
 unfolding earlyRefusal numberOf
-early-few g a oversize =
-    cases Few (leb (g .pages / 8) (a .slot)) {x = Answers.Slot} (lit≤ tt)
-    (cases Few (not (leb 1 (a .limit) && leb (a .limit) 1000)) {x = Answers.Limit} (lit≤ tt)
-    (cases Few oversize {x = Answers.Size} {y = Answers.Done} (lit≤ tt) (lit≤ tt)))
+early-few g a flaws =
+    cases Few (leb (g .pages / 8) (a .slot)) {x = Answers.Slot} refl
+    (cases Few (not (leb 1 (a .limit) && leb (a .limit) 1000)) {x = Answers.Limit} refl
+    (cases Few (flaws .size) {x = Answers.Size} refl (cases Few (flaws .dates) {x = Answers.Dates} {y = Answers.Done} refl refl)))
 
-pub call-few : (g : Geometry) (array : ℕ) (a : Asked) (oversize : Bool) (log : ℕ) (script : List ℕ) (junk : ℕ) → Few (callRefusal g array a oversize log script junk)
+pub call-few : (g : Geometry) (array : ℕ) (a : Asked) (flaws : Flaws) (log : ℕ) (script : List ℕ) (junk : ℕ) → Few (callRefusal g array a flaws log script junk)
 unfolding callRefusal orElse
-call-few g array a oversize log script junk =
-    cases Few (eqb (numberOf (earlyRefusal g a oversize)) 0) (late-few g array log (6 * bound g a) script junk) (early-few g a oversize)
+call-few g array a flaws log script junk =
+    cases Few (eqb (numberOf (earlyRefusal g a flaws)) 0) (late-few g array log (6 * bound g a) script junk) (early-few g a flaws)
 
 pub raw-few : (g : Geometry) (array : ℕ) (frame : List ℕ) (reply log : ℕ) (script : List ℕ) (junk : ℕ) → Few (rawRefusal g array frame reply log script junk)
 unfolding rawRefusal numberOf
 raw-few g array frame reply log script junk =
-    cases Few (framed (length frame) reply) {y = Answers.Frame} (late-few g array log 6 script junk) (lit≤ tt)
+    cases Few (framed (length frame) reply) {y = Answers.Frame} (late-few g array log 6 script junk) refl
 
 -- ---- the promise
 

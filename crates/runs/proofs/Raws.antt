@@ -27,7 +27,7 @@ use Rattle.blocks.specs.Promises.{heldIn}
 use Rattle.runs.specs.Exchange.{Canonical, Exchanged}
 use Rattle.runs.specs.Promises.{Promise}
 use Rattle.runs.proofs.After.{after-long, after-placed}
-use Rattle.runs.proofs.Promised.{is-refusal, raw-few, leaves-as, leaves-refused, leaves-sent}
+use Rattle.runs.proofs.Promised.{Few, is-refusal, raw-few, leaves-as, leaves-refused, leaves-sent}
 use Rattle.runs.proofs.Scripts.{has-cut, junk-fits}
 
 module _ (f script junk log reply held xs : List ℕ) where
@@ -64,7 +64,7 @@ module _ (f script junk log reply held xs : List ℕ) where
         leaves-as (out-known ∙ other (eqb (numberOf (refusal g)) 0) _ _ h ∙ ap (λ (t : Answer). refused t reply) (sym e))
         (next-known ∙ other (eqb (numberOf (refusal g)) 0) _ _ h)
         (leaves-refused z held xs log reply r
-        (is-refusal z (subst⁻¹ (λ (t : Answer). numberOf t ≤ 7) e (raw-few g (length xs) f (length reply) (length log) script (length junk))) k) d)
+        (is-refusal z (subst⁻¹ Few e (raw-few g (length xs) f (length reply) (length log) script (length junk))) k) d)
 
     -- ---- sent
 

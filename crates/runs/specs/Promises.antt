@@ -16,7 +16,7 @@ use Rattle.slots.specs.Lists.{Op, outOf, nextOf, isRefusal, logOf}
 use Rattle.blocks.specs.Promises.{heldIn}
 use Rattle.runs.specs.declared.Done.{Done}
 
--- (13.9) the block at exit: under 1 to 7 it stays, byte for byte; else it holds the new chip
+-- (13.9) the block at exit: under 1 to 7 and 14 it stays, byte for byte; else it holds the new chip
 unfoldable pub keptIn : List ℕ → Answer → Chip → List ℕ
 keptIn block a c = cond (isRefusal a) block (encodeChip c)
 

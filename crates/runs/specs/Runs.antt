@@ -15,14 +15,18 @@ use Rattle.state.specs.Answers.{numberOf}
 use Rattle.state.specs.Memory.{State}
 use Rattle.state.specs.Outcomes.{partIn, cutState}
 use Rattle.slots.specs.declared.Driver.{Driver}
+use Rattle.slots.specs.declared.Verdict.the-variants.{Good}
 use Rattle.slots.specs.Plans.{stated}
 use Rattle.slots.specs.Driver.{isEnded, toldBy}
 use Rattle.slots.specs.Refusals.{hasCut}
-use Rattle.slots.specs.Calls.{Request, Open, Closed, scripted, stepOpen, stepClosed, run, firstCourse, refusalOf, answerIn}
-use Rattle.slots.specs.Lists.{Op, call, asks}
+use Rattle.slots.specs.Calls.{Request, Secret, Open, Closed, scripted, stepOpen, stepClosed, run, firstCourse, refusalOf, answerIn, callOut, callNext}
+use Rattle.slots.specs.Lists.{request}
 use Rattle.worlds.specs.Turns.{askedOf, holdingOf, Sound}
-use Rattle.worlds.specs.Start.{startDriver}
+use Rattle.worlds.specs.Step.{flawless}
+use Rattle.blocks.specs.Promises.{heldIn}
+use Rattle.runs.specs.declared.Done.{Done}
 use Rattle.runs.specs.declared.Session.{Session}
+use Rattle.runs.specs.Promises.{Leaves}
 
 -- ---- the state of the definition's run: the lines are what the log has so far
 
@@ -35,7 +39,7 @@ closedOf t s payload staged = record { memory = t .memory; holding = holdingOf (
 
 -- what a run goes by: the call, slot, B and the script
 abbrev pub requestOf : Session → List ℕ → Request
-requestOf s script = record { asked = askedOf (s .driver); script = script; log = 0; junk = 0; oversize = false }
+requestOf s script = record { asked = askedOf (s .driver); script = script; log = 0; junk = 0; flaws = flawless }
 
 abbrev pub boundBy : Session → ℕ
 boundBy s = stated (s .driver .kind) (s .driver .limit)
@@ -88,14 +92,26 @@ pub record Driven (g : Geometry) (t : State) (s : Session) (payload staged scrip
 
 -- ---- before it
 
--- the call of a driver at its start, with all that it is given
-abbrev pub opOf : Driver → (payload buffer script junk log : List ℕ) → Op
-opOf d payload buffer script junk log = call (askedOf d) (d .place) script payload junk log buffer
+-- what is asked of a driver at its start, where neither 5 nor 14 is met
+abbrev pub askedIn : Driver → (script junk log : List ℕ) → Request
+askedIn d script junk log = request (askedOf d) script (length log) (length junk) flawless
 
--- nothing of 3 to 7 is met, and the driver is at its start
-pub record Started (g : Geometry) (d : Driver) (xs payload buffer script junk log : List ℕ) : Type 0 where
-  pub start : d ≡ startDriver (length xs) (askedOf d) (d .place) (length payload) (length buffer)
-  pub accepted : numberOf (refusalOf g (length xs) (asks g (askedOf d) (d .place) script payload junk log buffer)) ≡ 0
+-- and the rest that its call is given
+abbrev pub secretIn : Driver → (payload junk buffer : List ℕ) → Secret
+secretIn d payload junk buffer = record { payload = payload; aim = d .aim; junk = junk; lent = buffer }
+
+-- nothing of 3 to 7 and 14 is met, and the driver is at its start
+pub record Started (g : Geometry) (d : Driver) (xs script junk log : List ℕ) : Type 0 where
+  pub array : d .array ≡ length xs
+  pub verdict : d .verdict ≡ Good
+  pub course : d .course ≡ firstCourse Answers.Done (d .limit)
+  pub accepted : numberOf (refusalOf g (length xs) (askedIn d script junk log)) ≡ 0
+
+-- what its call leaves: that of the call's definition
+abbrev pub RunBy : Geometry → Driver → (payload buffer script junk log held xs : List ℕ) → Done → (kept ys l b : List ℕ) → Type 0
+RunBy g d payload buffer script junk log held xs r kept ys l b =
+    Leaves (callOut g (askedIn d script junk log) (secretIn d payload junk buffer) (heldIn held xs))
+    (callNext g (askedIn d script junk log) (secretIn d payload junk buffer) (heldIn held xs)) held log r kept ys l b
 
 -- ---- after it: the cut, if there is one, as the last act
 

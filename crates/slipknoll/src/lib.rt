@@ -1,5 +1,5 @@
 // The C interface: a chip held in a record block of 765 bytes, its array lent by the caller; the calls of the slot driver on it; and
-// the driver by itself, its state held in a block of 48 bytes.
+// the driver by itself, its state held in a block of 72 bytes.
 // include/slipknoll.h documents it.
 // Each function on a chip returns the answer's number (docs/SPECIFICATION.md, 12); no function has a `requires`.
 ghost use mathlib.Core.Path.{_≡_};
@@ -10,11 +10,15 @@ ghost use Rattle.geometry.specs.Parts.{slotRoom};
 ghost use Rattle.slices.specs.Lists.{over};
 ghost use Rattle.state.specs.Outcomes.{freshOutcome, sendOutcome, endOutcome, cutOutcome};
 ghost use Rattle.blocks.specs.Promises.{heldIn, Met, MetFresh, MetPin};
+ghost use Rattle.dates.specs.Calendar.{date};
+ghost use Rattle.slots.specs.Details.{storing, changing, reading, untold};
 ghost use Rattle.slots.specs.Lists.{Op, asking, put, patch, get, wipe};
 ghost use Rattle.worlds.specs.Start.{startDriver};
 ghost use Rattle.worlds.specs.Step.{frameIn, stagedIn, tookIn, nextIn, toldIn, countIn};
 ghost use Rattle.driver_blocks.specs.Block.{toldNumber, decodeDriver, encodeDriver};
 ghost use Rattle.runs.specs.Promises.{Called};
+use dates::Date;
+use dates::Term;
 use slots::Kind;
 
 // A fresh chip with these factory bytes; the array becomes FFh. Answers 0, 1.
@@ -62,7 +66,7 @@ pub extern "C" fn slipknoll_cut(block: &mut [u8; 765], array: &mut [u8], junk: &
     inplace::cut(block, array, junk)
 }
 
-// ---- the calls. `counts` gets frames, polls and n. Answers 0 to 13.
+// ---- the calls. `counts` gets frames, polls and n. Answers 0 to 15.
 
 // A recipe stored in a slot.
 #[no_mangle]
@@ -77,9 +81,58 @@ pub extern "C" fn slipknoll_put(
     log: &mut [u8],
     counts: &mut [u64; 3],
 ) -> u8
-    ensures { λ r. ⌜ Called (put slot limit (now (script .entry)) (now (recipe .entry)) (now (junk .entry)) (now (log .entry))) (now (block .entry)) (now (array .entry)) r (now (block .exit)) (now (array .exit)) (now (log .exit)) (now (counts .exit)) [] ⌝ }
+    ensures { λ r. ⌜ Called (put slot limit Term.Unlimited (now (script .entry)) (now (recipe .entry)) (now (junk .entry)) (now (log .entry))) (now (block .entry)) (now (array .entry)) r (now (block .exit)) (now (array .exit)) (now (log .exit)) (now (counts .exit)) [] ⌝ }
 {
-    let d = calls::put(block, array, slot, limit, recipe, script, junk, log);
+    let d = calls::put(
+        block,
+        array,
+        slot,
+        limit,
+        Term::Unlimited,
+        recipe,
+        script,
+        junk,
+        log,
+    );
+    calls::tell(counts, d)
+}
+
+// A recipe stored in a slot with a term: its first and its last day, both inside.
+#[no_mangle]
+pub extern "C" fn slipknoll_put_term(
+    block: &mut [u8; 765],
+    array: &mut [u8],
+    slot: usize,
+    limit: usize,
+    first_year: u32,
+    first_month: u32,
+    first_day: u32,
+    last_year: u32,
+    last_month: u32,
+    last_day: u32,
+    recipe: &[u8],
+    script: &[u8],
+    junk: &[u8],
+    log: &mut [u8],
+    counts: &mut [u64; 3],
+) -> u8
+    ensures { λ r. ⌜ Called (put slot limit (Term.Between (date «first_year» «first_month» «first_day») (date «last_year» «last_month» «last_day»)) (now (script .entry)) (now (recipe .entry)) (now (junk .entry)) (now (log .entry))) (now (block .entry)) (now (array .entry)) r (now (block .exit)) (now (array .exit)) (now (log .exit)) (now (counts .exit)) [] ⌝ }
+{
+    let first = Date {
+        year: first_year,
+        month: first_month,
+        day: first_day,
+    };
+    let last = Date {
+        year: last_year,
+        month: last_month,
+        day: last_day,
+    };
+    let term = Term::Between {
+        first: first,
+        last: last,
+    };
+    let d = calls::put(block, array, slot, limit, term, recipe, script, junk, log);
     calls::tell(counts, d)
 }
 
@@ -103,22 +156,30 @@ pub extern "C" fn slipknoll_patch(
     calls::tell(counts, d)
 }
 
-// The stored recipe read into the lent buffer, under answer 0 only.
+// The stored recipe read into the lent buffer, under answer 0 only; year, month and day are today's date.
 #[no_mangle]
 pub extern "C" fn slipknoll_get(
     block: &mut [u8; 765],
     array: &mut [u8],
     slot: usize,
     limit: usize,
+    year: u32,
+    month: u32,
+    day: u32,
     buffer: &mut [u8],
     script: &[u8],
     junk: &[u8],
     log: &mut [u8],
     counts: &mut [u64; 3],
 ) -> u8
-    ensures { λ r. ⌜ Called (get slot limit (now (script .entry)) (now (junk .entry)) (now (log .entry)) (now (buffer .entry))) (now (block .entry)) (now (array .entry)) r (now (block .exit)) (now (array .exit)) (now (log .exit)) (now (counts .exit)) (now (buffer .exit)) ⌝ }
+    ensures { λ r. ⌜ Called (get slot limit (date year month day) (now (script .entry)) (now (junk .entry)) (now (log .entry)) (now (buffer .entry))) (now (block .entry)) (now (array .entry)) r (now (block .exit)) (now (array .exit)) (now (log .exit)) (now (counts .exit)) (now (buffer .exit)) ⌝ }
 {
-    let d = calls::get(block, array, slot, limit, buffer, script, junk, log);
+    let today = Date {
+        year: year,
+        month: month,
+        day: day,
+    };
+    let d = calls::get(block, array, slot, limit, today, buffer, script, junk, log);
     calls::tell(counts, d)
 }
 
@@ -158,63 +219,106 @@ pub extern "C" fn slipknoll_raw(
     calls::tell(counts, d)
 }
 
-// ---- the driver by itself: its state in a block of 48 bytes, for a chip whose array has `array` bytes. A refused call starts at its end.
+// ---- the driver by itself: its state in a block of 72 bytes, for a chip whose array has `array` bytes. A refused call starts at its end.
 
 // A put of a recipe.
 #[no_mangle]
 pub extern "C" fn slipknoll_driver_start_put(
-    state: &mut [u8; 48],
+    state: &mut [u8; 72],
     array: usize,
     slot: usize,
     limit: usize,
     recipe: &[u8],
 )
-    ensures { λ _. ⌜ now (state .exit) ≡ encodeDriver (startDriver array (asking Kind.Put slot limit) 0 (length (now (recipe .entry))) 0) ⌝ }
+    ensures { λ _. ⌜ now (state .exit) ≡ encodeDriver (startDriver array (asking Kind.Put slot limit) (storing Term.Unlimited) (length (now (recipe .entry))) 0) ⌝ }
 {
-    let d = openings::start_put(array, slot, limit, recipe);
+    let d = openings::start_put(array, slot, limit, Term::Unlimited, recipe);
+    driver_storing::encode(state, d);
+}
+
+// A put of a recipe with a term.
+#[no_mangle]
+pub extern "C" fn slipknoll_driver_start_put_term(
+    state: &mut [u8; 72],
+    array: usize,
+    slot: usize,
+    limit: usize,
+    first_year: u32,
+    first_month: u32,
+    first_day: u32,
+    last_year: u32,
+    last_month: u32,
+    last_day: u32,
+    recipe: &[u8],
+)
+    ensures { λ _. ⌜ now (state .exit) ≡ encodeDriver (startDriver array (asking Kind.Put slot limit) (storing (Term.Between (date «first_year» «first_month» «first_day») (date «last_year» «last_month» «last_day»))) (length (now (recipe .entry))) 0) ⌝ }
+{
+    let first = Date {
+        year: first_year,
+        month: first_month,
+        day: first_day,
+    };
+    let last = Date {
+        year: last_year,
+        month: last_month,
+        day: last_day,
+    };
+    let term = Term::Between {
+        first: first,
+        last: last,
+    };
+    let d = openings::start_put(array, slot, limit, term, recipe);
     driver_storing::encode(state, d);
 }
 
 // A patch of bytes at a place of the recipe.
 #[no_mangle]
 pub extern "C" fn slipknoll_driver_start_patch(
-    state: &mut [u8; 48],
+    state: &mut [u8; 72],
     array: usize,
     slot: usize,
     limit: usize,
     place: usize,
     bytes: &[u8],
 )
-    ensures { λ _. ⌜ now (state .exit) ≡ encodeDriver (startDriver array (asking Kind.Patch slot limit) place (length (now (bytes .entry))) 0) ⌝ }
+    ensures { λ _. ⌜ now (state .exit) ≡ encodeDriver (startDriver array (asking Kind.Patch slot limit) (changing place) (length (now (bytes .entry))) 0) ⌝ }
 {
     let d = openings::start_patch(array, slot, limit, place, bytes);
     driver_storing::encode(state, d);
 }
 
-// A get into a buffer of `buffer` bytes.
+// A get on this date into a buffer of `buffer` bytes.
 #[no_mangle]
 pub extern "C" fn slipknoll_driver_start_get(
-    state: &mut [u8; 48],
+    state: &mut [u8; 72],
     array: usize,
     slot: usize,
     limit: usize,
+    year: u32,
+    month: u32,
+    day: u32,
     buffer: usize,
 )
-    ensures { λ _. ⌜ now (state .exit) ≡ encodeDriver (startDriver array (asking Kind.Get slot limit) 0 0 buffer) ⌝ }
+    ensures { λ _. ⌜ now (state .exit) ≡ encodeDriver (startDriver array (asking Kind.Get slot limit) (reading (date year month day)) 0 buffer) ⌝ }
 {
-    let d = openings::start_get(array, slot, limit, buffer);
+    let today = Date {
+        year: year,
+        month: month,
+        day: day,
+    };
+    let d = openings::start_get(array, slot, limit, today, buffer);
     driver_storing::encode(state, d);
 }
 
 // A wipe of a slot.
 #[no_mangle]
 pub extern "C" fn slipknoll_driver_start_wipe(
-    state: &mut [u8; 48],
+    state: &mut [u8; 72],
     array: usize,
     slot: usize,
     limit: usize,
 )
-    ensures { λ _. ⌜ now (state .exit) ≡ encodeDriver (startDriver array (asking Kind.Wipe slot limit) 0 0 0) ⌝ }
+    ensures { λ _. ⌜ now (state .exit) ≡ encodeDriver (startDriver array (asking Kind.Wipe slot limit) untold 0 0) ⌝ }
 {
     let d = openings::start_wipe(array, slot, limit);
     driver_storing::encode(state, d);
@@ -224,7 +328,7 @@ pub extern "C" fn slipknoll_driver_start_wipe(
 // is the recipe or the patch, `staged` the bytes of the slot read so far.
 #[no_mangle]
 pub extern "C" fn slipknoll_driver_frame(
-    state: &[u8; 48],
+    state: &[u8; 72],
     payload: &[u8],
     staged: &[u8; 2112],
     frame: &mut [u8; 272],
@@ -239,7 +343,7 @@ pub extern "C" fn slipknoll_driver_frame(
 // length is the result, 0 at the end.
 #[no_mangle]
 pub extern "C" fn slipknoll_driver_next(
-    state: &mut [u8; 48],
+    state: &mut [u8; 72],
     payload: &[u8],
     reply: &[u8],
     staged: &mut [u8; 2112],
@@ -256,7 +360,7 @@ pub extern "C" fn slipknoll_driver_next(
 
 // The answer's number; 255 while the call is running.
 #[no_mangle]
-pub extern "C" fn slipknoll_driver_answer(state: &[u8; 48]) -> u8
+pub extern "C" fn slipknoll_driver_answer(state: &[u8; 72]) -> u8
     ensures { λ r. ⌜ r ≡ toldNumber (toldIn (decodeDriver (now (state .entry)))) ⌝ }
 {
     let d = driver_blocks::decode(state);
@@ -264,9 +368,9 @@ pub extern "C" fn slipknoll_driver_answer(state: &[u8; 48]) -> u8
     driver_storing::told_number(t)
 }
 
-// Of a get that has ended with 0 the recipe's length, else 0; the recipe stands in `staged` behind the first three bytes.
+// Of a get that has ended with 0 the recipe's length, else 0; the recipe stands in `staged` behind the head.
 #[no_mangle]
-pub extern "C" fn slipknoll_driver_count(state: &[u8; 48], staged: &[u8; 2112]) -> usize
+pub extern "C" fn slipknoll_driver_count(state: &[u8; 72], staged: &[u8; 2112]) -> usize
     ensures { λ r. ⌜ (r ≡ countIn (decodeDriver (now (state .entry))) (now (staged .entry))) × (r ≤ slotRoom - 3) ⌝ }
 {
     let d = driver_blocks::decode(state);

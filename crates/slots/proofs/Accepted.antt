@@ -11,6 +11,7 @@ use Rattle.geometry.specs.declared.Geometry.{Geometry}
 use Rattle.state.specs.declared.Answer.{Answer}
 use Rattle.state.specs.declared.Answer.the-variants as Answers
 use Rattle.state.specs.Answers.{numberOf}
+use Rattle.slots.specs.declared.Flaws.{Flaws}
 use Rattle.slots.specs.declared.Kind.{Kind}
 use Rattle.slots.specs.Plans.{Asked, opening, isAsking, pages, runBy, pageSteps, planBy, stepAt, isEnd, bound}
 use Rattle.slots.specs.Refusals.{badScript, earlyRefusal, lateRefusal, orElse, callRefusal}
@@ -63,21 +64,23 @@ limits limit true true e f h = (leb-true 1 limit e, leb-true limit 1000 f)
 limits limit true false e f h = let z : _≡_ {A = ℕ} 0 1 = cc in absurd (omega arith)
 limits limit false b e f h = let z : _≡_ {A = ℕ} 0 1 = cc in absurd (omega arith)
 
--- 3, 4 and 5 are not met
-pub record Early (g : Geometry) (a : Asked) (oversize : Bool) : Type 0 where
+-- 3, 4, 5 and 14 are not met
+pub record Early (g : Geometry) (a : Asked) (flaws : Flaws) : Type 0 where
   pub fits : 8 * a .slot + 8 ≤ g .pages
   pub some : 1 ≤ a .limit
   pub most : a .limit ≤ 1000
-  pub size : oversize ≡ false
+  pub size : flaws .size ≡ false
+  pub dates : flaws .dates ≡ false
 
-pub early : (g : Geometry) (a : Asked) (oversize : Bool) → eqb (numberOf (earlyRefusal g a oversize)) 0 ≡ true → Early g a oversize
+pub early : (g : Geometry) (a : Asked) (flaws : Flaws) → eqb (numberOf (earlyRefusal g a flaws)) 0 ≡ true → Early g a flaws
 unfolding earlyRefusal numberOf
-early g a oversize e =
+early g a flaws e =
     let three = passes (leb (g .pages / 8) (a .slot)) Answers.Slot _ refl e in
     let four = passes (not (leb 1 (a .limit) && leb (a .limit) 1000)) Answers.Limit _ refl (three .1) in
-    let five = passes oversize Answers.Size Answers.Done refl (four .1) in
+    let five = passes (flaws .size) Answers.Size _ refl (four .1) in
+    let fourteen = passes (flaws .dates) Answers.Dates Answers.Done refl (five .1) in
     let b = limits (a .limit) (leb 1 (a .limit)) (leb (a .limit) 1000) refl refl (four .0) in
-    record { fits = omega (arith, leb-false (g .pages / 8) (a .slot) (three .0)); some = b .0; most = b .1; size = five .0 }
+    record { fits = omega (arith, leb-false (g .pages / 8) (a .slot) (three .0)); some = b .0; most = b .1; size = five .0; dates = fourteen .0 }
 
 -- 6 and 7 are not met
 pub record Late (g : Geometry) (array log least : ℕ) (script : List ℕ) (junk : ℕ) : Type 0 where
@@ -93,11 +96,11 @@ late g array log least script junk e =
     record { room = ltb-false log least (six .0); fine = seven .0 }
 
 pub record Accepted (g : Geometry) (n : ℕ) (v : Request) : Type 0 where
-  pub asked : Early g (v .asked) (v .oversize)
+  pub asked : Early g (v .asked) (v .flaws)
   pub lent : Late g n (v .log) (6 * bound g (v .asked)) (v .script) (v .junk)
 
 pub accepted : (g : Geometry) (n : ℕ) (v : Request) → eqb (numberOf (refusalOf g n v)) 0 ≡ true → Accepted g n v
 unfolding callRefusal
 accepted g n v e =
-    let z = neither-applies (earlyRefusal g (v .asked) (v .oversize)) (lateRefusal g n (v .log) (6 * bound g (v .asked)) (v .script) (v .junk)) e in
-    record { asked = early g (v .asked) (v .oversize) (z .0); lent = late g n (v .log) (6 * bound g (v .asked)) (v .script) (v .junk) (z .1) }
+    let z = neither-applies (earlyRefusal g (v .asked) (v .flaws)) (lateRefusal g n (v .log) (6 * bound g (v .asked)) (v .script) (v .junk)) e in
+    record { asked = early g (v .asked) (v .flaws) (z .0); lent = late g n (v .log) (6 * bound g (v .asked)) (v .script) (v .junk) (z .1) }

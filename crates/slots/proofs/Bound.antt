@@ -219,10 +219,10 @@ raw-within g f script log junk reply s =
 -- any call or event, on any chip, sends at most the frames that are stated; polls are among them
 at-within : (p : Part) (o : Op) (s : State) → Within (boundOf o) (outAt p o s)
 unfolding outAt boundOf callBy rawBy
-at-within (Known g) (call a place script payload junk log lent) s =
-    subst (λ (n : ℕ). Within n (callOut g (asks g a place script payload junk log lent) (secret payload place junk lent) s)) (bounds (a .kind) g (a .slot) (a .limit))
-    (call-within g (asks g a place script payload junk log lent) (secret payload place junk lent) s)
-at-within Unknown (call a place script payload junk log lent) s = none (stated (a .kind) (a .limit)) Answers.Part lent
+at-within (Known g) (call a detail script payload junk log lent) s =
+    subst (λ (n : ℕ). Within n (callOut g (asks g a detail script payload junk log lent) (secret payload detail junk lent) s)) (bounds (a .kind) g (a .slot) (a .limit))
+    (call-within g (asks g a detail script payload junk log lent) (secret payload detail junk lent) s)
+at-within Unknown (call a detail script payload junk log lent) s = none (stated (a .kind) (a .limit)) Answers.Part lent
 at-within (Known g) (raw frame script junk log reply) s = raw-within g frame script (length log) (length junk) reply s
 at-within Unknown (raw frame script junk log reply) s = none 1 Answers.Part reply
 at-within p (straight frame reply) s = none 0 (sentBy p s frame reply .answer) (sentBy p s frame reply .reply)

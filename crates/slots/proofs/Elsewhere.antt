@@ -58,6 +58,11 @@ use Rattle.slots.proofs.Blind.{load-registers, protection-registers, lo
 use Rattle.slots.proofs.Sent.{addressed-few, read-keeps}
 use Rattle.slots.proofs.Kept.{idle-spares, op-kept}
 use Rattle.slots.proofs.ReadBack.{read-back}
+use Rattle.slots.specs.declared.Detail.{Detail}
+use Rattle.dates.specs.declared.Date.{Date}
+use Rattle.dates.specs.declared.Term.{Term}
+use Rattle.dates.specs.Calendar.{dayOf}
+use Rattle.slots.specs.Details.{periodOf}
 
 -- ---- what the steps of a plan name
 
@@ -251,14 +256,14 @@ module _ (g : Geometry) (first end : ℕ) (v : Request) (x : Secret) (s : State)
 
 -- NOTHING ELSE IS TOUCHED: in any state and under any script, a call leaves every page outside its slot that the operation under way before it was not
 -- writing; and a get leaves those of its slot too
-pub call-spares : (a : Asked) (place : ℕ) (sc payload junk lg lent : List ℕ) (s : State) (g : Geometry) (p : ℕ) → partIn s ≡ Known g → p < g .pages
+pub call-spares : (a : Asked) (detail : Detail) (sc payload junk lg lent : List ℕ) (s : State) (g : Geometry) (p : ℕ) → partIn s ≡ Known g → p < g .pages
     → (a .kind ≡ Get) ⊎ (p / 8 ≡ a .slot → ⊥) → writes g (s .registers .operation) p ≡ false
-    → pageOf g p (nextOf (call a place sc payload junk lg lent) s .memory .array) ≡ pageOf g p (s .memory .array)
-call-spares a place sc payload junk lg lent s g p k l far w =
-    op-kept g p (suc p) (λ q. pageOf g q (s .memory .array)) (call a place sc payload junk lg lent) s
+    → pageOf g p (nextOf (call a detail sc payload junk lg lent) s .memory .array) ≡ pageOf g p (s .memory .array)
+call-spares a detail sc payload junk lg lent s g p k l far w =
+    op-kept g p (suc p) (λ q. pageOf g q (s .memory .array)) (call a detail sc payload junk lg lent) s
     (record { part = k; fits = l; spares = λ q i j. let e : q ≡ p = omega arith in ap (writes g (s .registers .operation)) e ∙ w; bytes = λ q i j. refl })
-    (subst (λ (z : Part). QuietBy p (suc p) z (call a place sc payload junk lg lent) s) (sym k)
-    (call-quiet g p (suc p) (asks g a place sc payload junk lg lent) (secret payload place junk lent) s k (apart far)))
+    (subst (λ (z : Part). QuietBy p (suc p) z (call a detail sc payload junk lg lent) s) (sym k)
+    (call-quiet g p (suc p) (asks g a detail sc payload junk lg lent) (secret payload detail junk lent) s k (apart far)))
     .bytes p (omega arith) (omega arith)
   where
     apart : (a .kind ≡ Get) ⊎ (p / 8 ≡ a .slot → ⊥) → Apart p (suc p) a
@@ -269,7 +274,7 @@ call-spares a place sc payload junk lg lent s g p k l far w =
 
 -- gets of any slot, puts, patches and wipes of other slots, pin moves, busy ends and cuts
 pub data Elsewhere (slot : ℕ) : Op → Type 0 where
-  calls : (a : Asked) (place : ℕ) (sc payload junk lg lent : List ℕ) → (a .kind ≡ Get) ⊎ (a .slot ≡ slot → ⊥) → Elsewhere slot (call a place sc payload junk lg lent)
+  calls : (a : Asked) (detail : Detail) (sc payload junk lg lent : List ℕ) → (a .kind ≡ Get) ⊎ (a .slot ≡ slot → ⊥) → Elsewhere slot (call a detail sc payload junk lg lent)
   pins : (high : Bool) → Elsewhere slot (pin high)
   ends : Elsewhere slot busyEnd
   cuts : (junk : List ℕ) → Elsewhere slot (cut junk)
@@ -280,8 +285,8 @@ AllElsewhere slot (o ∷ os) = Elsewhere slot o × AllElsewhere slot os
 
 op-quiet : (slot : ℕ) (o : Op) (s : State) (p : Part) → partIn s ≡ p → Elsewhere slot o → QuietBy (8 * slot) (8 * slot + 8) p o s
 op-quiet slot o s Unknown k u = tt
-op-quiet slot o s (Known g) k (calls a place sc payload junk lg lent far) =
-    call-quiet g (8 * slot) (8 * slot + 8) (asks g a place sc payload junk lg lent) (secret payload place junk lent) s k (apart far)
+op-quiet slot o s (Known g) k (calls a detail sc payload junk lg lent far) =
+    call-quiet g (8 * slot) (8 * slot + 8) (asks g a detail sc payload junk lg lent) (secret payload detail junk lent) s k (apart far)
   where
     apart : (a .kind ≡ Get) ⊎ (a .slot ≡ slot → ⊥) → Apart (8 * slot) (8 * slot + 8) a
     apart (inl e) = inl e
@@ -295,10 +300,10 @@ elsewhere-quiet slot [] s u = tt
 elsewhere-quiet slot (o ∷ os) s u = (op-quiet slot o s (partIn s) refl (u .0), elsewhere-quiet slot os (nextOf o s) (u .1))
 
 -- DEMAND 2, as a caller meets it
-pub read-back-elsewhere : (slot limit : ℕ) (script recipe junk log : List ℕ) (s : State) → Whole (chipIn s)
-    → outOf (put slot limit script recipe junk log) s .answer ≡ Answers.Done
+pub read-back-elsewhere : (slot limit : ℕ) (term : Term) (script recipe junk log : List ℕ) (s : State) → Whole (chipIn s)
+    → outOf (put slot limit term script recipe junk log) s .answer ≡ Answers.Done
     → (os : List Op) → AllElsewhere slot os
-    → (limit' : ℕ) (script' junk' log' buffer : List ℕ)
-    → Returns recipe (outOf (get slot limit' script' junk' log' buffer) (leftBy os (nextOf (put slot limit script recipe junk log) s)))
-read-back-elsewhere slot limit script recipe junk log s b d os u =
-    read-back slot limit script recipe junk log s b d os (elsewhere-quiet slot os (nextOf (put slot limit script recipe junk log) s) u)
+    → (limit' : ℕ) (today : Date) (script' junk' log' buffer : List ℕ)
+    → Returns (periodOf term) (dayOf today) recipe buffer (outOf (get slot limit' today script' junk' log' buffer) (leftBy os (nextOf (put slot limit term script recipe junk log) s)))
+read-back-elsewhere slot limit term script recipe junk log s b d os u =
+    read-back slot limit term script recipe junk log s b d os (elsewhere-quiet slot os (nextOf (put slot limit term script recipe junk log) s) u)

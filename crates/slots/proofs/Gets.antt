@@ -45,12 +45,13 @@ use Rattle.slots.proofs.Steady.{array-steady}
 use Rattle.slots.proofs.Track.{Facts, Turned, idle-stays, carry, wait-next, run-tracked}
 use Rattle.slots.proofs.Kept.{end-kept}
 use Rattle.slots.proofs.Written.{slot-index}
+use Rattle.slots.specs.declared.Flaws.{Flaws}
 
 data Know : Type 0 where
   cold : Know
   reading : (p : ℕ) → Know
 
-module _ (g : Geometry) (slot : ℕ) (b : ℕ → ℕ) where
+module _ (g : Geometry) (slot today : ℕ) (b : ℕ → ℕ) where
   abbrev first : ℕ
   first = 8 * slot
 
@@ -67,7 +68,8 @@ module _ (g : Geometry) (slot : ℕ) (b : ℕ → ℕ) where
   pub record Staged (p : ℕ) (h : Holding) : Type 0 where
     pub room : 8 * g .size ≤ length (h .staged)
     pub bytes : (q : ℕ) → first ≤ q → q < p → (i : ℕ) → i < g .size → getD (h .staged) (g .size * (q % 8) + i) 0 ≡ b (g .size * (q % 8) + i)
-    pub verdict : (p ≡ 8 * slot → ⊥) → h .verdict ≡ getVerdict g (pageIn g b 0)
+    pub day : h .aim .today ≡ today
+    pub verdict : (p ≡ 8 * slot → ⊥) → h .verdict ≡ getVerdict g today (pageIn g b 0)
 
   abbrev Holds : Know → Bool → Bool → Registers → Memory → Holding → Type 0
   Holds cold l d r m h = Kept g first end (pageIn g b) r m × Staged first h
@@ -95,6 +97,7 @@ module _ (g : Geometry) (slot : ℕ) (b : ℕ → ℕ) where
       record {
         room = omega (arith, length-splice (g .size * (p % 8)) page (h .staged), u .room);
         bytes = λ q a c i j. each q a c i j (eqb q p) refl;
+        day = u .day;
         verdict = λ _. judges (h .verdict) (u .verdict) (eqb (p % 8) 0) refl;
       }
     where
@@ -118,8 +121,8 @@ module _ (g : Geometry) (slot : ℕ) (b : ℕ → ℕ) where
           ∙ ap (λ (x : List ℕ). getD x i 0) w ∙ getD-tabulate (g .size) (λ i. b (g .size * (p % 8) + i)) i 0 j)
       each q a c i j false z = let n = eqb-false q p z in other q i a c n j ∙ u .bytes q a (omega (arith, n)) i j
 
-      judges : (v : Verdict) → ((p ≡ 8 * slot → ⊥) → v ≡ getVerdict g (pageIn g b 0)) → (x : Bool) → eqb (p % 8) 0 ≡ x → cond x (getVerdict g page) v ≡ getVerdict g (pageIn g b 0)
-      judges v t true z = ap (getVerdict g) (w ∙ ap (λ (n : ℕ). tabulate (g .size) (λ j. b (g .size * n + j))) (eqb-true (p % 8) 0 z))
+      judges : (v : Verdict) → ((p ≡ 8 * slot → ⊥) → v ≡ getVerdict g today (pageIn g b 0)) → (x : Bool) → eqb (p % 8) 0 ≡ x → cond x (getVerdict g (h .aim .today) page) v ≡ getVerdict g today (pageIn g b 0)
+      judges v t true z = λ i. getVerdict g (u .day i) ((w ∙ ap (λ (n : ℕ). tabulate (g .size) (λ j. b (g .size * n + j))) (eqb-true (p % 8) 0 z)) i)
       judges v t false z = t (λ y. eqb-false (p % 8) 0 z (omega (arith, y)))
 
   module _ (limit : ℕ) (plan : List Step) (c : Course) (r : Registers) (m : Memory) (h : Holding) (e : partOf (length (m .array)) ≡ Known g) (live : isEnded (c .stage) ≡ false) where
@@ -150,14 +153,14 @@ module _ (g : Geometry) (slot : ℕ) (b : ℕ → ℕ) where
   get-lawful = opens (pages-lawful 8 (8 * slot) (omega arith) refl)
 
 -- what a get that comes to its end has staged, of a slot whose bytes are b's
-pub record Got (g : Geometry) (b : ℕ → ℕ) (h : Holding) : Type 0 where
+pub record Got (g : Geometry) (today : ℕ) (b : ℕ → ℕ) (h : Holding) : Type 0 where
   pub room : 8 * g .size ≤ length (h .staged)
   pub bytes : (i : ℕ) → i < 8 * g .size → getD (h .staged) i 0 ≡ b i
-  pub verdict : h .verdict ≡ getVerdict g (pageIn g b 0)
+  pub verdict : h .verdict ≡ getVerdict g today (pageIn g b 0)
 
 -- byte i lies in page i div size
-staged-all : (g : Geometry) (slot : ℕ) (b : ℕ → ℕ) (h : Holding) → 0 < g .size → Staged g slot b (8 * slot + 8) h → Got g b h
-staged-all g slot b h some u = record { room = u .room; bytes = each; verdict = u .verdict (λ e. absurd (omega (arith, e))) }
+staged-all : (g : Geometry) (slot today : ℕ) (b : ℕ → ℕ) (h : Holding) → 0 < g .size → Staged g slot today b (8 * slot + 8) h → Got g today b h
+staged-all g slot today b h some u = record { room = u .room; bytes = each; verdict = u .verdict (λ e. absurd (omega (arith, e))) }
   where
     each : (i : ℕ) → i < 8 * g .size → getD (h .staged) i 0 ≡ b i
     each i l =
@@ -167,32 +170,33 @@ staged-all g slot b h some u = record { room = u .room; bytes = each; verdict = 
         let at : g .size * ((8 * slot + n) % 8) + i % g .size ≡ i = ap (λ (k : ℕ). g .size * k + i % g .size) page ∙ div-add-mod i (g .size) in
         subst (λ (k : ℕ). getD (h .staged) k 0 ≡ b k) at (u .bytes (8 * slot + n) (omega arith) (omega (arith, few)) (i % g .size) (mod-lt i some))
 
-module _ (g : Geometry) (slot limit : ℕ) (script : List ℕ) (log junk : ℕ) (over : Bool) where
+module _ (g : Geometry) (slot limit : ℕ) (script : List ℕ) (log junk : ℕ) (flaws : Flaws) where
   abbrev asks : Request
-  asks = request (asking Get slot limit) script log junk over
+  asks = request (asking Get slot limit) script log junk flaws
 
   pub call-reads : (b : ℕ → ℕ) (x : Secret) (s : State) → 0 < g .size → KeptSlot g slot b s → eqb (numberOf (refusalOf g (length (s .memory .array)) asks)) 0 ≡ true
-      → ran g asks x s .0 .course .stage ≡ Ended Answers.Done → Got g b (ran g asks x s .1 .holding)
+      → ran g asks x s .0 .course .stage ≡ Ended Answers.Done → Got g (x .aim .today) b (ran g asks x s .1 .holding)
   unfolding ran startOpen startClosed firstCourse isEnded slotSize
   call-reads b x s some k e stage =
+      let today = x .aim .today in
       let n = length (s .memory .array) in
       let part = placed-known n (s .registers .operation) g (k .part) .0 in
       let plan = planBy Get g slot in
-      let t = run-tracked (facts g slot b) g asks (stays g slot b)
-      (λ c r m h o live x k some z l u. turned g slot b limit plan c r m h o live {x = x} {k = k} (sectorFor g (asks .asked)) some z l u)
+      let t = run-tracked (facts g slot today b) g asks (stays g slot today b)
+      (λ c r m h o live x k some z l u. turned g slot today b limit plan c r m h o live {x = x} {k = k} (sectorFor g (asks .asked)) some z l u)
       (bound g (asks .asked)) (startOpen g n asks (s .registers)) (startClosed x (s .memory)) (begin-ok g n asks e)
       (record {
         room = part;
         here = λ _. (
           cold,
-          (k, record { room = omega (arith, sized n g part .most, length-replicate {A = ℕ} slotRoom 0); bytes = λ q l u i j. absurd (omega arith); verdict = λ f. absurd (f refl) }),
-          subst (Lawful g slot b cold) (sym (rest-zero plan)) (get-lawful g slot b),
+          (k, record { room = omega (arith, sized n g part .most, length-replicate {A = ℕ} slotRoom 0); bytes = λ q l u i j. absurd (omega arith); day = refl; verdict = λ f. absurd (f refl) }),
+          subst (Lawful g slot today b cold) (sym (rest-zero plan)) (get-lawful g slot today b),
         );
         uncut = λ _. refl;
         over = λ h. never (ap isEnded (sym (ap (λ (b : Bool). cond b Going (Ended (refusalOf g n asks))) e)) ∙ ap isEnded h);
       }) in
       let z = ran g asks x s in
       let w = t .here (inr stage) in
-      staged-all g slot b (z .1 .holding) some
-      (at-finish g slot b (z .0 .course .listed) (z .0 .course .guarded) (z .0 .registers) (z .1 .memory) (z .1 .holding) (w .2)
+      staged-all g slot today b (z .1 .holding) some
+      (at-finish g slot today b (z .0 .course .listed) (z .0 .course .guarded) (z .0 .registers) (z .1 .memory) (z .1 .holding) (w .2)
       (ap isEnd (rest-first plan (z .0 .course .place)) ∙ t .over stage) (w .1))

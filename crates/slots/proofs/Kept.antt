@@ -151,7 +151,7 @@ module _ (g : Geometry) (first end : ℕ) (b : ℕ → List ℕ) where
 
   at-kept : (o : Op) (s : State) → KeptIn s → QuietBy first end (Known g) o s → KeptIn (nextAt (Known g) o s)
   unfolding nextAt calledBy rawLeft rawNext stateAfter sentBy endedBy endedState pinOutcome pinnedState cutBy
-  at-kept (call a place script payload junk log lent) s u w = call-kept (asks g a place script payload junk log lent) (secret payload place junk lent) s u w
+  at-kept (call a detail script payload junk log lent) s u w = call-kept (asks g a detail script payload junk log lent) (secret payload detail junk lent) s u w
   at-kept (raw frame script junk log reply) s u w =
       known KeptIn (eqb (numberOf (rawRefusal g (length (s .memory .array)) frame (length reply) (length log) script (length junk))) 0)
       (λ e. let k = sent-kept frame s u (w e) in

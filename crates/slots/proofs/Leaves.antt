@@ -33,7 +33,7 @@ use Rattle.state.specs.Memory.{State, chipIn}
 use Rattle.state.specs.Outcomes.{partIn, cutState}
 use Rattle.state.specs.Whole.{Whole}
 use Rattle.slots.specs.Plans.{Asked, planBy}
-use Rattle.slots.specs.Records.{slotSize, image, changed, patchVerdict}
+use Rattle.slots.specs.Records.{slotSize, image, changed, patchVerdict, headSize}
 use Rattle.slots.specs.Driver.{verdictAnswer, weighed, toldBy}
 use Rattle.slots.specs.Calls.{Request, Secret, refusalOf, startClosed, ran, reached, outFrom, answerIn, callOut, callNext}
 use Rattle.slots.specs.Lists.{call, asking, asks, secret, callBy, outOf, calledBy, nextOf}
@@ -48,6 +48,8 @@ use Rattle.slots.proofs.Stores.{Writer, Wrote, Lawful, cold, call-store
 use Rattle.slots.proofs.Written.{putWriter, put-lawful, patchWriter, patch-lawful, wipeWriter, wipe-lawful}
 use Rattle.slots.proofs.Gets.{call-reads}
 use Rattle.slots.proofs.Elsewhere.{call-spares}
+use Rattle.slots.specs.declared.Detail.{Detail}
+use Rattle.slots.specs.Details.{aimOf, periodOf}
 
 -- ---- arrays by their pages
 
@@ -154,7 +156,7 @@ slot-kept g slot s k i fits =
       bytes = λ q l u. page-in-slot g slot (s .memory .array) q (placed-sized n (s .registers .operation) g k) fits l u;
     }
 
-module _ (g : Geometry) (slot limit place : ℕ) (payload junk log lent : List ℕ) (s : State) (whole : Whole (chipIn s)) (k : partIn s ≡ Known g) where
+module _ (g : Geometry) (slot limit : ℕ) (detail : Detail) (payload junk log lent : List ℕ) (s : State) (whole : Whole (chipIn s)) (k : partIn s ≡ Known g) where
   abbrev n : ℕ
   n = length (s .memory .array)
 
@@ -162,17 +164,17 @@ module _ (g : Geometry) (slot limit place : ℕ) (payload junk log lent : List �
   old = slotByte g slot (s .memory .array)
 
   abbrev x : Secret
-  x = secret payload place junk lent
+  x = secret payload detail junk lent
 
   abbrev v : Kind → Request
-  v K = asks g (asking K slot limit) place [] payload junk log lent
+  v K = asks g (asking K slot limit) detail [] payload junk log lent
 
   sizes : Sized g n
   sizes = placed-sized n (s .registers .operation) g k
 
   module _ (K : Kind) (u : Undisturbed g (asking K slot limit) (s .registers)) (e : eqb (numberOf (refusalOf g n (v K))) 0 ≡ true) where
     well : EndsWell g (asking K slot limit) (v K) x s
-    well = ends-well g (sizes .short) (asking K slot limit) (length log) (length junk) (v K .oversize) x s u e
+    well = ends-well g (sizes .short) (asking K slot limit) (length log) (length junk) (v K .flaws) x s u e
 
     fits : 8 * slot + 8 ≤ g .pages
     fits = accepted g n (v K) e .asked .fits
@@ -190,8 +192,8 @@ module _ (g : Geometry) (slot limit place : ℕ) (payload junk log lent : List �
     unfolding nextOf calledBy
     spared q l far =
         ap (λ (t : State). pageOf g q (t .memory .array)) (sym next-is)
-        ∙ ap (λ (p : Part). pageOf g q (calledBy p (asking K slot limit) place [] payload junk log lent s .memory .array)) (sym k)
-        ∙ call-spares (asking K slot limit) place [] payload junk log lent s g q k l far
+        ∙ ap (λ (p : Part). pageOf g q (calledBy p (asking K slot limit) detail [] payload junk log lent s .memory .array)) (sym k)
+        ∙ call-spares (asking K slot limit) detail [] payload junk log lent s g q k l far
         (ap (λ (o : Operation). writes g o q) (u .ready .0) ∙ writes-idle g q)
 
     -- what is left, where the slot's pages are b's
@@ -213,26 +215,28 @@ module _ (g : Geometry) (slot limit place : ℕ) (payload junk log lent : List �
 
   -- by the call
   leaves-by : (K : Kind) → Undisturbed g (asking K slot limit) (s .registers) → eqb (numberOf (refusalOf g n (v K))) 0 ≡ true
-      → Leaves g (asking K slot limit) place payload s (callOut g (v K) x s) (callNext g (v K) x s)
-  unfolding leftIn verdictFor putWriter patchWriter wipeWriter startClosed slotSize
+      → Leaves g (asking K slot limit) (aimOf detail) payload s (callOut g (v K) x s) (callNext g (v K) x s)
+  unfolding leftIn verdictFor putWriter patchWriter wipeWriter startClosed slotSize aimOf
   leaves-by Put u e =
-      let w = stored Put u e (putWriter g slot payload) (put-lawful g slot payload (fits Put u e) (few Put u e)) tt (refl, refl) in
+      let w = stored Put u e (putWriter g slot (periodOf (detail .term)) payload) (put-lawful g slot (periodOf (detail .term)) payload (fits Put u e) (few Put u e)) tt (refl, refl, refl) in
       record {
-        answer = answer-is Put u e ∙ ap verdictAnswer (w .fresh .1);
-        array = leaves Put u e (image payload) (w .pages);
+        answer = answer-is Put u e ∙ ap verdictAnswer (w .fresh .2);
+        array = leaves Put u e (image (periodOf (detail .term)) payload) (w .pages);
         registers = ap (λ (t : State). t .registers) (next-is Put u e) ∙ well Put u e .registers;
       }
   leaves-by Patch u e =
-      let w = stored Patch u e (patchWriter g slot place payload old) (patch-lawful g slot place payload old (fits Patch u e) (few Patch u e)) (slot-kept g slot s k (u .ready .0) (fits Patch u e))
-      (record { payload = refl; places = refl; verdict = λ f. absurd (f refl); room = omega (arith, sizes .most, length-replicate {A = ℕ} slotRoom 0) }) in
+      let one : 1 ≤ g .size = omega (arith, sizes .some) in
+      let place = detail .place in
+      let w = stored Patch u e (patchWriter g slot place payload old one) (patch-lawful g slot place payload old one (fits Patch u e) (few Patch u e)) (slot-kept g slot s k (u .ready .0) (fits Patch u e))
+      (record { payload = refl; places = refl; verdict = λ f. absurd (f refl); version = λ f. absurd (f refl); room = omega (arith, sizes .most, length-replicate {A = ℕ} slotRoom 0) }) in
       record {
         answer = answer-is Patch u e ∙ ap verdictAnswer (w .fresh .verdict (λ f. absurd (omega (arith, f))));
-        array = leaves Patch u e (λ i. changed (patchVerdict g (place + length payload) (pageIn g old 0)) place payload (old i) i) (w .pages);
+        array = leaves Patch u e (λ i. changed (patchVerdict g (place + length payload) (pageIn g old 0)) (headSize (old 0)) place payload (old i) i) (w .pages);
         registers = ap (λ (t : State). t .registers) (next-is Patch u e) ∙ well Patch u e .registers;
       }
   leaves-by Get u e =
       let o = slot-kept g slot s k (u .ready .0) (fits Get u e) in
-      let got = call-reads g slot limit [] (length log) (length junk) (v Get .oversize) old x s (omega (arith, sizes .some)) o e (well Get u e .stage) in
+      let got = call-reads g slot limit [] (length log) (length junk) (v Get .flaws) old x s (omega (arith, sizes .some)) o e (well Get u e .stage) in
       record {
         answer = answer-is Get u e ∙ ap verdictAnswer (got .verdict);
         array = leaves Get u e old (λ q l j. spared Get u e q (omega (arith, fits Get u e, j)) (inl refl) ∙ o .bytes q l j);
@@ -247,10 +251,10 @@ module _ (g : Geometry) (slot limit place : ℕ) (payload junk log lent : List �
       }
 
 -- WHAT A CALL LEAVES, where it is undisturbed
-pub call-leaves : (g : Geometry) (a : Asked) (place : ℕ) (payload junk log lent : List ℕ) (s : State) → Whole (chipIn s) → partIn s ≡ Known g → Undisturbed g a (s .registers)
-    → eqb (numberOf (refusalOf g (length (s .memory .array)) (asks g a place [] payload junk log lent))) 0 ≡ true
-    → Leaves g a place payload s (outOf (call a place [] payload junk log lent) s) (nextOf (call a place [] payload junk log lent) s)
+pub call-leaves : (g : Geometry) (a : Asked) (detail : Detail) (payload junk log lent : List ℕ) (s : State) → Whole (chipIn s) → partIn s ≡ Known g → Undisturbed g a (s .registers)
+    → eqb (numberOf (refusalOf g (length (s .memory .array)) (asks g a detail [] payload junk log lent))) 0 ≡ true
+    → Leaves g a (aimOf detail) payload s (outOf (call a detail [] payload junk log lent) s) (nextOf (call a detail [] payload junk log lent) s)
 unfolding outOf callBy nextOf calledBy
-call-leaves g a place payload junk log lent s w k u e =
-    subst (λ (p : Part). Leaves g a place payload s (callBy p a place [] payload junk log lent s) (calledBy p a place [] payload junk log lent s)) (sym k)
-    (leaves-by g (a .slot) (a .limit) place payload junk log lent s w k (a .kind) u e)
+call-leaves g a detail payload junk log lent s w k u e =
+    subst (λ (p : Part). Leaves g a (aimOf detail) payload s (callBy p a detail [] payload junk log lent s) (calledBy p a detail [] payload junk log lent s)) (sym k)
+    (leaves-by g (a .slot) (a .limit) detail payload junk log lent s w k (a .kind) u e)

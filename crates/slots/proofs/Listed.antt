@@ -46,6 +46,7 @@ use Rattle.slots.proofs.Bound.{Ok, step-ok, begin-ok}
 use Rattle.slots.proofs.Sent.{read-keeps, send-returns}
 use Rattle.slots.proofs.Driven.{Ends}
 use Rattle.slots.proofs.Planned.{ended-none, first, open-is, comes, isFree, onChip}
+use Rattle.slots.specs.declared.Flaws.{Flaws}
 
 module _ (g : Geometry) (full : Roomed g) (r : Registers) (y : Ready r) (n : Lengths r) where
   -- ---- what the chip's replies tell
@@ -192,9 +193,9 @@ module _ (g : Geometry) (full : Roomed g) (r : Registers) (y : Ready r) (n : Len
   returns k h (Send c p) e = send-returns g r k h p y c
   returns k h End e = never (sym e)
 
-  module _ (a : Asked) (log junk : ℕ) (over : Bool) where
+  module _ (a : Asked) (log junk : ℕ) (flaws : Flaws) where
     abbrev v : Request
-    v = request a [] log junk over
+    v = request a [] log junk flaws
 
     -- one step leaves the registers, and is no cut
     step-returns : (n : ℕ) (p : Open) (q : Closed) → isEnded (p .course .stage) ≡ false → isEnd (stepOf g a (p .course)) ≡ false → p .registers ≡ r
@@ -268,17 +269,17 @@ pub record EndsWell (g : Geometry) (a : Asked) (v : Request) (x : Secret) (s : S
   pub registers : ran g v x s .0 .registers ≡ s .registers
   pub uncut : ran g v x s .0 .cut ≡ false
 
-pub ends-well : (g : Geometry) → Roomed g → (a : Asked) (log junk : ℕ) (over : Bool) (x : Secret) (s : State) → Undisturbed g a (s .registers)
-    → eqb (numberOf (refusalOf g (length (s .memory .array)) (request a [] log junk over))) 0 ≡ true → EndsWell g a (request a [] log junk over) x s
+pub ends-well : (g : Geometry) → Roomed g → (a : Asked) (log junk : ℕ) (flaws : Flaws) (x : Secret) (s : State) → Undisturbed g a (s .registers)
+    → eqb (numberOf (refusalOf g (length (s .memory .array)) (request a [] log junk flaws))) 0 ≡ true → EndsWell g a (request a [] log junk flaws) x s
 unfolding exchanges ran startOpen
-ends-well g full a log junk over x s u e =
-    let v = request a [] log junk over in
+ends-well g full a log junk flaws x s u e =
+    let v = request a [] log junk flaws in
     let r = s .registers in
     let k = comes g v x s e in
     let w = k .planned in
-    let honest = honest-run g full r (u .ready) (u .lengths) a log junk over (bound g a) (startOpen g (length (s .memory .array)) v r) (startClosed x (s .memory)) (begin-ok g (length (s .memory .array)) v e) refl in
+    let honest = honest-run g full r (u .ready) (u .lengths) a log junk flaws (bound g a) (startOpen g (length (s .memory .array)) v r) (startClosed x (s .memory)) (begin-ok g (length (s .memory .array)) v e) refl in
     let z = calm g full r (u .ready) (u .lengths) a (w .follows) honest (plan-sound g full a r (u .ready) (u .lengths) (a .kind) (a .slot) (u .unsealed)) in
-    let c = calm-run g full r (u .ready) (u .lengths) a log junk over (bound g a) (startOpen g (length (s .memory .array)) v r) (startClosed x (s .memory)) (begin-ok g (length (s .memory .array)) v e) refl refl in
+    let c = calm-run g full r (u .ready) (u .lengths) a log junk flaws (bound g a) (startOpen g (length (s .memory .array)) v r) (startClosed x (s .memory)) (begin-ok g (length (s .memory .array)) v e) refl refl in
     record {
       listed =
           record {
@@ -295,8 +296,8 @@ ends-well g full a log junk over x s u e =
     }
 
 -- FRAMES AS LISTED: it sends its plan, one D7 a wait
-pub frames-as-listed : (g : Geometry) (a : Asked) (log junk : ℕ) (over : Bool) (x : Secret) (s : State) → partIn s ≡ Known g → Undisturbed g a (s .registers)
-    → eqb (numberOf (refusalOf g (length (s .memory .array)) (request a [] log junk over))) 0 ≡ true
-    → AsListed g a (startClosed x (s .memory) .holding) (exchanges g (request a [] log junk over) x s) (callOut g (request a [] log junk over) x s)
-frames-as-listed g a log junk over x s k u e =
-    ends-well g (placed-sized (length (s .memory .array)) (s .registers .operation) g k .short) a log junk over x s u e .listed
+pub frames-as-listed : (g : Geometry) (a : Asked) (log junk : ℕ) (flaws : Flaws) (x : Secret) (s : State) → partIn s ≡ Known g → Undisturbed g a (s .registers)
+    → eqb (numberOf (refusalOf g (length (s .memory .array)) (request a [] log junk flaws))) 0 ≡ true
+    → AsListed g a (startClosed x (s .memory) .holding) (exchanges g (request a [] log junk flaws) x s) (callOut g (request a [] log junk flaws) x s)
+frames-as-listed g a log junk flaws x s k u e =
+    ends-well g (placed-sized (length (s .memory .array)) (s .registers .operation) g k .short) a log junk flaws x s u e .listed

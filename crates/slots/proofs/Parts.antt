@@ -9,7 +9,7 @@ use Rattle.slots.specs.Calls.{Out}
 use Rattle.slots.specs.Lists.{Op, call, raw, straight, pin, busyEnd, cut, met, callBy, rawBy, outOf, calledBy, rawLeft, nextOf}
 
 unfoldable pub outAt : Part → Op → State → Out
-outAt p (call a place script payload junk log lent) s = callBy p a place script payload junk log lent s
+outAt p (call a detail script payload junk log lent) s = callBy p a detail script payload junk log lent s
 outAt p (raw frame script junk log reply) s = rawBy p frame script junk log reply s
 outAt p (straight frame reply) s = met (sentBy p s frame reply)
 outAt p (pin high) s = met (pinOutcome high s)
@@ -17,7 +17,7 @@ outAt p busyEnd s = met (endedBy p s)
 outAt p (cut junk) s = met (cutBy p junk s)
 
 unfoldable pub nextAt : Part → Op → State → State
-nextAt p (call a place script payload junk log lent) s = calledBy p a place script payload junk log lent s
+nextAt p (call a detail script payload junk log lent) s = calledBy p a detail script payload junk log lent s
 nextAt p (raw frame script junk log reply) s = rawLeft p frame script junk log reply s
 nextAt p (straight frame reply) s = sentBy p s frame reply .state
 nextAt p (pin high) s = pinOutcome high s .state
@@ -26,7 +26,7 @@ nextAt p (cut junk) s = cutBy p junk s .state
 
 pub out-at : (o : Op) (s : State) → outOf o s ≡ outAt (partIn s) o s
 unfolding outOf outAt sendOutcome endOutcome cutOutcome
-out-at (call a place script payload junk log lent) s = refl
+out-at (call a detail script payload junk log lent) s = refl
 out-at (raw frame script junk log reply) s = refl
 out-at (straight frame reply) s = refl
 out-at (pin high) s = refl
@@ -35,7 +35,7 @@ out-at (cut junk) s = refl
 
 pub next-at : (o : Op) (s : State) → nextOf o s ≡ nextAt (partIn s) o s
 unfolding nextOf nextAt sendOutcome endOutcome cutOutcome
-next-at (call a place script payload junk log lent) s = refl
+next-at (call a detail script payload junk log lent) s = refl
 next-at (raw frame script junk log reply) s = refl
 next-at (straight frame reply) s = refl
 next-at (pin high) s = refl

@@ -110,22 +110,26 @@ abbrev pub onward : Step → ℕ → Bool → Bool → Course → Course
 onward next limit l d c =
     record { place = suc (c .place); left = limit; stage = cond (isEnd next) (Ended Answers.Done) Going; listed = l; guarded = d }
 
+-- the answers that end a call under way: 8 to 11
+abbrev pub Stops : Answer → Type 0
+Stops a = (7 < numberOf a) × (numberOf a < 12)
+
 -- an end, once more in a wait, the next step; at the plan's end nothing
-pub course-ways : (Q : Course → Type 0) (x next : Step) (limit : ℕ) (c : Course) (o : Heard) → (isEnd x ≡ true → Q c) → ((a : Answer) → 7 < numberOf a → Q (ended a c))
+pub course-ways : (Q : Course → Type 0) (x next : Step) (limit : ℕ) (c : Course) (o : Heard) → (isEnd x ≡ true → Q c) → ((a : Answer) → Stops a → Q (ended a c))
     → (isWait x ≡ true → 1 < c .left → Q (fewer c)) → ((l d : Bool) → Q (onward next limit l d c)) → Q (courseBy x next limit c o)
 unfolding courseBy isEnd isWait numberOf
 course-ways Q Wait next limit c o e u v w =
-    cases Q (not (o .density)) (u Answers.Device (lit< tt))
+    cases Q (not (o .density)) (u Answers.Device (lit< tt, lit< tt))
     (cases Q (o .ready) (w (c .listed) (o .guarded))
-    (known Q (leb (c .left) _) (λ _. u Answers.Busy (lit< tt)) (λ h. v refl (omega (arith, leb-false (c .left) _ h)))))
+    (known Q (leb (c .left) _) (λ _. u Answers.Busy (lit< tt, lit< tt)) (λ h. v refl (omega (arith, leb-false (c .left) _ h)))))
 course-ways Q Protection next limit c o e u v w = w (o .held) (c .guarded)
-course-ways Q Lockdown next limit c o e u v w = cases Q (o .held || (c .listed && c .guarded)) (u Answers.Sealed (lit< tt)) (w (c .listed) (c .guarded))
+course-ways Q Lockdown next limit c o e u v w = cases Q (o .held || (c .listed && c .guarded)) (u Answers.Sealed (lit< tt, lit< tt)) (w (c .listed) (c .guarded))
 course-ways Q (Read p) next limit c o e u v w = w (c .listed) (c .guarded)
 course-ways Q (Load p) next limit c o e u v w = w (c .listed) (c .guarded)
 course-ways Q (Send k p) next limit c o e u v w = w (c .listed) (c .guarded)
 course-ways Q End next limit c o e u v w = e refl
 
-pub course-cases : (Q : Course → Type 0) (x next : Step) (limit : ℕ) (c : Course) (o : Heard) → isEnd x ≡ false → ((a : Answer) → 7 < numberOf a → Q (ended a c))
+pub course-cases : (Q : Course → Type 0) (x next : Step) (limit : ℕ) (c : Course) (o : Heard) → isEnd x ≡ false → ((a : Answer) → Stops a → Q (ended a c))
     → (isWait x ≡ true → 1 < c .left → Q (fewer c)) → ((l d : Bool) → Q (onward next limit l d c)) → Q (courseBy x next limit c o)
 course-cases Q x next limit c o e u v w = course-ways Q x next limit c o (λ h. never (sym e ∙ h)) u v w
 
@@ -134,10 +138,10 @@ pub onward-some : (next : Step) → isEnded (cond (isEnd next) (Ended Answers.Do
 unfolding isEnded
 onward-some next = known (λ (s : Stage). isEnded s ≡ false → isEnd next ≡ false) (isEnd next) (λ e h. never (sym h)) (λ e h. e)
 
--- 8 to 13 are not the plan's end
-pub not-done : {A : Type 0} (a : Answer) → 7 < numberOf a → Ended a ≡ Ended Answers.Done → A
+-- they are not the plan's end
+pub not-done : {A : Type 0} (a : Answer) → Stops a → Ended a ≡ Ended Answers.Done → A
 unfolding numberOf
-not-done a z e = let y : numberOf a ≡ 0 = ap told e in absurd (omega (arith, y, z))
+not-done a z e = let y : numberOf a ≡ 0 = ap told e in absurd (omega (arith, y, z .0))
   where
     told : Stage → ℕ
     told Going = 0

@@ -1,13 +1,13 @@
--- DEMAND 1 over lists: every outcome's answer is a number of the table, and one of 1 to 7 means that nothing was sent and nothing changed. A refused
--- call starts at its end, and a run never leaves its end; an accepted one can only end with 0 or 8 to 13.
+-- DEMAND 1 over lists: every outcome's answer is a number of the table, and one of 1 to 7, or 14, means that nothing was sent and nothing changed. A refused
+-- call starts at its end, and a run never leaves its end; an accepted one can only end with 0, 8 to 13 or 15.
 -- Assumes nothing.
 use Prim.Native.Nat.{ℕ, zero, suc, _<_, _≤_}
 use mathlib.Core.Path.{_≡_, refl, sym, ap, subst, _∙_}
-use mathlib.Core.Bool.{Bool, true, false, cond, _&&_}
+use mathlib.Core.Bool.{Bool, true, false, cond, _&&_, _||_}
 use mathlib.Core.List.{List, []}
 use lib.ListN.{length}
 use lib.Dec.{eqb, leb, lit≤}
-use borrow.Author.Tests.{lt-leb}
+use borrow.Author.Tests.{lt-leb, ne-eqb}
 use Rattle.slices.specs.Lists.{over}
 use Rattle.geometry.specs.declared.Geometry.{Geometry}
 use Rattle.geometry.specs.declared.Part.{Part}
@@ -21,7 +21,7 @@ use Rattle.slots.specs.declared.Kind.{Kind}
 use Rattle.slots.specs.declared.Stage.{Stage}
 use Rattle.slots.specs.declared.Stage.the-variants.{Going, Ended}
 use Rattle.slots.specs.declared.Verdict.{Verdict}
-use Rattle.slots.specs.declared.Verdict.the-variants.{Good, Blank, Beyond}
+use Rattle.slots.specs.declared.Verdict.the-variants.{Good, Blank, Beyond, Outside}
 use Rattle.state.specs.Memory.{State}
 use Rattle.slots.specs.Plans.{planOf, stepAt, isEnd, bound}
 use Rattle.slots.specs.Driver.{isEnded, verdictAnswer, weighed, toldBy}
@@ -29,11 +29,12 @@ use Rattle.slots.specs.Refusals.{rawRefusal}
 use Rattle.slots.specs.Calls.{Out, Request, Secret, Open, Closed, refused, scripted, hears, openAfter, stepOpen, stepClosed, run, firstCourse, refusalOf, startOpen, startClosed, ran, reached, countBy, countOf, delivered, outFrom, answerIn, answerAt, callOut, callNext, rawSent, rawOut, rawNext}
 use Rattle.slots.specs.Lists.{Op, call, raw, straight, pin, busyEnd, cut, asks, secret, met, callBy, rawBy, outOf, calledBy, rawLeft, nextOf, isRefusal, lentTo, Untouched}
 use Rattle.slots.proofs.Parts.{cases, outAt, out-at, nextAt, next-at}
-use Rattle.slots.proofs.Places.{never, course-ways}
+use Rattle.slots.proofs.Places.{never, Stops, course-ways}
 use Rattle.slots.proofs.Accepted.{run-ended}
+use native.Mathlib.Omega.{arith}
 
 -- every answer is a number of the table
-pub in-table : (a : Answer) → numberOf a ≤ 13
+pub in-table : (a : Answer) → numberOf a ≤ 15
 unfolding numberOf
 in-table Answers.Done = lit≤ tt
 in-table Answers.Part = lit≤ tt
@@ -49,6 +50,8 @@ in-table Answers.Sealed = lit≤ tt
 in-table Answers.Cut = lit≤ tt
 in-table Answers.Blank = lit≤ tt
 in-table Answers.End = lit≤ tt
+in-table Answers.Dates = lit≤ tt
+in-table Answers.Term = lit≤ tt
 
 -- ---- a refused call
 
@@ -116,16 +119,16 @@ refused-call g v x s e =
       next = λ i. cond (r .0 i .cut) (cutState g (x .junk) (reached (r .0 i, r .1 i))) (reached (r .0 i, r .1 i));
     }
 
--- ---- an accepted call ends with 0 or 8 to 13
+-- ---- an accepted call ends with 0, 8 to 13 or 15
 
-late-is : (a : Answer) → 7 < numberOf a → isRefusal a ≡ false
-late-is a h = (λ i. leb 1 (numberOf a) && lt-leb (numberOf a) 7 h i) ∙ go (leb 1 (numberOf a))
+late-is : (a : Answer) → Stops a → isRefusal a ≡ false
+late-is a h = (λ i. (leb 1 (numberOf a) && lt-leb (numberOf a) 7 (h .0) i) || ne-eqb (numberOf a) 14 (λ e. absurd (omega (arith, h .1, e))) i) ∙ go (leb 1 (numberOf a))
   where
-    go : (b : Bool) → (b && false) ≡ false
+    go : (b : Bool) → ((b && false) || false) ≡ false
     go true = refl
     go false = refl
 
--- a course that has not ended, or ended with none of 1 to 7
+-- a course that has not ended, or ended with none of 1 to 7 and 14
 abbrev Late : Stage → Type 0
 Late Going = Unit {0}
 Late (Ended a) = isRefusal a ≡ false
@@ -153,13 +156,14 @@ unfolding verdictAnswer numberOf
 verdict-late Good = refl
 verdict-late Blank = refl
 verdict-late Beyond = refl
+verdict-late Outside = refl
 
 answer-late : (t : Stage) (v : Verdict) → Late t → isRefusal (answerIn (toldBy t v)) ≡ false
 unfolding answerIn toldBy weighed numberOf
 answer-late Going v u = refl
 answer-late (Ended n) v u = cases (λ (a : Answer). isRefusal a ≡ false) (eqb (numberOf n) 0) (verdict-late v) u
 
--- a call that is not refused answers none of 1 to 7
+-- a call that is not refused answers none of 1 to 7 and 14
 pub accepted-late : (g : Geometry) (v : Request) (x : Secret) (s : State) → eqb (numberOf (refusalOf g (length (s .memory .array)) v)) 0 ≡ true
     → isRefusal (callOut g v x s .answer) ≡ false
 unfolding callOut outFrom ran startOpen firstCourse
@@ -200,21 +204,21 @@ pick-met false lent reply s t a h = record { out = refl; next = refl }
 
 at-untouched : (p : Part) (o : Op) (s : State) → isRefusal (outAt p o s .answer) ≡ true → Untouched (lentTo o) s (outAt p o s) (nextAt p o s)
 unfolding outAt nextAt lentTo callBy rawBy calledBy rawLeft rawOut rawNext rawSent sentBy endedBy pinOutcome cutBy numberOf
-at-untouched (Known g) (call a place script payload junk log lent) s h = call-untouched g (asks g a place script payload junk log lent) (secret payload place junk lent) s h
+at-untouched (Known g) (call a detail script payload junk log lent) s h = call-untouched g (asks g a detail script payload junk log lent) (secret payload detail junk lent) s h
 at-untouched (Known g) (raw frame script junk log reply) s h =
     pick-untouched (eqb (numberOf (rawRefusal g (length (s .memory .array)) frame (length reply) (length log) script (length junk))) 0) reply s _ _ _ (raw-late (eqb (scripted script 0) 2)) h
 at-untouched (Known g) (straight frame reply) s h = pick-met (framed (length frame) (length reply)) reply _ s _ Answers.Frame h
 at-untouched (Known g) (pin high) s h = never h
 at-untouched (Known g) busyEnd s h = never h
 at-untouched (Known g) (cut junk) s h = pick-met (cutFits g (length (s .memory .array)) (length junk)) [] [] s _ Answers.Script h
-at-untouched Unknown (call a place script payload junk log lent) s h = record { out = refl; next = refl }
+at-untouched Unknown (call a detail script payload junk log lent) s h = record { out = refl; next = refl }
 at-untouched Unknown (raw frame script junk log reply) s h = record { out = refl; next = refl }
 at-untouched Unknown (straight frame reply) s h = record { out = refl; next = refl }
 at-untouched Unknown (pin high) s h = never h
 at-untouched Unknown busyEnd s h = record { out = refl; next = refl }
 at-untouched Unknown (cut junk) s h = record { out = refl; next = refl }
 
--- DEMAND 1: 1 to 7 send nothing and change nothing
+-- DEMAND 1: 1 to 7 and 14 send nothing and change nothing
 pub refusals : (o : Op) (s : State) → isRefusal (outOf o s .answer) ≡ true → Untouched (lentTo o) s (outOf o s) (nextOf o s)
 refusals o s h =
     subst (λ (x : Out). Untouched (lentTo o) s x (nextOf o s)) (sym (out-at o s))

@@ -103,14 +103,14 @@ module _ (Q : Registers → Memory → Type 0) (w : Steady Q) where
 
   at-keeps : (p : Part) (o : Op) (s : State) → In s → In (nextAt p o s)
   unfolding nextAt calledBy rawLeft sentBy endedBy pinOutcome pinnedState cutBy
-  at-keeps (Known g) (call a place script payload junk log lent) s u = call-keeps g (asks g a place script payload junk log lent) (secret payload place junk lent) s u
+  at-keeps (Known g) (call a detail script payload junk log lent) s u = call-keeps g (asks g a detail script payload junk log lent) (secret payload detail junk lent) s u
   at-keeps (Known g) (raw frame script junk log reply) s u = raw-keeps g frame script (length log) junk (length reply) s u
   at-keeps (Known g) (straight frame reply) s u = cases (λ (l : Left). In (l .state)) (framed (length frame) (length reply)) (sent-keeps g frame s u) u
   at-keeps (Known g) busyEnd s u = end-keeps g s u
   at-keeps (Known g) (cut junk) s u =
       cases (λ (l : Left). In (l .state)) (cutFits g (length (s .memory .array)) (length junk)) (cut-keeps g junk s u) u
   at-keeps (Known g) (pin high) s u = w .pins high (s .registers) (s .memory) u
-  at-keeps Unknown (call a place script payload junk log lent) s u = u
+  at-keeps Unknown (call a detail script payload junk log lent) s u = u
   at-keeps Unknown (raw frame script junk log reply) s u = u
   at-keeps Unknown (straight frame reply) s u = u
   at-keeps Unknown (pin high) s u = w .pins high (s .registers) (s .memory) u

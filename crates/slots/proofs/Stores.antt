@@ -279,7 +279,7 @@ module _ (g : Geometry) (K : Kind) (slot : ℕ) (W : Writer g K slot) (fits : 8 
         (λ _. (asked, (v .0, v .1, protection-free g r m K h S served (few .short) (v .0), v .2, v .3), l))
     turned some e (frees l) v =
         carry facts g K S limit plan c r m h Lockdown (courseBy Lockdown next limit c (heard g Lockdown S (replied Lockdown))) h (lockdown-registers g r K h) (ap (λ (f : List ℕ). sentMemory g r f m) (lockdown-form g K h) ∙ lockdown-memory g r m 0 0 0 (filler g K h Lockdown))
-        (known (λ d. Next facts plan d r m h) (hasBits g (registerIn g (replied Lockdown)) S || (c .listed && c .guarded)) (λ _. stop facts g K S limit plan c r m h Answers.Sealed r m h (lit< tt))
+        (known (λ d. Next facts plan d r m h) (hasBits g (registerIn g (replied Lockdown)) S || (c .listed && c .guarded)) (λ _. stop facts g K S limit plan c r m h Answers.Sealed r m h (lit< tt, lit< tt))
         (λ z _. (fresh first, (v .0, open-told (c .listed) (c .guarded) (v .0) (v .1) (v .2) z, (λ q a u. absurd (omega arith)), v .3, v .4), l)))
     turned some e (reads {p} o i l) v =
         let page = tabulate (g .size) (λ j. getD (replied (Read p)) (8 + j) 255) in

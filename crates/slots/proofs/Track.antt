@@ -42,7 +42,7 @@ use Rattle.slots.specs.Plans.{planOf, sectorFor, stepAt, isEnd}
 use Rattle.slots.specs.Driver.{Holding, shapeOf, frameByte, frameOf, heard, ended, courseBy, takenBy, stepOf, isEnded}
 use Rattle.slots.specs.Calls.{Request, Open, Closed, scripted, sends, leaves, replies, hears, registersAfter, memoryAfter, openAfter, closedAfter, stepOpen, stepClosed, outline, run}
 use Rattle.slots.proofs.Steady.{Steady, step-keeps}
-use Rattle.slots.proofs.Places.{never, restAt, rest-step, not-done, Over, course-over}
+use Rattle.slots.proofs.Places.{never, Stops, restAt, rest-step, not-done, Over, course-over}
 use Rattle.slots.proofs.Accepted.{run-ended}
 use Rattle.slots.proofs.Bound.{Ok, step-ok}
 use Rattle.slots.proofs.Sent.{operationOf, send-starts, send-named, send-memory, pollHeard, waits}
@@ -87,7 +87,7 @@ module _ (T : Facts) (g : Geometry) (K : Kind) (S limit : ℕ) (plan : List Step
   Turned x = Next T plan (after x) (control g r (frameOf g K h x) .registers) (sentMemory g r (frameOf g K h x) m) (takenBy x g K h (replied x))
 
   -- 8, 9, 10 and 11 end it
-  pub stop : (a : Answer) (t : Registers) (n : Memory) (k : Holding) → 7 < numberOf a → Next T plan (ended a c) t n k
+  pub stop : (a : Answer) (t : Registers) (n : Memory) (k : Holding) → Stops a → Next T plan (ended a c) t n k
   unfolding isEnded numberOf
   stop a t n k z (inl e) = never (sym e)
   stop a t n k z (inr e) = not-done a z e
@@ -103,7 +103,7 @@ module _ (T : Facts) (g : Geometry) (K : Kind) (S limit : ℕ) (plan : List Step
   unfolding shapeOf frameByte tabulate heard numberOf takenBy
   wait-next k k' live e l u l' u' =
       carry Wait (courseBy Wait next limit c (pollHeard g r m)) h (status-keeps g r (0 ∷ [])) (status-memory g r m (0 ∷ []))
-      (waits (λ d. Next T plan d r m h) next limit c g r m (stop Answers.Device r m h (lit< tt)) (stop Answers.Busy r m h (lit< tt))
+      (waits (λ d. Next T plan d r m h) next limit c g r m (stop Answers.Device r m h (lit< tt, lit< tt)) (stop Answers.Busy r m h (lit< tt, lit< tt))
       (λ _. (k, u, subst (T .Lawful k) (sym e) l)) (λ y _. (k', u' y, l')))
 
   -- a frame that starts its operation
@@ -187,7 +187,7 @@ module _ (T : Facts) (g : Geometry) (v : Request) where
 
         go : (b d : Bool) → Next T plan₀ (cond b (ended Answers.Cut (p .course)) on) (cond d (completed g (leaves g v p q)) (leaves g v p q))
             (cond d (completedMemory g (leaves g v p q .operation) (sentMemory g (p .registers) (sends g v p q) (q .memory))) (sentMemory g (p .registers) (sends g v p q) (q .memory))) held
-        go true d = stop T g (v .asked .kind) S₀ (v .asked .limit) plan₀ (p .course) (p .registers) (q .memory) (q .holding) Answers.Cut _ _ held (lit< tt)
+        go true d = stop T g (v .asked .kind) S₀ (v .asked .limit) plan₀ (p .course) (p .registers) (q .memory) (q .holding) Answers.Cut _ _ held (lit< tt, lit< tt)
         go false true = λ z.
             let w = turn z in (
               w .0,
@@ -198,11 +198,11 @@ module _ (T : Facts) (g : Geometry) (v : Request) where
         go false false = turn
 
         not-cut : (b : Bool) → (cond b (ended Answers.Cut (p .course)) on) .stage ≡ Ended Answers.Done → b ≡ false
-        not-cut true z = not-done Answers.Cut (lit< tt) z
+        not-cut true z = not-done Answers.Cut (lit< tt, lit< tt) z
         not-cut false z = refl
 
         at-end : (b : Bool) → Over plan₀ (cond b (ended Answers.Cut (p .course)) on)
-        at-end true = λ z. not-done Answers.Cut (lit< tt) z
+        at-end true = λ z. not-done Answers.Cut (lit< tt, lit< tt) z
         at-end false = course-over plan₀ (v .asked .limit) (p .course) (heard g (stepOf g (v .asked) (p .course)) S₀ (replies g v p q)) some e
 
     pub run-tracked : (n : ℕ) (p : Open) (q : Closed) → Ok plan₀ (v .asked .limit) n (p .course) → Tracked p q → Tracked (run n g v p q .0) (run n g v p q .1)

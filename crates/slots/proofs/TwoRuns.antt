@@ -25,17 +25,18 @@ use Rattle.state.specs.Outcomes.{framed, Left, partIn, sentState, endedState, p
 use Rattle.slots.specs.declared.Stage.{Stage}
 use Rattle.slots.specs.declared.Stage.the-variants.{Going, Ended}
 use Rattle.slots.specs.declared.Verdict.{Verdict}
-use Rattle.slots.specs.declared.Verdict.the-variants.{Good, Blank, Beyond}
+use Rattle.slots.specs.declared.Verdict.the-variants.{Good, Blank, Beyond, Outside}
 use Rattle.state.specs.Memory.{State}
 use Rattle.slots.specs.Plans.{Asked, bound}
 use Rattle.slots.specs.Driver.{verdictAnswer, weighed, toldBy}
-use Rattle.slots.specs.Refusals.{isOver, isShort, rawRefusal}
+use Rattle.slots.specs.Refusals.{isOver, isShort, rawRefusal, flawsIn, isMisdated}
 use Rattle.slots.specs.Calls.{Out, Request, Secret, Open, refused, scripted, registersAfter, stateAfter, run, startOpen, startClosed, ran, reached, answerIn, answerAt, outFrom, callOut, callNext, rawSent, rawOut, rawNext}
 use Rattle.slots.specs.Lists.{Op, asks, secret, met, callBy, rawBy, outOf, calledBy, rawLeft, nextOf, runList}
-use Rattle.slots.specs.Alike.{Twins, Given, calls, raws, straights, pins, ends, cuts, oversize, callJunk, rawJunk, cutJunk, junkBy, junkOf, Alike, AlikeLists, Soft, Same, AllSame}
+use Rattle.slots.specs.Alike.{Twins, Given, calls, raws, straights, pins, ends, cuts, oversize, callJunk, rawJunk, cutJunk, junkBy, junkOf, Alike, AlikeLists, Soft, Same, AllSame, misdated}
 use Rattle.slots.proofs.Parts.{outAt, out-at, nextAt, next-at}
 use Rattle.slots.proofs.Blind.{run-blind}
 use Rattle.slots.proofs.Steady.{array-steady, op-keeps}
+use Rattle.slots.specs.declared.Detail.{Detail}
 
 -- ---- answers
 
@@ -46,7 +47,8 @@ soft : (v : Verdict) → Soft (verdictAnswer v)
 unfolding verdictAnswer
 soft Good = inl (inl refl)
 soft Blank = inl (inr refl)
-soft Beyond = inr refl
+soft Beyond = inr (inl refl)
+soft Outside = inr (inr refl)
 
 -- of two verdicts on one end
 pub weighed-agree : (n : Answer) (v w : Verdict) → Agree (weighed n v) (weighed n w)
@@ -146,20 +148,21 @@ pick-answer false x y = refl
 met-same : (x y : Left) → x .answer ≡ y .answer → Same (met x) (met y)
 met-same x y e = refl-same refl refl refl e
 
--- 5 is alike on a known part
-abbrev Sizes : Part → Op → Op → Type 0
-Sizes p o u = (g : Geometry) → p ≡ Known g → oversize g o ≡ oversize g u
+-- 5 is alike on a known part, and 14
+abbrev pub Flawed : Part → Op → Op → Type 0
+Flawed p o u = ((g : Geometry) → p ≡ Known g → oversize g o ≡ oversize g u) × (misdated o ≡ misdated u)
 
 -- what each of the two is asked
-pub request-same : (g : Geometry) (a : Asked) (script : List ℕ) (p q : ℕ) (x y j k l m c d : List ℕ) → isOver (a .kind) g p (length x) ≡ isOver (a .kind) g q (length y)
+pub request-same : (g : Geometry) (a : Asked) (script : List ℕ) (p q : Detail) (x y j k l m c d : List ℕ) → isOver (a .kind) g p (length x) ≡ isOver (a .kind) g q (length y) → isMisdated (a .kind) p ≡ isMisdated (a .kind) q
     → length j ≡ length k → length l ≡ length m → length c ≡ length d → asks g a p script x j l c ≡ asks g a q script y k m d
-request-same g a script p q x y j k l m c d e ej el ex = λ i. record { asked = a; script = script; log = el i; junk = ej i; oversize = e i || isShort (a .kind) g (ex i) }
+unfolding flawsIn
+request-same g a script p q x y j k l m c d e f ej el ex = λ i. record { asked = a; script = script; log = el i; junk = ej i; flaws = record { size = e i || isShort (a .kind) g (ex i); dates = f i } }
 
 module _ (s t : State) (h : Twins s t) where
-  out-same : (p : Part) {o u : Op} → Given o u → Sizes p o u → Same (outAt p o s) (outAt p u t)
-  unfolding outAt callBy rawBy oversize sentBy endedBy pinOutcome cutBy
+  out-same : (p : Part) {o u : Op} → Given o u → Flawed p o u → Same (outAt p o s) (outAt p u t)
+  unfolding outAt callBy rawBy oversize misdated sentBy endedBy pinOutcome cutBy
   out-same (Known g) (calls a script {p} {q} {a = x} {b = y} {j} {k} {l} {m} {x = c} {y = d} ej el ex) e =
-      call-same g (request-same g a script p q x y j k l m c d (e g refl) ej el ex) (secret x p j c) (secret y q k d) s t h
+      call-same g (request-same g a script p q x y j k l m c d (e .0 g refl) (e .1) ej el ex) (secret x p j c) (secret y q k d) s t h
   out-same (Known g) (raws frame script {j} {k} {l} {m} {a} {b} ej el ea) e = raw-same g frame script j k l m a b s t ej el ea h
   out-same (Known g) (straights frame {a} {b} ea) e =
       met-same (sentBy (Known g) s frame a) (sentBy (Known g) t frame b)
@@ -177,10 +180,10 @@ module _ (s t : State) (h : Twins s t) where
   out-same Unknown ends e = refl-same refl refl refl refl
   out-same Unknown (cuts ej) e = refl-same refl refl refl refl
 
-  registers-same : (p : Part) {o u : Op} → Given o u → Sizes p o u → junkBy p o s ≡ junkBy p u t → nextAt p o s .registers ≡ nextAt p u t .registers
-  unfolding nextAt calledBy rawLeft rawNext rawJunk cutJunk oversize junkBy sentBy endedBy pinOutcome pinnedState cutBy sentState endedState cutState
+  registers-same : (p : Part) {o u : Op} → Given o u → Flawed p o u → junkBy p o s ≡ junkBy p u t → nextAt p o s .registers ≡ nextAt p u t .registers
+  unfolding nextAt calledBy rawLeft rawNext rawJunk cutJunk oversize misdated junkBy sentBy endedBy pinOutcome pinnedState cutBy sentState endedState cutState
   registers-same (Known g) (calls a script {p} {q} {a = x} {b = y} {j} {k} {l} {m} {x = c} {y = d} ej el ex) e z =
-      call-registers g (request-same g a script p q x y j k l m c d (e g refl) ej el ex) (secret x p j c) (secret y q k d) s t h z
+      call-registers g (request-same g a script p q x y j k l m c d (e .0 g refl) (e .1) ej el ex) (secret x p j c) (secret y q k d) s t h z
   registers-same (Known g) (raws frame script {j} {k} {l} {m} {a} {b} ej el ea) e z =
       let r = raw-refusal g frame script j k l m a b s t ej el ea h in
       raw-registers (eqb (numberOf (rawRefusal g (length (s .memory .array)) frame (length a) (length l) script (length j))) 0) (eqb (scripted script 0) 2) g (scripted script 0) frame j s
@@ -218,7 +221,7 @@ op-same : (o u : Op) (s t : State) → Twins s t → Alike o u s t → Same (out
 op-same o u s t h a =
     subst (λ (x : Out). Same x (outOf u t)) (sym (out-at o s))
     (subst (λ (y : Out). Same (outAt (partIn s) o s) y) (sym (out-at u t))
-    (subst (λ (p : Part). Same (outAt (partIn s) o s) (outAt p u t)) (part-same s t h) (out-same s t h (partIn s) (a .given) (a .size))))
+    (subst (λ (p : Part). Same (outAt (partIn s) o s) (outAt p u t)) (part-same s t h) (out-same s t h (partIn s) (a .given) (a .size, a .dates))))
 
 pub next-twins : (o u : Op) (s t : State) → Twins s t → Alike o u s t → Twins (nextOf o s) (nextOf u t)
 unfolding junkOf
@@ -229,7 +232,7 @@ next-twins o u s t h a =
       registers =
           ap (λ (x : State). x .registers) (next-at o s)
           ∙ subst (λ (q : Part). nextAt (partIn s) o s .registers ≡ nextAt q u t .registers) p
-          (registers-same s t h (partIn s) (a .given) (a .size) (subst (λ (q : Part). junkBy (partIn s) o s ≡ junkBy q u t) (sym p) (a .junk)))
+          (registers-same s t h (partIn s) (a .given) (a .size, a .dates) (subst (λ (q : Part). junkBy (partIn s) o s ≡ junkBy q u t) (sym p) (a .junk)))
           ∙ ap (λ (x : State). x .registers) (sym (next-at u t));
       size =
           op-keeps (λ r m. length (m .array) ≡ n) (array-steady (λ x. x ≡ n)) o s (h .size)

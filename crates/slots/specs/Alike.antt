@@ -15,8 +15,9 @@ use Rattle.control.specs.PowerLoss.{reaching}
 use Rattle.state.specs.declared.Answer.{Answer}
 use Rattle.state.specs.declared.Answer.the-variants as Answers
 use Rattle.state.specs.Answers.{numberOf}
+use Rattle.slots.specs.declared.Detail.{Detail}
 use Rattle.slots.specs.Plans.{Asked}
-use Rattle.slots.specs.Refusals.{isOver, rawRefusal}
+use Rattle.slots.specs.Refusals.{isOver, isMisdated, rawRefusal}
 use Rattle.state.specs.Memory.{State}
 use Rattle.state.specs.Outcomes.{partIn, cutFits}
 use Rattle.slots.specs.Calls.{Out, Request, Secret, ran, scripted}
@@ -32,9 +33,9 @@ abbrev pub Lent : List ℕ → List ℕ → Type 0
 Lent a b = length a ≡ length b
 
 -- (14.18) what may show is the same: which call, slot, B, script, raw frame, pin level, and the lengths of log, get buffer, reply and junk. Recipes,
--- patches and their places are any
+-- patches and their places, terms and today's dates are any
 pub data Given : Op → Op → Type 0 where
-  calls : (asked : Asked) (script : List ℕ) {p q : ℕ} {a b j k l m x y : List ℕ} → Lent j k → Lent l m → Lent x y →
+  calls : (asked : Asked) (script : List ℕ) {p q : Detail} {a b j k l m x y : List ℕ} → Lent j k → Lent l m → Lent x y →
       Given (call asked p script a j l x) (call asked q script b k m y)
   raws : (frame script : List ℕ) {j k l m a b : List ℕ} → Lent j k → Lent l m → Lent a b →
       Given (raw frame script j l a) (raw frame script k m b)
@@ -45,12 +46,21 @@ pub data Given : Op → Op → Type 0 where
 
 -- (14.19) whether 5 is met by a recipe or a patch
 unfoldable pub oversize : Geometry → Op → Bool
-oversize g (call a place script payload junk log lent) = isOver (a .kind) g place (length payload)
+oversize g (call a d script payload junk log lent) = isOver (a .kind) g d (length payload)
 oversize g (raw frame script junk log reply) = false
 oversize g (straight frame reply) = false
 oversize g (pin high) = false
 oversize g busyEnd = false
 oversize g (cut junk) = false
+
+-- (14.19) whether 14 is met by a term or by today's date
+unfoldable pub misdated : Op → Bool
+misdated (call a d script payload junk log lent) = isMisdated (a .kind) d
+misdated (raw frame script junk log reply) = false
+misdated (straight frame reply) = false
+misdated (pin high) = false
+misdated busyEnd = false
+misdated (cut junk) = false
 
 -- (14.20) the junk that reaches a register in a call that runs up to a cut, by the operation then under way; nothing without one
 unfoldable pub callJunk : Geometry → Request → Secret → State → List ℕ
@@ -68,7 +78,7 @@ cutJunk g junk s = cond (cutFits g (length (s .memory .array)) (length junk)) (r
 
 -- (14.20) in any call or event
 unfoldable pub junkBy : Part → Op → State → List ℕ
-junkBy (Known g) (call a place script payload junk log lent) s = callJunk g (asks g a place script payload junk log lent) (secret payload place junk lent) s
+junkBy (Known g) (call a d script payload junk log lent) s = callJunk g (asks g a d script payload junk log lent) (secret payload d junk lent) s
 junkBy (Known g) (raw frame script junk log reply) s = rawJunk g frame script junk log reply s
 junkBy (Known g) (straight frame reply) s = []
 junkBy (Known g) (pin high) s = []
@@ -80,11 +90,12 @@ junkBy Unknown o s = []
 unfoldable pub junkOf : Op → State → List ℕ
 junkOf o s = junkBy (partIn s) o s
 
--- (14.19) one input of each run: 5 is met by both or by neither
+-- (14.19) one input of each run: 5 is met by both or by neither, and so is 14
 -- (14.20) and the junk that reaches a register is equal
 pub record Alike (o u : Op) (s t : State) : Type 0 where
   pub given : Given o u
   pub size : (g : Geometry) → partIn s ≡ Known g → oversize g o ≡ oversize g u
+  pub dates : misdated o ≡ misdated u
   pub junk : junkOf o s ≡ junkOf u t
 
 -- (14.21) the lists, each input taken at the state that the one before left
@@ -94,9 +105,9 @@ AlikeLists [] (u ∷ us) s t = ⊥
 AlikeLists (o ∷ os) [] s t = ⊥
 AlikeLists (o ∷ os) (u ∷ us) s t = Alike o u s t × AlikeLists os us (nextOf o s) (nextOf u t)
 
--- (14.22) the answers that count as one: 0, 12, 13
+-- (14.22) the answers that count as one: 0, 12, 13, 15
 abbrev pub Soft : Answer → Type 0
-Soft a = ((a ≡ Answers.Done) ⊎ (a ≡ Answers.Blank)) ⊎ (a ≡ Answers.End)
+Soft a = ((a ≡ Answers.Done) ⊎ (a ≡ Answers.Blank)) ⊎ ((a ≡ Answers.End) ⊎ (a ≡ Answers.Term))
 
 -- (14.22) what is compared of two outcomes
 pub record Same (x y : Out) : Type 0 where

@@ -18,7 +18,9 @@ use Rattle.state.specs.Answers.{numberOf}
 use Rattle.state.specs.Memory.{Memory, State}
 use Rattle.state.specs.Frames.{replyOf, sentMemory}
 use Rattle.state.specs.Completion.{completedMemory}
+use Rattle.slots.specs.declared.Aim.{Aim}
 use Rattle.slots.specs.declared.Course.{Course}
+use Rattle.slots.specs.declared.Flaws.{Flaws}
 use Rattle.slots.specs.declared.Kind.{Kind}
 use Rattle.slots.specs.declared.Kind.the-variants.{Put, Patch, Get, Wipe}
 use Rattle.slots.specs.declared.Stage.the-variants.{Going, Ended}
@@ -27,7 +29,7 @@ use Rattle.slots.specs.declared.Told.the-variants.{Running, Answered}
 use Rattle.slots.specs.declared.Verdict.the-variants.{Good}
 use Rattle.state.specs.Outcomes.{sentState, cutState}
 use Rattle.slots.specs.Plans.{Asked, bound, isWait, sectorFor}
-use Rattle.slots.specs.Records.{headSize, lengthIn}
+use Rattle.slots.specs.Records.{headSize, versionIn, lengthIn}
 use Rattle.slots.specs.Driver.{Heard, Holding, frameOf, heard, ended, after, takenBy, stepOf, isEnded, toldBy}
 use Rattle.slots.specs.Refusals.{callRefusal, rawRefusal}
 
@@ -68,18 +70,18 @@ stateAfter g b s = record { registers = registersAfter g b (s .registers); memor
 
 -- ---- put, patch, get, wipe
 
--- Aid: what is asked, as far as the wire may depend on it: the call, slot, B, script, the lengths of log and J, whether 5 is met
+-- Aid: what is asked, as far as the wire may depend on it: the call, slot, B, script, the lengths of log and J, what is met of 5 and 14
 pub record Request : Type 0 where
   pub asked : Asked
   pub script : List ℕ
   pub log : ℕ
   pub junk : ℕ
-  pub oversize : Bool
+  pub flaws : Flaws
 
--- Aid: and the rest: recipe or patch, J, and what the lent get buffer held
+-- Aid: and the rest: recipe or patch, what the call aims at, J, and what the lent get buffer held
 pub record Secret : Type 0 where
   pub payload : List ℕ
-  pub place : ℕ
+  pub aim : Aim
   pub junk : List ℕ
   pub lent : List ℕ
 
@@ -160,7 +162,7 @@ firstCourse refusal limit =
 -- Aid: the refusal of what is asked; Done where there is none
 abbrev pub refusalOf : Geometry → ℕ → Request → Answer
 refusalOf g array v =
-    callRefusal g array (v .asked) (v .oversize) (v .log) (v .script) (v .junk)
+    callRefusal g array (v .asked) (v .flaws) (v .log) (v .script) (v .junk)
 
 -- (11.10) nothing is sent yet
 unfoldable pub startOpen : Geometry → ℕ → Request → Registers → Open
@@ -170,7 +172,7 @@ startOpen g array v r =
 -- (11.10) nothing is read yet; there is room for the largest slot
 unfoldable pub startClosed : Secret → Memory → Closed
 startClosed x m =
-    record { memory = m; holding = record { payload = x .payload; place = x .place; staged = replicate slotRoom 0; verdict = Good } }
+    record { memory = m; holding = record { payload = x .payload; aim = x .aim; staged = replicate slotRoom 0; verdict = Good } }
 
 -- (11.11) the run up to its end or its cut
 unfoldable pub ran : Geometry → Request → Secret → State → Open × Closed
@@ -192,9 +194,9 @@ countBy Wipe staged = 0
 unfoldable pub countOf : Kind → Answer → List ℕ → ℕ
 countOf k a staged = cond (eqb (numberOf a) 0) (countBy k staged) 0
 
--- (11.9) the get buffer with the first n bytes behind the record's head, all else as it was
+-- (11.9) the get buffer with the first n bytes behind the head of the record that was read, all else as it was
 abbrev pub delivered : ℕ → List ℕ → List ℕ → List ℕ
-delivered n staged buffer = over (take n (drop headSize staged)) buffer
+delivered n staged buffer = over (take n (drop (headSize (versionIn staged)) staged)) buffer
 
 -- (11.9) what a run hands back: the get buffer by its answer
 unfoldable pub outFrom : Request → Secret → Open × Closed → Answer → Out

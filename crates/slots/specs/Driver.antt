@@ -13,6 +13,7 @@ use Rattle.registers.specs.Protection.{hasBits}
 use Rattle.state.specs.declared.Answer.{Answer}
 use Rattle.state.specs.declared.Answer.the-variants as Answers
 use Rattle.state.specs.Answers.{numberOf}
+use Rattle.slots.specs.declared.Aim.{Aim}
 use Rattle.slots.specs.declared.Course.{Course}
 use Rattle.slots.specs.declared.Kind.{Kind}
 use Rattle.slots.specs.declared.Kind.the-variants.{Put, Patch, Get, Wipe}
@@ -25,14 +26,14 @@ use Rattle.slots.specs.declared.Stage.the-variants.{Going, Ended}
 use Rattle.slots.specs.declared.Told.{Told}
 use Rattle.slots.specs.declared.Told.the-variants.{Running, Answered}
 use Rattle.slots.specs.declared.Verdict.{Verdict}
-use Rattle.slots.specs.declared.Verdict.the-variants.{Good, Blank, Beyond}
-use Rattle.slots.specs.Records.{image, changed, getVerdict, patchVerdict}
+use Rattle.slots.specs.declared.Verdict.the-variants.{Good, Blank, Beyond, Outside}
+use Rattle.slots.specs.Records.{headSize, versionIn, image, changed, getVerdict, patchVerdict}
 use Rattle.slots.specs.Plans.{Asked, planOf, stepAt, isEnd}
 
--- Aid: the data: the recipe or the patch's bytes, the patch's place, the slot's bytes read so far, and the verdict on them
+-- Aid: the data: the recipe or the patch's bytes, what the call aims at, the slot's bytes read so far, and the verdict on them
 pub record Holding : Type 0 where
   pub payload : List ℕ
-  pub place : ℕ
+  pub aim : Aim
   pub staged : List ℕ
   pub verdict : Verdict
 
@@ -76,10 +77,11 @@ unfoldable pub frameByte : Shape → (ℕ → ℕ) → ℕ → ℕ
 frameByte s bytes i =
     cond (eqb i 0) (s .opcode) (cond (eqb i 1) (s .high) (cond (eqb i 2) (s .middle) (cond (eqb i 3) (s .low) (cond (s .loads) (bytes (i - 4)) 0))))
 
--- (10.10) byte i of the slot as the call is to leave it: a put the recipe's record, a patch what it read with its bytes in their place
+-- (10.10) byte i of the slot as the call is to leave it: a put the recipe's record; a patch what it read, with its bytes in their place behind the head that
+-- it read
 unfoldable pub storedBy : Kind → Holding → ℕ → ℕ
-storedBy Put h i = image (h .payload) i
-storedBy Patch h i = changed (h .verdict) (h .place) (h .payload) (getD (h .staged) i 0) i
+storedBy Put h i = image (h .aim .period) (h .payload) i
+storedBy Patch h i = changed (h .verdict) (headSize (versionIn (h .staged))) (h .aim .place) (h .payload) (getD (h .staged) i 0) i
 storedBy Get h i = 0
 storedBy Wipe h i = 0
 
@@ -181,8 +183,8 @@ after g a c o = courseBy (stepOf g a c) (stepAt (planOf g a) (suc (c .place))) (
 -- (10.20) the verdict on a slot's first page
 unfoldable pub judged : Geometry → Kind → Holding → List ℕ → Verdict
 judged g Put h bytes = Good
-judged g Patch h bytes = patchVerdict g (h .place + length (h .payload)) bytes
-judged g Get h bytes = getVerdict g bytes
+judged g Patch h bytes = patchVerdict g (h .aim .place + length (h .payload)) bytes
+judged g Get h bytes = getVerdict g (h .aim .today) bytes
 judged g Wipe h bytes = Good
 
 -- (10.19) page p's bytes go to their place among the slot's
@@ -191,7 +193,7 @@ unfoldable pub readIn : Geometry → Kind → ℕ → Holding → List ℕ → H
 readIn g k p h bytes =
     record {
       payload = h .payload;
-      place = h .place;
+      aim = h .aim;
       staged = splice (g .size * (p % 8)) bytes (h .staged);
       verdict = cond (eqb (p % 8) 0) (judged g k h bytes) (h .verdict);
     }
@@ -219,6 +221,7 @@ unfoldable pub verdictAnswer : Verdict → Answer
 verdictAnswer Good = Answers.Done
 verdictAnswer Blank = Answers.Blank
 verdictAnswer Beyond = Answers.End
+verdictAnswer Outside = Answers.Term
 
 -- (10.21) the answer 0 is weighed by the verdict, any other stands
 unfoldable pub weighed : Answer → Verdict → Answer

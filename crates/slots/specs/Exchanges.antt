@@ -18,7 +18,8 @@ use Rattle.slots.specs.declared.Kind.{Kind}
 use Rattle.slots.specs.declared.Step.{Step}
 use Rattle.slots.specs.declared.Step.the-variants.{Wait, Protection, Lockdown, Read, Load, Send, End}
 use Rattle.slots.specs.declared.Verdict.{Verdict}
-use Rattle.slots.specs.declared.Verdict.the-variants.{Good, Blank, Beyond}
+use Rattle.slots.specs.declared.Verdict.the-variants.{Good, Blank, Beyond, Outside}
+use Rattle.slots.specs.Records.{dayIn}
 use Rattle.slots.specs.Plans.{Asked, sectorFor, isAsking, bound, planOf, isWait, framesOf, pollsOf}
 use Rattle.slots.specs.Driver.{Holding, frameOf, registerIn, takenBy, isEnded, verdictAnswer}
 use Rattle.state.specs.Memory.{State}
@@ -98,7 +99,7 @@ pub data Result : Type 0 where
   finished : (h : Holding) → Result
   stopped : (a : Answer) → Result
 
--- its answer: at the plan's end 0, 12 or 13 by the data
+-- its answer: at the plan's end 0, 12, 13 or 15 by the data
 abbrev pub answerFor : Result → Answer
 answerFor (finished h) = verdictAnswer (h .verdict)
 answerFor (stopped a) = a
@@ -170,13 +171,24 @@ pub record AsPlanned (g : Geometry) (v : Request) (h : Holding) (es : List Excha
   pub lines : o .lines ≡ outlines es
   pub answer : o .answer ≡ answerFor result
 
--- ---- 12 and 13
+-- ---- 12, 13 and 15
 
--- (14.13) what the first page of a slot tells a patch that ends at `end`, or a get, of which nothing is asked beyond the record (end 0)
-pub data Judges (g : Geometry) (bytes : List ℕ) (end : ℕ) : Verdict → Type 0 where
-  no-record : ((getD bytes 0 0 ≡ 1 → ⊥) ⊎ (8 * g .size < 3 + (getD bytes 1 0 * 256 + getD bytes 2 0))) → Judges g bytes end Blank
-  too-far : getD bytes 0 0 ≡ 1 → 3 + (getD bytes 1 0 * 256 + getD bytes 2 0) ≤ 8 * g .size → getD bytes 1 0 * 256 + getD bytes 2 0 < end → Judges g bytes end Beyond
-  within : getD bytes 0 0 ≡ 1 → 3 + (getD bytes 1 0 * 256 + getD bytes 2 0) ≤ 8 * g .size → end ≤ getD bytes 1 0 * 256 + getD bytes 2 0 → Judges g bytes end Good
+-- (14.13) the first bytes of a slot begin a record: version 1 with a head of 3 bytes, or 2 with one of 11, and a length that fits behind it
+pub data Begins (g : Geometry) (bytes : List ℕ) : Type 0 where
+  plain : getD bytes 0 0 ≡ 1 → 3 + (getD bytes 1 0 * 256 + getD bytes 2 0) ≤ 8 * g .size → Begins g bytes
+  termed : getD bytes 0 0 ≡ 2 → 11 + (getD bytes 1 0 * 256 + getD bytes 2 0) ≤ 8 * g .size → Begins g bytes
+
+-- (14.13) what they tell a patch that ends at `end`
+pub data PatchJudges (g : Geometry) (bytes : List ℕ) (end : ℕ) : Verdict → Type 0 where
+  no-record : (Begins g bytes → ⊥) → PatchJudges g bytes end Blank
+  too-far : Begins g bytes → getD bytes 1 0 * 256 + getD bytes 2 0 < end → PatchJudges g bytes end Beyond
+  fits : Begins g bytes → end ≤ getD bytes 1 0 * 256 + getD bytes 2 0 → PatchJudges g bytes end Good
+
+-- (14.13) what they tell a get on day `today`: only version 2 has a term, its days at 3 and at 7
+pub data GetJudges (g : Geometry) (bytes : List ℕ) (today : ℕ) : Verdict → Type 0 where
+  none : (Begins g bytes → ⊥) → GetJudges g bytes today Blank
+  outside : Begins g bytes → getD bytes 0 0 ≡ 2 → (today < dayIn bytes 3) ⊎ (dayIn bytes 7 < today) → GetJudges g bytes today Outside
+  inside : Begins g bytes → (getD bytes 0 0 ≡ 2 → (dayIn bytes 3 ≤ today) × (today ≤ dayIn bytes 7)) → GetJudges g bytes today Good
 
 -- ---- a call that nothing disturbs
 

@@ -1,6 +1,7 @@
 pub mod Plans
 pub mod Records
 pub mod Driver
+pub mod Details
 pub mod Refusals
 pub mod Calls
 pub mod Lists

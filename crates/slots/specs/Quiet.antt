@@ -3,7 +3,7 @@
 -- Assumes nothing.
 use Prim.Native.Nat.{ℕ, zero, suc, _+_, _*_, _%_, _≤_, _<_}
 use mathlib.Core.Path.{_≡_}
-use mathlib.Core.Bool.{true, false, cond}
+use mathlib.Core.Bool.{Bool, true, false, cond}
 use mathlib.Core.List.{List, [], _∷_}
 use mathlib.Core.Logic.{_⊎_}
 use lib.ListN.{length, take}
@@ -24,9 +24,11 @@ use Rattle.state.specs.Answers.{numberOf}
 use Rattle.state.specs.Frames.{isIdle}
 use Rattle.state.specs.Memory.{Memory, State}
 use Rattle.state.specs.Outcomes.{framed, partIn}
+use Rattle.slots.specs.declared.Period.{Period}
+use Rattle.slots.specs.declared.Period.the-variants.{Always, Days}
 use Rattle.slots.specs.Plans.{bound}
 use Rattle.slots.specs.Driver.{isEnded}
-use Rattle.slots.specs.Records.{limitOf, image}
+use Rattle.slots.specs.Records.{limitOf, versionOf, image, isWithin}
 use Rattle.slots.specs.Refusals.{rawRefusal}
 use Rattle.slots.specs.Calls.{Out, Request, Secret, Open, Closed, sends, stepOpen, stepClosed, startOpen, startClosed}
 use Rattle.slots.specs.Lists.{Op, call, raw, straight, pin, busyEnd, cut, asks, secret, nextOf}
@@ -50,12 +52,18 @@ pageIn g b p = tabulate (g .size) (λ i. b (g .size * (p % 8) + i))
 abbrev pub KeptSlot : Geometry → ℕ → (ℕ → ℕ) → State → Type 0
 KeptSlot g slot b s = Kept g (8 * slot) (8 * slot + 8) (pageIn g b) (s .registers) (s .memory)
 
--- (14.5) the slot holds a recipe
+-- (14.5) a term whose days fit four bytes
+abbrev pub Small : Period → Type 0
+Small Always = Unit {0}
+Small (Days first last) = (first < 4294967296) × (last < 4294967296)
+
+-- (14.5) the slot holds a recipe with its term
 -- (14.9) as it must for a patch
-pub record Holds (slot : ℕ) (recipe : List ℕ) (s : State) : Type 0 where
+pub record Holds (slot : ℕ) (period : Period) (recipe : List ℕ) (s : State) : Type 0 where
   pub geometry : Geometry
-  pub limit : length recipe ≤ limitOf geometry
-  pub kept : KeptSlot geometry slot (image recipe) s
+  pub limit : length recipe ≤ limitOf geometry (versionOf period)
+  pub small : Small period
+  pub kept : KeptSlot geometry slot (image period recipe) s
 
 -- ---- what starts nothing there
 
@@ -77,8 +85,8 @@ QuietCall first end g v x s =
 
 -- (14.6) no obeyed frame of this call, if it is not refused, starts an operation that writes one of the pages; an event sends none
 abbrev pub QuietBy : ℕ → ℕ → Part → Op → State → Type 0
-QuietBy first end (Known g) (call a place script payload junk log lent) s =
-    QuietCall first end g (asks g a place script payload junk log lent) (secret payload place junk lent) s
+QuietBy first end (Known g) (call a d script payload junk log lent) s =
+    QuietCall first end g (asks g a d script payload junk log lent) (secret payload d junk lent) s
 QuietBy first end (Known g) (raw frame script junk log reply) s =
     eqb (numberOf (rawRefusal g (length (s .memory .array)) frame (length reply) (length log) script (length junk))) 0 ≡ true
     → Spares g first end (startedBy g (s .registers) frame)
@@ -99,7 +107,7 @@ QuietIn slot os s = Quiet (8 * slot) (8 * slot + 8) os s
 
 -- ---- what a get returns
 
--- (14.7) the get is refused (1 to 9) or cut (11)
+-- (14.7) the get is refused (1 to 9, 14) or cut (11)
 pub data Refuses : Answer → Type 0 where
   part : Refuses Answers.Part
   frame : Refuses Answers.Frame
@@ -111,8 +119,14 @@ pub data Refuses : Answer → Type 0 where
   device : Refuses Answers.Device
   busy : Refuses Answers.Busy
   lost : Refuses Answers.Cut
+  dates : Refuses Answers.Dates
 
--- (14.7) or it answers 0 with exactly the recipe
+-- (14.7) on a day outside the term it answers 15, n 0, and inside it 0 with exactly the recipe
+abbrev pub Delivers : Bool → List ℕ → (buffer : List ℕ) → Out → Type 0
+Delivers true recipe buffer o = (o .answer ≡ Answers.Done) × (o .count ≡ length recipe) × (take (o .count) (o .lent) ≡ recipe)
+Delivers false recipe buffer o = (o .answer ≡ Answers.Term) × (o .count ≡ 0) × (o .lent ≡ buffer)
+
+-- (14.7) the one, or the other by the day
 -- (14.8) which is what demand 2 says of every later get
-abbrev pub Returns : List ℕ → Out → Type 0
-Returns recipe o = Refuses (o .answer) ⊎ ((o .answer ≡ Answers.Done) × (o .count ≡ length recipe) × (take (o .count) (o .lent) ≡ recipe))
+abbrev pub Returns : Period → ℕ → List ℕ → (buffer : List ℕ) → Out → Type 0
+Returns period today recipe buffer o = Refuses (o .answer) ⊎ Delivers (isWithin period today) recipe buffer o

@@ -1,4 +1,6 @@
 // The slot driver's types: its state, the steps of a call's plan, the place in it.
+use dates::Date;
+use dates::Term;
 use state::Answer;
 
 // The calls that go by a plan.
@@ -49,20 +51,48 @@ pub struct Course {
     pub guarded: bool,
 }
 
-// What page 0 of a slot told get or patch: a record, 12 (blank), or 13 (the patch ends beyond it).
+// What page 0 of a slot told get or patch: a record, 12 (blank), 13 (the patch ends beyond it), or 15 (the get is outside its term).
 pub enum Verdict {
     Good,
     Blank,
     Beyond,
+    Outside,
 }
 
-// The slot driver's state: the length of the chip's array, which says the part; the slot, the poll limit and a patch's place; the call; the
+// What a call is told beside slot, poll limit and bytes: a patch's place, a put's term, a get's date of today. What does not concern
+// the call is not looked at.
+pub struct Detail {
+    pub place: usize,
+    pub term: Term,
+    pub today: Date,
+}
+
+// A recipe's term in day numbers: none, or from the first to the last day, both inside.
+pub enum Period {
+    Always,
+    Days { first: usize, last: usize },
+}
+
+// The same as the driver goes by it, in day numbers.
+pub struct Aim {
+    pub place: usize,
+    pub period: Period,
+    pub today: usize,
+}
+
+// What is met by what a call is given: 5 (size), 14 (dates).
+pub struct Flaws {
+    pub size: bool,
+    pub dates: bool,
+}
+
+// The slot driver's state: the length of the chip's array, which says the part; the slot and the poll limit; the call, and what it aims at; the
 // verdict on the slot's first page; and the control state.
 pub struct Driver {
     pub array: usize,
     pub slot: usize,
     pub limit: usize,
-    pub place: usize,
+    pub aim: Aim,
     pub kind: Kind,
     pub verdict: Verdict,
     pub course: Course,

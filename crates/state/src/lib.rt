@@ -25,6 +25,8 @@ pub enum Answer {
     Cut,
     Blank,
     End,
+    Dates,
+    Term,
 }
 
 // The chip record: the registers, and of the memory the two buffers and the compare bit.
@@ -60,6 +62,8 @@ pub fn number(a: Answer) -> u8
         Answer::Cut => 11,
         Answer::Blank => 12,
         Answer::End => 13,
+        Answer::Dates => 14,
+        Answer::Term => 15,
     }
 }
 

@@ -10,6 +10,7 @@ ghost use Rattle.worlds.specs.Step.{strayRefusal, faultBy, stageBy};
 use geometry::Geometry;
 use geometry::Part;
 use slots::Driver;
+use slots::Flaws;
 use slots::Stage;
 use state::Answer;
 
@@ -37,7 +38,11 @@ fn fault_on(g: Geometry, d: Driver) -> Answer
     ensures { λ r. ⌜ r ≡ faultBy (Part.Known g) d ⌝ }
 {
     let k = d.kind;
-    let early = starts::early_refusal(g, k, d.slot, d.limit, false);
+    let flaws = Flaws {
+        size: false,
+        dates: false,
+    };
+    let early = starts::early_refusal(g, k, d.slot, d.limit, flaws);
     if state::number(early) != 0 {
         return early;
     }

@@ -20,6 +20,7 @@ fn verdict_answer(v: Verdict) -> Answer
         Verdict::Good => Answer::Done,
         Verdict::Blank => Answer::Blank,
         Verdict::Beyond => Answer::End,
+        Verdict::Outside => Answer::Term,
     }
 }
 

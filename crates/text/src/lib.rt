@@ -1,5 +1,7 @@
-// Words of a line, decimal numbers, and the worth of hexadecimal digits. Every function named here takes any input.
+// Words of a line, their parts at hyphens, decimal numbers, and the worth of hexadecimal digits. Every function named here takes any input.
 pub use decimal::number;
+pub use hyphens::before_hyphen;
+pub use hyphens::behind_hyphen;
 pub use nibbles::nibble;
 pub use scans::Class;
 pub use scans::all;
@@ -10,6 +12,7 @@ pub use values::Hex;
 pub use values::Number;
 
 mod decimal;
+mod hyphens;
 mod nibbles;
 mod scans;
 mod spans;

@@ -14,6 +14,7 @@ pub enum Class {
     Other,
     Digit,
     HexDigit,
+    NotHyphen,
 }
 
 // The first index from `at` on whose byte is not of the class, or the length.
@@ -46,6 +47,7 @@ fn is_in(class: Class, b: u8) -> bool
         Class::Other => !is_blank(b),
         Class::Digit => is_digit(b),
         Class::HexDigit => is_hex_digit(b),
+        Class::NotHyphen => b != 45,
     }
 }
 

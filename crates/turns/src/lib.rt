@@ -83,9 +83,10 @@ fn write_load(
 {
     let k = d.kind;
     let v = d.verdict;
+    let aim = d.aim;
     let e = 4 + g.size;
     put_address(0x84, 0, frame);
-    page_data::load_page(g, k, v, d.place, page, payload, staged, &mut frame[4..e]);
+    page_data::load_page(g, k, v, aim, page, payload, staged, &mut frame[4..e]);
     e
 }
 
@@ -140,12 +141,13 @@ fn take_data(
     staged: &mut [u8],
 ) -> Verdict
     requires { ⌜ (Pages g) × (length (now staged) ≡ slotRoom) ⌝ }
-    ensures { λ r. ⌜ held r (d .place) (now (payload .entry)) (now (staged .exit)) ≡ takenBy x g (d .kind) (holdingOf d (now (payload .entry)) (now (staged .entry))) (now (reply .entry)) ⌝ }
+    ensures { λ r. ⌜ held r (d .aim) (now (payload .entry)) (now (staged .exit)) ≡ takenBy x g (d .kind) (holdingOf d (now (payload .entry)) (now (staged .entry))) (now (reply .entry)) ⌝ }
 {
     let k = d.kind;
     let v = d.verdict;
+    let aim = d.aim;
     if let Step::Read { page: p } = x {
-        return page_data::read_page(g, k, v, d.place, p, payload, reply, staged);
+        return page_data::read_page(g, k, v, aim, p, payload, reply, staged);
     }
     v
 }
@@ -163,6 +165,7 @@ pub fn take_step(
     ensures { λ r. ⌜ (r ≡ tookOn g d (now (payload .entry)) (now (staged .entry)) (now (reply .entry))) × (now (staged .exit) ≡ dataAfter g d (now (payload .entry)) (now (staged .entry)) (now (reply .entry)) .staged) ⌝ }
 {
     let k = d.kind;
+    let aim = d.aim;
     let c = d.course;
     let sector = geometry::sector_of(g, 8 * d.slot);
     let last = steps::is_last(k, c.place);
@@ -172,7 +175,7 @@ pub fn take_step(
         array: d.array,
         slot: d.slot,
         limit: d.limit,
-        place: d.place,
+        aim: aim,
         kind: k,
         verdict: verdict,
         course: course,

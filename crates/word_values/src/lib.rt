@@ -1,6 +1,9 @@
-// What a word of a line is as a number or as HEX, or what is wrong with it. Every function named here takes any input.
+// What a word of a line is as a number, as HEX or as a date, or what is wrong with it. Every function named here takes any input.
 ghost use mathlib.Core.Path.{_≡_};
+ghost use Rattle.text.specs.Decimal.{numberOf};
+ghost use Rattle.word_values.specs.Days.{datePart, joined, dateOf};
 ghost use Rattle.word_values.specs.Values.{decimalOf, seedOf, ifWord, ifGiven, levelOf, lengthOf, numberAs, testHex};
+use dates::Date;
 use faults::Fault;
 use faults::Name;
 use text::Hex;
@@ -24,6 +27,18 @@ pub enum Numbered {
 // Whether a word is hexadecimal digits, or what is wrong with it.
 pub enum Tested {
     Fine,
+    Fault(Fault),
+}
+
+// A year, a month or a day, or what is wrong with it.
+pub enum DatePart {
+    Value(u32),
+    Fault(Fault),
+}
+
+// A date, or what is wrong with its word.
+pub enum Dated {
+    Value(Date),
     Fault(Fault),
 }
 
@@ -115,4 +130,52 @@ pub fn test_hex(word: &[u8], name: Name) -> Tested
         Hex::NotHex => Tested::Fault(Fault::NotHex(name)),
         Hex::Odd => Tested::Fault(Fault::Odd(name)),
     }
+}
+
+// The year, the month or the day that the word is.
+fn date_part(word: &[u8], name: Name) -> DatePart
+    ensures { λ r. ⌜ r ≡ datePart name (numberOf (now (word .entry))) ⌝ }
+{
+    let n = text::number(word);
+    match n {
+        Number::Value(v) => {
+            if 0xFFFF_FFFF < v {
+                return DatePart::Fault(Fault::TooLarge(name));
+            }
+            DatePart::Value(v as u32)
+        }
+        Number::NotNumber => DatePart::Fault(Fault::NotDate(name)),
+        Number::TooLarge => DatePart::Fault(Fault::TooLarge(name)),
+    }
+}
+
+// The date, or the first fault.
+fn join(year: DatePart, month: DatePart, day: DatePart) -> Dated
+    ensures { λ r. ⌜ r ≡ joined year month day ⌝ }
+{
+    match year {
+        DatePart::Value(y) => match month {
+            DatePart::Value(m) => match day {
+                DatePart::Value(d) => Dated::Value(Date {
+                    year: y,
+                    month: m,
+                    day: d,
+                }),
+                DatePart::Fault(f) => Dated::Fault(f),
+            },
+            DatePart::Fault(f) => Dated::Fault(f),
+        },
+        DatePart::Fault(f) => Dated::Fault(f),
+    }
+}
+
+// The date that the word is: three numbers joined by `-`.
+pub fn date(word: &[u8], name: Name) -> Dated
+    ensures { λ r. ⌜ r ≡ dateOf (now (word .entry)) name ⌝ }
+{
+    let rest = text::behind_hyphen(word);
+    let year = date_part(text::before_hyphen(word), name);
+    let month = date_part(text::before_hyphen(rest), name);
+    let day = date_part(text::behind_hyphen(rest), name);
+    join(year, month, day)
 }

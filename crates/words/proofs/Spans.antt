@@ -74,7 +74,10 @@ key-within w =
     (keyed w (bytes "junklen=") Key.Junk _
     (keyed w (bytes "log=") Key.Log _
     (keyed w (bytes "buffer=") Key.Buffer _
-    (keyed w (bytes "reply=") Key.Reply Keyed.Unknown tt))))))
+    (keyed w (bytes "reply=") Key.Reply _
+    (keyed w (bytes "first=") Key.First _
+    (keyed w (bytes "last=") Key.Last _
+    (keyed w (bytes "today=") Key.Today Keyed.Unknown tt)))))))))
 
 -- the value of an option that a part of a line names lies in that part
 pub value-within : (xs : List ℕ) (w : Span) (k : Key) (i : ℕ) → Within (length xs) w → Keyed.Known k i ≡ keyOf (partOf xs w) → w .start + i ≤ w .end

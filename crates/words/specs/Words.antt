@@ -13,7 +13,7 @@ use Rattle.words.specs.declared.Span.{Span}
 use Rattle.words.specs.declared.Command.{Command}
 use Rattle.words.specs.declared.Command.the-variants.{Put, Patch, Get, Wipe, Raw, Send, End, Pin, Cut, Part, Sum}
 use Rattle.words.specs.declared.Key.{Key}
-use Rattle.words.specs.declared.Key.the-variants.{Limit, Script, Seed, Junk, Log, Buffer, Reply}
+use Rattle.words.specs.declared.Key.the-variants.{Limit, Script, Seed, Junk, Log, Buffer, Reply, First, Last, Today}
 use Rattle.words.specs.declared.Chosen.{Chosen}
 use Rattle.words.specs.declared.Chosen.the-variants as Chosen
 use Rattle.words.specs.declared.Keyed.{Keyed}
@@ -63,7 +63,10 @@ keyOf w =
     (ifBegun w (bytes "junklen=") Junk
     (ifBegun w (bytes "log=") Log
     (ifBegun w (bytes "buffer=") Buffer
-    (ifBegun w (bytes "reply=") Reply Keyed.Unknown))))))
+    (ifBegun w (bytes "reply=") Reply
+    (ifBegun w (bytes "first=") First
+    (ifBegun w (bytes "last=") Last
+    (ifBegun w (bytes "today=") Today Keyed.Unknown)))))))))
 
 -- the five calls alone take options
 abbrev pub isCall : Command → Bool

@@ -19,7 +19,7 @@ pub enum Command {
     Sum,
 }
 
-// The options of a call: b, script, junk, junklen, log, buffer, reply.
+// The options of a call: b, script, junk, junklen, log, buffer, reply, first, last, today.
 pub enum Key {
     Limit,
     Script,
@@ -28,6 +28,9 @@ pub enum Key {
     Log,
     Buffer,
     Reply,
+    First,
+    Last,
+    Today,
 }
 
 // A part of the line.
@@ -107,6 +110,9 @@ pub fn key_of(word: &[u8]) -> Keyed
     ensures { λ r. ⌜ r ≡ keyOf (now (word .entry)) ⌝ }
 {
     let r = Keyed::Unknown;
+    let r = if_begun(word, b"today=", Key::Today, r);
+    let r = if_begun(word, b"last=", Key::Last, r);
+    let r = if_begun(word, b"first=", Key::First, r);
     let r = if_begun(word, b"reply=", Key::Reply, r);
     let r = if_begun(word, b"buffer=", Key::Buffer, r);
     let r = if_begun(word, b"log=", Key::Log, r);

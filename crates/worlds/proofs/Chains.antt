@@ -18,7 +18,7 @@ use Rattle.slots.specs.declared.Step.{Step}
 use Rattle.slots.specs.declared.Step.the-variants.{Wait, Protection, Lockdown, Read, Load, Send, End}
 use Rattle.slots.specs.declared.Verdict.the-variants.{Good}
 use Rattle.slots.specs.Plans.{Asked, planOf, stated, isWait, framesMost}
-use Rattle.slots.specs.Refusals.{isOver, isShort}
+use Rattle.slots.specs.Refusals.{isOver, isShort, flawsIn}
 use Rattle.slots.specs.Driver.{Holding, frameOf, takenBy, readIn, isEnded, toldBy}
 use Rattle.slots.specs.Calls.{outline, firstCourse}
 use Rattle.slots.proofs.Places.{never, restAt, rest-step}
@@ -33,6 +33,8 @@ use Rattle.worlds.specs.Step.{stageBy, stageIn, frameBy, frameIn, pollBy
 use Rattle.worlds.specs.Chains.{Chain, begun, linked, chain, AgreeIn, SameChain}
 use Rattle.worlds.proofs.Talks.{any-world, talk-ends}
 use Rattle.worlds.proofs.Sane.{Facts, Sane, going-facts, sane-stage, took-going, took-keeps, start-sane, ended-off}
+use Rattle.slots.specs.declared.Detail.{Detail}
+use Rattle.slots.specs.Details.{aimOf}
 
 -- ---- one link is one exchange of the definitions' driver
 
@@ -47,9 +49,9 @@ talkOf payload z =
       polls = z .polls;
     }
 
--- a reply changes neither the payload nor the place
+-- a reply changes neither the payload nor what the call aims at
 pub data-held : (x : Step) (g : Geometry) (k : Kind) (h : Holding) (reply : List ℕ)
-    → record { payload = h .payload; place = h .place; staged = takenBy x g k h reply .staged; verdict = takenBy x g k h reply .verdict } ≡ takenBy x g k h reply
+    → record { payload = h .payload; aim = h .aim; staged = takenBy x g k h reply .staged; verdict = takenBy x g k h reply .verdict } ≡ takenBy x g k h reply
 unfolding takenBy readIn
 data-held Wait g k h reply = refl
 data-held Protection g k h reply = refl
@@ -160,12 +162,12 @@ agree-heard (suc n) g payload replies others z w h = (
 )
 
 -- the definitions' driver at the start of the same call
-start-talk : (g : Geometry) (array : ℕ) (a : Asked) (place lent : ℕ) (payload staged : List ℕ) → partOf array ≡ Known g
-    → talkOf payload (begun (startDriver array a place (length payload) lent) staged)
-    ≡ opened g a (isOver (a .kind) g place (length payload) || isShort (a .kind) g lent) (record { payload = payload; place = place; staged = staged; verdict = Good })
+start-talk : (g : Geometry) (array : ℕ) (a : Asked) (d : Detail) (lent : ℕ) (payload staged : List ℕ) → partOf array ≡ Known g
+    → talkOf payload (begun (startDriver array a d (length payload) lent) staged)
+    ≡ opened g a (flawsIn (a .kind) g d (length payload) lent) (record { payload = payload; aim = aimOf d; staged = staged; verdict = Good })
 unfolding startDriver startRefusal opened
-start-talk g array a place lent payload staged p = λ i.
-    talkOf payload (begun (record { array = array; slot = a .slot; limit = a .limit; place = place; kind = a .kind; verdict = Good; course = ap (λ (q : Part). firstCourse (startRefusal q a place (length payload) lent) (a .limit)) p i }) staged)
+start-talk g array a d lent payload staged p = λ i.
+    talkOf payload (begun (record { array = array; slot = a .slot; limit = a .limit; aim = aimOf d; kind = a .kind; verdict = Good; course = ap (λ (q : Part). firstCourse (startRefusal q a d (length payload) lent) (a .limit)) p i }) staged)
 
 chain-same : (payload others : List ℕ) {g : Geometry} {y z : Chain} → Sane g (y .driver) → Sane g (z .driver)
     → SameTalk (talkOf payload y) (talkOf others z) → SameChain y z
@@ -180,29 +182,29 @@ chain-same payload others {g} {y} {z} u v s =
           (ap (λ (t : Stage). toldBy t (z .driver .verdict)) (sym (sane-stage v)) ∙ f);
     }
 
--- ANY WORLD, over the driver's functions: one call on one part, with any two recipes, patches or places of which 5 is alike, and any two sequences of
--- replies that agree in what is heard
-pub any-world-called : (n : ℕ) (g : Geometry) (array : ℕ) (a : Asked) (place there lent room : ℕ) (payload other staged bytes : List ℕ)
+-- ANY WORLD, over the driver's functions: one call on one part, with any two recipes, patches or places, terms and dates of which 5 and 14 are alike, and any two
+-- sequences of replies that agree in what is heard
+pub any-world-called : (n : ℕ) (g : Geometry) (array : ℕ) (a : Asked) (d there : Detail) (lent room : ℕ) (payload other staged bytes : List ℕ)
     (replies others : ℕ → List ℕ) → partOf array ≡ Known g
-    → (isOver (a .kind) g place (length payload) || isShort (a .kind) g lent) ≡ (isOver (a .kind) g there (length other) || isShort (a .kind) g room)
-    → AgreeIn n g payload replies others (begun (startDriver array a place (length payload) lent) staged)
-    → SameChain (chain n payload replies (begun (startDriver array a place (length payload) lent) staged))
+    → flawsIn (a .kind) g d (length payload) lent ≡ flawsIn (a .kind) g there (length other) room
+    → AgreeIn n g payload replies others (begun (startDriver array a d (length payload) lent) staged)
+    → SameChain (chain n payload replies (begun (startDriver array a d (length payload) lent) staged))
     (chain n other others (begun (startDriver array a there (length other) room) bytes))
 unfolding startDriver
-any-world-called n g array a place there lent room payload other staged bytes replies others p five h =
-    let d = startDriver array a place (length payload) lent in
+any-world-called n g array a d there lent room payload other staged bytes replies others p alike h =
+    let c = startDriver array a d (length payload) lent in
     let e = startDriver array a there (length other) room in
-    let sd = start-sane g array a place (length payload) lent p in
+    let sd = start-sane g array a d (length payload) lent p in
     let se = start-sane g array a there (length other) room p in
-    let td = start-talk g array a place lent payload staged p in
-    let te = start-talk g array a there room other bytes p ∙ (λ i. opened g a (sym five i) (record { payload = other; place = there; staged = bytes; verdict = Good })) in
-    let one = chain-talk n g payload replies (begun d staged) sd in
+    let td = start-talk g array a d lent payload staged p in
+    let te = start-talk g array a there room other bytes p ∙ (λ i. opened g a (sym alike i) (record { payload = other; aim = aimOf there; staged = bytes; verdict = Good })) in
+    let one = chain-talk n g payload replies (begun c staged) sd in
     let two = chain-talk n g other others (begun e bytes) se in
     chain-same payload other (one .1) (two .1)
     (subst (λ (t : Talk). SameTalk t (talkOf other (chain n other others (begun e bytes)))) (sym (one .0 ∙ ap (talk n g a replies) td))
-    (subst (SameTalk (talk n g a replies (opened g a (isOver (a .kind) g place (length payload) || isShort (a .kind) g lent) _))) (sym (two .0 ∙ ap (talk n g a others) te))
-    (any-world n g a (isOver (a .kind) g place (length payload) || isShort (a .kind) g lent) _ _ replies others
-    (subst (HeardAlike n g a replies others) td (agree-heard n g payload replies others (begun d staged) sd h)))))
+    (subst (SameTalk (talk n g a replies (opened g a (flawsIn (a .kind) g d (length payload) lent) _))) (sym (two .0 ∙ ap (talk n g a others) te))
+    (any-world n g a (flawsIn (a .kind) g d (length payload) lent) _ _ replies others
+    (subst (HeardAlike n g a replies others) td (agree-heard n g payload replies others (begun c staged) sd h)))))
 
 -- ---- any state at all
 

@@ -14,12 +14,13 @@ use Rattle.state.specs.declared.Answer.the-variants.{Done}
 use Rattle.slots.specs.declared.Driver.{Driver}
 use Rattle.slots.specs.declared.Told.the-variants.{Answered}
 use Rattle.slots.specs.Plans.{isAsking, pageSteps, runBy, pages, planBy, stepAt, isEnd}
-use Rattle.slots.specs.Refusals.{isOver, isShort, earlyRefusal, orElse}
+use Rattle.slots.specs.Refusals.{isOver, isShort, earlyRefusal, orElse, flawsIn, isMisdated}
 use Rattle.slots.specs.Calls.{firstCourse}
 use Rattle.slots.specs.Driver.{opcodeOf, shapeOf, frameByte, loaded, registerIn, heard, courseBy, takenBy, isEnded, weighed, verdictAnswer, toldBy}
 use Rattle.slots.specs.Lists.{asking}
 use Rattle.worlds.specs.Start.{startRefusal, startDriver}
 use Rattle.worlds.specs.Step.{strayRefusal, faultBy, stageBy, stageIn, frameBy, frameIn, tookBy, tookIn, toldIn}
+use Rattle.slots.specs.Details.{untold}
 
 -- the fresh chip's replies
 abbrev status : List ℕ
@@ -33,7 +34,7 @@ silence = 255 ∷ 255 ∷ 255 ∷ 255 ∷ []
 
 -- the states in order
 abbrev start : Driver
-start = startDriver 33792 (asking Wipe 2 1) 0 0 0
+start = startDriver 33792 (asking Wipe 2 1) untold 0 0
 
 abbrev opened : Driver
 opened = tookIn start [] [] status
@@ -60,5 +61,5 @@ pub record WipeTwo : Type 0 where
   pub answer : toldIn done ≡ Answered Done
 
 pub wipe-two : WipeTwo
-unfolding startDriver startRefusal earlyRefusal isOver isShort orElse firstCourse numberOf parts partAmong partOf strayRefusal faultBy stageBy stageIn isAsking pageSteps runBy pages planBy stepAt isEnd frameIn frameBy tabulate opcodeOf shapeOf frameByte loaded tookIn tookBy takenBy courseBy heard registerIn hasBits bitsOf sectorOf isEnded toldIn toldBy weighed verdictAnswer
+unfolding startDriver startRefusal earlyRefusal flawsIn isOver isShort isMisdated orElse firstCourse numberOf parts partAmong partOf strayRefusal faultBy stageBy stageIn isAsking pageSteps runBy pages planBy stepAt isEnd frameIn frameBy tabulate opcodeOf shapeOf frameByte loaded tookIn tookBy takenBy courseBy heard registerIn hasBits bitsOf sectorOf isEnded toldIn toldBy weighed verdictAnswer
 wipe-two = record { first = refl; second = refl; third = refl; fourth = refl; fifth = refl; none = refl; answer = refl }

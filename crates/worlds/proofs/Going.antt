@@ -17,7 +17,7 @@ use Rattle.slots.specs.Driver.{isEnded}
 use Rattle.slots.specs.Refusals.{earlyRefusal}
 use Rattle.slots.proofs.Accepted.{early}
 use Rattle.worlds.specs.Turns.{askedOf, Sound}
-use Rattle.worlds.specs.Step.{stageBy}
+use Rattle.worlds.specs.Step.{stageBy, flawless}
 use Rattle.worlds.proofs.Sane.{going-facts}
 
 -- ---- an answer's number is 0 only where nothing is refused
@@ -31,8 +31,8 @@ some a e z = ne-eqb (numberOf a) 0 (λ h. z (e ∙ h))
 -- ---- states
 
 module _ (g : Geometry) (d : Driver) (p : partOf (d .array) ≡ Known g) where
-  pub asked-slot : eqb (numberOf (earlyRefusal g (askedOf d) false)) 0 ≡ true → 8 * d .slot < 4096
-  asked-slot e = let z = sized (d .array) g p in omega (arith, early g (askedOf d) false e .fits, z .few)
+  pub asked-slot : eqb (numberOf (earlyRefusal g (askedOf d) flawless)) 0 ≡ true → 8 * d .slot < 4096
+  asked-slot e = let z = sized (d .array) g p in omega (arith, early g (askedOf d) flawless e .fits, z .few)
 
   pub going-sound : isEnded (stageBy (Known g) d) ≡ false → Sound g d
   going-sound e =

@@ -19,7 +19,7 @@ use Rattle.slots.specs.declared.Driver.{Driver}
 use Rattle.slots.specs.declared.Stage.{Stage}
 use Rattle.slots.specs.declared.Stage.the-variants.{Going, Ended}
 use Rattle.slots.specs.Plans.{Asked, planOf, sectorFor, stepAt, isEnd}
-use Rattle.slots.specs.Refusals.{isOver, isShort, earlyRefusal, orElse}
+use Rattle.slots.specs.Refusals.{isOver, isShort, earlyRefusal, orElse, flawsIn}
 use Rattle.slots.specs.Driver.{Heard, heard, after, isEnded}
 use Rattle.slots.specs.Calls.{firstCourse}
 use Rattle.slots.proofs.Places.{never, course-cases, onward-some}
@@ -27,11 +27,12 @@ use Rattle.slots.proofs.Accepted.{first-some, passes, neither-applies, picked, 
 use Rattle.slots.proofs.Driven.{other}
 use Rattle.worlds.specs.Turns.{askedOf, with, stepIn, tookOn}
 use Rattle.worlds.specs.Start.{startRefusal, startDriver}
-use Rattle.worlds.specs.Step.{strayRefusal, faultBy, stageBy, stageIn, staged-at, tookBy, tookIn}
+use Rattle.worlds.specs.Step.{strayRefusal, faultBy, stageBy, stageIn, staged-at, tookBy, tookIn, flawless}
+use Rattle.slots.specs.declared.Detail.{Detail}
 
 -- what is known of a state that goes on
 pub record Facts (g : Geometry) (d : Driver) : Type 0 where
-  pub asked : Early g (askedOf d) false
+  pub asked : Early g (askedOf d) flawless
   pub some : 1 ≤ d .course .left
   pub most : d .course .left ≤ d .limit
   pub step : isEnd (stepIn g d) ≡ false
@@ -51,13 +52,13 @@ range n limit false b e f h = never (sym h)
 fault-facts : (g : Geometry) (d : Driver) → eqb (numberOf (faultBy (Known g) d)) 0 ≡ true → Facts g d
 unfolding faultBy strayRefusal numberOf
 fault-facts g d e =
-    let z = neither-applies (earlyRefusal g (askedOf d) false) (strayRefusal g d) e in
+    let z = neither-applies (earlyRefusal g (askedOf d) flawless) (strayRefusal g d) e in
     let four = passes (not (leb 1 (d .course .left) && leb (d .course .left) (d .limit))) Answers.Limit _ refl (z .1) in
     let three = passes (isEnd (stepIn g d)) Answers.Slot Answers.Done refl (four .1) in
     let r = range (d .course .left) (d .limit) (leb 1 (d .course .left)) (leb (d .course .left) (d .limit)) refl refl (four .0) in
-    record { asked = early g (askedOf d) false (z .0); some = r .0; most = r .1; step = three .0 }
+    record { asked = early g (askedOf d) flawless (z .0); some = r .0; most = r .1; step = three .0 }
 
-early-none : (g : Geometry) (a : Asked) → Early g a false → earlyRefusal g a false ≡ Answers.Done
+early-none : (g : Geometry) (a : Asked) → Early g a flawless → earlyRefusal g a flawless ≡ Answers.Done
 unfolding earlyRefusal
 early-none g a w =
     simp (lt-leb (g .pages / 8) (a .slot) (omega (arith, w .fits)), le-leb 1 (a .limit) (w .some), le-leb (a .limit) 1000 (w .most))
@@ -155,19 +156,19 @@ took-keeps g d payload staged reply p = go (isEnded (stageBy (Known g) d)) refl
 
 -- ---- where a call starts
 
-pub start-sane : (g : Geometry) (array : ℕ) (a : Asked) (place payload lent : ℕ) → partOf array ≡ Known g → Sane g (startDriver array a place payload lent)
+pub start-sane : (g : Geometry) (array : ℕ) (a : Asked) (d : Detail) (payload lent : ℕ) → partOf array ≡ Known g → Sane g (startDriver array a d payload lent)
 unfolding startDriver startRefusal firstCourse isEnded
-start-sane g array a place payload lent p = record { part = p; facts = λ h. go (eqb (numberOf (startRefusal (partOf array) a place payload lent)) 0) refl h }
+start-sane g array a d payload lent p = record { part = p; facts = λ h. go (eqb (numberOf (startRefusal (partOf array) a d payload lent)) 0) refl h }
   where
-    none : eqb (numberOf (startRefusal (partOf array) a place payload lent)) 0 ≡ true → Early g a (isOver (a .kind) g place payload || isShort (a .kind) g lent)
-    none e = early g a _ (ap (λ (q : Part). eqb (numberOf (startRefusal q a place payload lent)) 0) (sym p) ∙ e)
+    none : eqb (numberOf (startRefusal (partOf array) a d payload lent)) 0 ≡ true → Early g a (flawsIn (a .kind) g d payload lent)
+    none e = early g a _ (ap (λ (q : Part). eqb (numberOf (startRefusal q a d payload lent)) 0) (sym p) ∙ e)
 
-    go : (b : Bool) → eqb (numberOf (startRefusal (partOf array) a place payload lent)) 0 ≡ b
-        → isEnded (cond b Going (Ended (startRefusal (partOf array) a place payload lent))) ≡ false → Facts g (startDriver array a place payload lent)
+    go : (b : Bool) → eqb (numberOf (startRefusal (partOf array) a d payload lent)) 0 ≡ b
+        → isEnded (cond b Going (Ended (startRefusal (partOf array) a d payload lent))) ≡ false → Facts g (startDriver array a d payload lent)
     go true e h =
         let w = none e in
         record {
-          asked = record { fits = w .fits; some = w .some; most = w .most; size = refl };
+          asked = record { fits = w .fits; some = w .some; most = w .most; size = refl; dates = refl };
           some = w .some;
           most = omega arith;
           step = first-some (a .kind) g (a .slot);

@@ -28,6 +28,7 @@ use Rattle.slots.proofs.Bound.{Ok, start-ok, after-ok, some-left}
 use Rattle.slots.proofs.Blind.{outline-same}
 use Rattle.slots.proofs.TwoRuns.{Agree, weighed-agree}
 use Rattle.slots.proofs.Driven.{other, Machine, Led, run-led}
+use Rattle.slots.specs.declared.Flaws.{Flaws}
 
 -- ---- two worlds
 
@@ -89,12 +90,12 @@ open-same t u e =
     }
 
 -- ANY WORLD: one call in front of two worlds that agree in what is heard, with any two recipes or patches of which 5 is alike
-pub any-world : (n : ℕ) (g : Geometry) (a : Asked) (oversize : Bool) (h k : Holding) (replies others : ℕ → List ℕ)
-    → HeardAlike n g a replies others (opened g a oversize h) → SameTalk (talk n g a replies (opened g a oversize h)) (talk n g a others (opened g a oversize k))
+pub any-world : (n : ℕ) (g : Geometry) (a : Asked) (flaws : Flaws) (h k : Holding) (replies others : ℕ → List ℕ)
+    → HeardAlike n g a replies others (opened g a flaws h) → SameTalk (talk n g a replies (opened g a flaws h)) (talk n g a others (opened g a flaws k))
 unfolding opened
-any-world n g a oversize h k replies others w =
-    open-same (talk n g a replies (opened g a oversize h)) (talk n g a others (opened g a oversize k))
-    (talk-open g a n replies others (opened g a oversize h) (opened g a oversize k) (record { course = refl; lines = refl; frames = refl; polls = refl }) w)
+any-world n g a flaws h k replies others w =
+    open-same (talk n g a replies (opened g a flaws h)) (talk n g a others (opened g a flaws k))
+    (talk-open g a n replies others (opened g a flaws h) (opened g a flaws k) (record { course = refl; lines = refl; frames = refl; polls = refl }) w)
 
 -- ---- any replies
 
@@ -156,30 +157,30 @@ stays-ended g a replies (suc n) t e =
     stays-ended g a replies n (talked g a replies t) (ap (λ (u : Talk). isEnded (u .course .stage)) (stands g a replies t e) ∙ e)
 
 -- how an accepted call starts
-accepted-course : (g : Geometry) (a : Asked) (oversize : Bool) → eqb (numberOf (earlyRefusal g a oversize)) 0 ≡ true
-    → firstCourse Answers.Done (a .limit) ≡ firstCourse (earlyRefusal g a oversize) (a .limit)
+accepted-course : (g : Geometry) (a : Asked) (flaws : Flaws) → eqb (numberOf (earlyRefusal g a flaws)) 0 ≡ true
+    → firstCourse Answers.Done (a .limit) ≡ firstCourse (earlyRefusal g a flaws) (a .limit)
 unfolding firstCourse numberOf
-accepted-course g a oversize e = λ i.
-    record { place = 0; left = a .limit; stage = cond (sym e i) Going (Ended (earlyRefusal g a oversize)); listed = false; guarded = false }
+accepted-course g a flaws e = λ i.
+    record { place = 0; left = a .limit; stage = cond (sym e i) Going (Ended (earlyRefusal g a flaws)); listed = false; guarded = false }
 
-module _ (g : Geometry) (a : Asked) (oversize : Bool) (h : Holding) (replies : ℕ → List ℕ) where
-  opened-ok : eqb (numberOf (earlyRefusal g a oversize)) 0 ≡ true → Ok (planOf g a) (a .limit) (bound g a) (opened g a oversize h .course)
+module _ (g : Geometry) (a : Asked) (flaws : Flaws) (h : Holding) (replies : ℕ → List ℕ) where
+  opened-ok : eqb (numberOf (earlyRefusal g a flaws)) 0 ≡ true → Ok (planOf g a) (a .limit) (bound g a) (opened g a flaws h .course)
   unfolding opened
   opened-ok e =
-      subst (Ok (planOf g a) (a .limit) (bound g a)) (accepted-course g a oversize e)
-      (start-ok (planOf g a) (a .limit) (first-some (a .kind) g (a .slot)) (early g a oversize e .some))
+      subst (Ok (planOf g a) (a .limit) (bound g a)) (accepted-course g a flaws e)
+      (start-ok (planOf g a) (a .limit) (first-some (a .kind) g (a .slot)) (early g a flaws e .some))
 
   -- a call ends within its bound for every sequence of replies
-  pub any-ends : isEnded (talk (bound g a) g a replies (opened g a oversize h) .course .stage) ≡ true
+  pub any-ends : isEnded (talk (bound g a) g a replies (opened g a flaws h) .course .stage) ≡ true
   unfolding opened firstCourse isEnded
-  any-ends = go (eqb (numberOf (earlyRefusal g a oversize)) 0) refl
+  any-ends = go (eqb (numberOf (earlyRefusal g a flaws)) 0) refl
     where
-      go : (b : Bool) → eqb (numberOf (earlyRefusal g a oversize)) 0 ≡ b → isEnded (talk (bound g a) g a replies (opened g a oversize h) .course .stage) ≡ true
-      go true e = talk-ends g a replies (bound g a) (opened g a oversize h) (opened-ok e)
-      go false e = stays-ended g a replies (bound g a) (opened g a oversize h) (ap (λ (b : Bool). isEnded (cond b Going (Ended (earlyRefusal g a oversize)))) e)
+      go : (b : Bool) → eqb (numberOf (earlyRefusal g a flaws)) 0 ≡ b → isEnded (talk (bound g a) g a replies (opened g a flaws h) .course .stage) ≡ true
+      go true e = talk-ends g a replies (bound g a) (opened g a flaws h) (opened-ok e)
+      go false e = stays-ended g a replies (bound g a) (opened g a flaws h) (ap (λ (b : Bool). isEnded (cond b Going (Ended (earlyRefusal g a flaws)))) e)
 
   -- ANY REPLIES: its frames follow its plan
-  pub any-replies : eqb (numberOf (earlyRefusal g a oversize)) 0 ≡ true → Led g a (alone g a replies) (bound g a) (opened g a oversize h) (opened g a oversize h .course) h
+  pub any-replies : eqb (numberOf (earlyRefusal g a flaws)) 0 ≡ true → Led g a (alone g a replies) (bound g a) (opened g a flaws h) (opened g a flaws h .course) h
   unfolding opened firstCourse isEnded
   any-replies e =
-      run-led g a (alone g a replies) (bound g a) (opened g a oversize h) (opened-ok e) (inl (ap (λ (b : Bool). isEnded (cond b Going (Ended (earlyRefusal g a oversize)))) e))
+      run-led g a (alone g a replies) (bound g a) (opened g a flaws h) (opened-ok e) (inl (ap (λ (b : Bool). isEnded (cond b Going (Ended (earlyRefusal g a flaws)))) e))

@@ -59,7 +59,7 @@ AgreeIn (suc n) g payload replies others z =
     (isEnded (stageIn (z .driver)) ≡ false → heardIn g (z .driver) (replies (z .frames)) ≡ heardIn g (z .driver) (others (z .frames)))
     × AgreeIn n g payload replies others (linked payload replies z)
 
--- (14.26) what is the same of both: the frames' outlines, their number, the polls, whether it has ended, and what the driver tells (0, 12 and 13 as one)
+-- (14.26) what is the same of both: the frames' outlines, their number, the polls, whether it has ended, and what the driver tells (0, 12, 13 and 15 as one)
 pub record SameChain (y z : Chain) : Type 0 where
   pub lines : y .lines ≡ z .lines
   pub frames : y .frames ≡ z .frames

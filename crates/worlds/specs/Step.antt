@@ -14,6 +14,7 @@ use Rattle.state.specs.declared.Answer.the-variants as Answers
 use Rattle.state.specs.Answers.{numberOf}
 use Rattle.slots.specs.declared.Course.{Course}
 use Rattle.slots.specs.declared.Driver.{Driver}
+use Rattle.slots.specs.declared.Flaws.{Flaws}
 use Rattle.slots.specs.declared.Kind.{Kind}
 use Rattle.slots.specs.declared.Stage.{Stage}
 use Rattle.slots.specs.declared.Stage.the-variants.{Going, Ended}
@@ -34,9 +35,13 @@ strayRefusal g d =
     cond (not (leb 1 (d .course .left) && leb (d .course .left) (d .limit))) Answers.Limit
     (cond (isEnd (stepIn g d)) Answers.Slot Answers.Done)
 
+-- Aid: neither 5 nor 14 is met
+abbrev pub flawless : Flaws
+flawless = record { size = false; dates = false }
+
 -- (10.25) 1, or 3 and 4 as at the start, or those; Done where none applies
 unfoldable pub faultBy : Part → Driver → Answer
-faultBy (Known g) d = orElse (earlyRefusal g (askedOf d) false) (strayRefusal g d)
+faultBy (Known g) d = orElse (earlyRefusal g (askedOf d) flawless) (strayRefusal g d)
 faultBy Unknown d = Answers.Part
 
 -- (10.25) the stage as it counts

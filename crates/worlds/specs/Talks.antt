@@ -8,6 +8,7 @@ use mathlib.Core.Logic.{_⊎_}
 use Rattle.geometry.specs.declared.Geometry.{Geometry}
 use Rattle.state.specs.declared.Answer.{Answer}
 use Rattle.slots.specs.declared.Course.{Course}
+use Rattle.slots.specs.declared.Flaws.{Flaws}
 use Rattle.slots.specs.declared.Told.the-variants.{Answered}
 use Rattle.slots.specs.Plans.{Asked, sectorFor, isWait}
 use Rattle.slots.specs.Driver.{Heard, Holding, frameOf, heard, after, takenBy, stepOf, isEnded, toldBy}
@@ -23,9 +24,9 @@ pub record Talk : Type 0 where
   pub frames : ℕ
   pub polls : ℕ
 
--- (14.25) where a call starts: 3, 4 and 5 are the driver's own; a refused call has already ended
-unfoldable pub opened : Geometry → Asked → Bool → Holding → Talk
-opened g a oversize h = record { course = firstCourse (earlyRefusal g a oversize) (a .limit); holding = h; lines = []; frames = 0; polls = 0 }
+-- (14.25) where a call starts: 3, 4, 5 and 14 are the driver's own; a refused call has already ended
+unfoldable pub opened : Geometry → Asked → Flaws → Holding → Talk
+opened g a flaws h = record { course = firstCourse (earlyRefusal g a flaws) (a .limit); holding = h; lines = []; frames = 0; polls = 0 }
 
 -- Aid: what is heard of the next reply
 abbrev pub hearing : Geometry → Asked → (ℕ → List ℕ) → Talk → Heard
@@ -55,7 +56,7 @@ HeardAlike zero g a replies others t = Unit {0}
 HeardAlike (suc n) g a replies others t =
     (isEnded (t .course .stage) ≡ false → hearing g a replies t ≡ hearing g a others t) × HeardAlike n g a replies others (talked g a replies t)
 
--- (14.26) what is the same in both: the frames' outlines, their number, the polls, and what the driver tells (0, 12 and 13 as one)
+-- (14.26) what is the same in both: the frames' outlines, their number, the polls, and what the driver tells (0, 12, 13 and 15 as one)
 pub record SameTalk (t u : Talk) : Type 0 where
   pub lines : t .lines ≡ u .lines
   pub frames : t .frames ≡ u .frames

@@ -20,11 +20,11 @@ askedOf d = record { kind = d .kind; slot = d .slot; limit = d .limit }
 
 -- its data: those in the state, and those lent beside it
 abbrev pub holdingOf : Driver → List ℕ → List ℕ → Holding
-holdingOf d payload staged = record { payload = payload; place = d .place; staged = staged; verdict = d .verdict }
+holdingOf d payload staged = record { payload = payload; aim = d .aim; staged = staged; verdict = d .verdict }
 
 abbrev pub with : Driver → Verdict → Course → Driver
 with d v c =
-    record { array = d .array; slot = d .slot; limit = d .limit; place = d .place; kind = d .kind; verdict = v; course = c }
+    record { array = d .array; slot = d .slot; limit = d .limit; aim = d .aim; kind = d .kind; verdict = v; course = c }
 
 -- the step at the state's place
 abbrev pub stepIn : Geometry → Driver → Step

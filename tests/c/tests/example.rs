@@ -7,6 +7,8 @@ use std::process::Command;
 /// An undisturbed put has 27 frames, 9 of them polls, and a get 9 with one poll
 /// (14.15); a slot of FFh holds no record, which a get answers with 12 (9.9).
 ///
+/// The season of 2026 is over on 16 November: 15.
+///
 /// The driver's get sends 2 + 8 * 272 = 2,178 bytes. In its put each page is
 /// polled twice: 2 + 20 + 20 + 8 * (268 + 4 + 2 + 2) = 2,250 bytes in
 /// 3 + 8 * 4 = 35 frames, for either recipe. Pages of 256 bytes take 64 less.
@@ -24,6 +26,9 @@ driver put: answer 0, frames 35, bytes on the wire {driver_put}
 driver put: answer 0, frames 35, bytes on the wire {driver_put}
 call get: answer 0, frames 9, polls 1
 recipe: {longest} bytes, as put
+call put_term: answer 0, frames 27, polls 9
+call get: answer 15, frames 9, polls 1
+driver get: answer 15, frames 9, bytes on the wire {driver_get}
 "
     )
 }

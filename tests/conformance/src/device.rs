@@ -1,7 +1,7 @@
 //! What is compared: the chip's five functions and the slot calls, over a
 //! record block.
 
-use at45db081d_model::{record, Call, Lent, Outcome, Record};
+use at45db081d_model::{record, Call, Date, Lent, Outcome, Record, Term};
 use slipknoll::{Chip, Error, Level, Run};
 
 /// An implementation of the chip and its calls over record blocks of 765
@@ -48,6 +48,11 @@ impl Device for Model {
 /// The proved library. It works where the record lies, between its guards.
 pub struct Library;
 
+/// A date as the library takes its numbers.
+pub fn ymd(date: Date) -> [u32; 3] {
+    [date.year, date.month, date.day]
+}
+
 /// The number of the answer that a result stands for.
 fn number<T>(result: Result<T, Error>) -> u8 {
     result.err().map_or(0, Error::number)
@@ -90,8 +95,18 @@ impl Device for Library {
             Call::Put {
                 slot,
                 poll_limit,
+                term: None,
                 recipe,
             } => number(chip.put(array, slot, poll_limit, recipe, &mut run)),
+            Call::Put {
+                slot,
+                poll_limit,
+                term: Some(Term { first, last }),
+                recipe,
+            } => {
+                let (first, last) = (ymd(first), ymd(last));
+                number(chip.put_term_ymd(array, slot, poll_limit, first, last, recipe, &mut run))
+            }
             Call::Patch {
                 slot,
                 poll_limit,
@@ -101,8 +116,9 @@ impl Device for Library {
             Call::Get {
                 slot,
                 poll_limit,
+                today,
                 buffer,
-            } => number(chip.get(array, slot, poll_limit, buffer, &mut run)),
+            } => number(chip.get_ymd(array, slot, poll_limit, ymd(today), buffer, &mut run)),
             Call::Wipe { slot, poll_limit } => number(chip.wipe(array, slot, poll_limit, &mut run)),
             Call::Raw { frame, reply } => number(chip.raw(array, frame, reply, &mut run)),
         };

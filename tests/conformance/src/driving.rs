@@ -3,10 +3,11 @@
 
 use at45db081d_model::driver::Link;
 use at45db081d_model::slot::SLOT_ROOM;
-use at45db081d_model::{answer, Part};
+use at45db081d_model::{answer, Part, Term};
 use slipknoll::ffi::driver;
 use slipknoll::DRIVER_FRAME_LEN;
 
+use crate::device::ymd;
 use crate::request::Request;
 
 /// What a driver yields.
@@ -85,7 +86,8 @@ impl ModelDriver {
     }
 }
 
-/// The part, or what of 1 to 7 a driver can meet without chip, log and script.
+/// The part, or the refusal that a driver meets: those that need no chip, log and
+/// script.
 fn part_of(array_len: usize, request: &Request) -> Result<Part, u8> {
     let part = Part::from_array_len(array_len).ok_or(answer::PART)?;
     let mut buffer = vec![0; request.lent_len()];
@@ -97,6 +99,8 @@ fn part_of(array_len: usize, request: &Request) -> Result<Part, u8> {
         Err(answer::LIMIT)
     } else if !call.size_fits(part) {
         Err(answer::SIZE)
+    } else if !call.dates_fit() {
+        Err(answer::DATES)
     } else {
         Ok(part)
     }
@@ -158,10 +162,18 @@ impl Driver for LibraryDriver {
             Request::Put {
                 slot,
                 poll_limit,
+                term,
                 recipe,
             } => {
                 self.payload.extend_from_slice(recipe);
-                driver::start_put(state, array_len, *slot, *poll_limit, recipe);
+                let (slot, limit) = (*slot, *poll_limit);
+                match *term {
+                    None => driver::start_put(state, array_len, slot, limit, recipe),
+                    Some(Term { first, last }) => {
+                        let (first, last) = (ymd(first), ymd(last));
+                        driver::start_put_term(state, array_len, slot, limit, first, last, recipe);
+                    }
+                }
             }
             Request::Patch {
                 slot,
@@ -175,8 +187,12 @@ impl Driver for LibraryDriver {
             Request::Get {
                 slot,
                 poll_limit,
+                today,
                 buffer_len,
-            } => driver::start_get(state, array_len, *slot, *poll_limit, *buffer_len),
+            } => {
+                let today = ymd(*today);
+                driver::start_get(state, array_len, *slot, *poll_limit, today, *buffer_len);
+            }
             Request::Wipe { slot, poll_limit } => {
                 driver::start_wipe(state, array_len, *slot, *poll_limit);
             }
@@ -199,6 +215,6 @@ impl Driver for LibraryDriver {
 
     fn recipe(&self) -> Vec<u8> {
         let n = driver::count(&self.state, &self.staged);
-        self.staged[3..][..n].to_vec()
+        self.staged[driver::body(&self.staged)..][..n].to_vec()
     }
 }

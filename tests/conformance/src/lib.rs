@@ -17,6 +17,7 @@
 //! devices with seeded faults, which the tests must notice.
 
 pub mod coverage;
+pub mod dates;
 pub mod device;
 pub mod driving;
 pub mod frames;

@@ -4,6 +4,7 @@ use at45db081d_model::record::field;
 use at45db081d_model::slot::store;
 use at45db081d_model::{Chip, Part};
 
+use crate::dates;
 use crate::driving::{Driver, ModelDriver, Turn};
 use crate::lists::Broken;
 use crate::parts;
@@ -105,9 +106,15 @@ fn any_request(rng: &mut Rng, part: Part) -> Request {
         _ => rng.pick(&[1, 2, 3, 5, 1000]),
     };
     match rng.below(40) {
-        0 => Request::put(slot, limit, vec![7; part.max_recipe() + 1]),
+        0 => {
+            let term = dates::any_term(rng, 4);
+            let over = part.max_recipe_of(term.is_some()) + 1;
+            Request::put(slot, limit, term, vec![7; over])
+        }
         1 => Request::patch(slot, limit, usize::MAX, vec![7]),
-        2 => Request::get(slot, limit, part.max_recipe() - 1),
+        2 => Request::get(slot, limit, dates::any_date(rng, 4), part.max_recipe() - 1),
+        3 => Request::put(slot, limit, Some(dates::no_term(rng)), vec![7]),
+        4 => Request::get(slot, limit, dates::no_date(rng), part.max_recipe()),
         _ => {
             let kind = rng.below(SLOT_KINDS);
             request(rng, part, kind, slot, limit)
@@ -127,9 +134,10 @@ fn source(rng: &mut Rng, part: Part, request: &Request) -> Source {
     let mut array = vec![0xFF; part.array_len()];
     let slot = request.slot().unwrap_or(0);
     if let Some(bytes) = array.chunks_exact_mut(part.slot_size()).nth(slot) {
-        let mut recipe = vec![0; rng.below(part.max_recipe() + 1)];
+        let days = rng.one_in(2).then(|| dates::stored(rng));
+        let mut recipe = vec![0; rng.below(part.max_recipe_of(days.is_some()) + 1)];
         rng.fill(&mut recipe);
-        store(bytes, &recipe);
+        store(bytes, &recipe, days);
     }
     Source::Chip(Box::new(Chip::from_record(&record)), array)
 }
@@ -167,8 +175,13 @@ fn from_nowhere(rng: &mut Rng, frame: &[u8]) -> Vec<u8> {
         0xD7 if !rng.one_in(10) => set(&mut reply, 1, &[rng.pick(&STATUSES)]),
         0x32 | 0x35 if !rng.one_in(4) => reply.fill(0x00),
         0xD2 if rng.one_in(2) => {
-            let high = rng.below(10) as u8;
-            set(&mut reply, 8, &[1, high]);
+            let (version, high) = (rng.pick(&[1, 2, 2]), rng.below(10) as u8);
+            set(&mut reply, 8, &[version, high]);
+            let [first, last] = dates::stored(rng).map(u32::to_be_bytes);
+            if !rng.one_in(4) {
+                set(&mut reply, 11, &first);
+                set(&mut reply, 15, &last);
+            }
         }
         _ => {}
     }

@@ -4,16 +4,16 @@
 use std::fmt;
 
 use at45db081d_model::calls::LOG_LINE;
-use at45db081d_model::{Call, Part};
+use at45db081d_model::{Call, Date, Part, Term};
 
 /// The calls by name, in the order of [`Request::kind`].
 pub const KINDS: [&str; 5] = ["put", "patch", "get", "wipe", "raw"];
 
 /// The answers that each call can meet.
 pub const ANSWERS: [&[usize]; KINDS.len()] = [
-    &[0, 1, 3, 4, 5, 6, 7, 8, 9, 10, 11],
+    &[0, 1, 3, 4, 5, 6, 7, 8, 9, 10, 11, 14],
     &[0, 1, 3, 4, 5, 6, 7, 8, 9, 10, 11, 12, 13],
-    &[0, 1, 3, 4, 5, 6, 7, 8, 9, 11, 12],
+    &[0, 1, 3, 4, 5, 6, 7, 8, 9, 11, 12, 14, 15],
     &[0, 1, 3, 4, 6, 7, 8, 9, 10, 11],
     &[0, 1, 2, 6, 7, 11],
 ];
@@ -23,6 +23,7 @@ pub enum Request {
     Put {
         slot: usize,
         poll_limit: usize,
+        term: Option<Term>,
         recipe: Vec<u8>,
     },
     Patch {
@@ -34,6 +35,7 @@ pub enum Request {
     Get {
         slot: usize,
         poll_limit: usize,
+        today: Date,
         buffer_len: usize,
     },
     Wipe {
@@ -47,10 +49,11 @@ pub enum Request {
 }
 
 impl Request {
-    pub fn put(slot: usize, poll_limit: usize, recipe: Vec<u8>) -> Request {
+    pub fn put(slot: usize, poll_limit: usize, term: Option<Term>, recipe: Vec<u8>) -> Request {
         Request::Put {
             slot,
             poll_limit,
+            term,
             recipe,
         }
     }
@@ -64,10 +67,11 @@ impl Request {
         }
     }
 
-    pub fn get(slot: usize, poll_limit: usize, buffer_len: usize) -> Request {
+    pub fn get(slot: usize, poll_limit: usize, today: Date, buffer_len: usize) -> Request {
         Request::Get {
             slot,
             poll_limit,
+            today,
             buffer_len,
         }
     }
@@ -126,10 +130,12 @@ impl Request {
             &Request::Put {
                 slot,
                 poll_limit,
+                term,
                 ref recipe,
             } => Call::Put {
                 slot,
                 poll_limit,
+                term,
                 recipe,
             },
             &Request::Patch {
@@ -144,10 +150,14 @@ impl Request {
                 bytes,
             },
             &Request::Get {
-                slot, poll_limit, ..
+                slot,
+                poll_limit,
+                today,
+                ..
             } => Call::Get {
                 slot,
                 poll_limit,
+                today,
                 buffer: lent,
             },
             &Request::Wipe { slot, poll_limit } => Call::Wipe { slot, poll_limit },
@@ -163,11 +173,21 @@ impl fmt::Display for Request {
             write!(f, " slot {slot} B {poll_limit}")?;
         }
         match self {
-            Request::Put { recipe, .. } => write!(f, " recipe {}", recipe.len()),
+            Request::Put { term, recipe, .. } => {
+                write!(f, " recipe {}", recipe.len())?;
+                match term {
+                    Some(Term { first, last }) => {
+                        write!(f, ", {} to {}", shown(*first), shown(*last))
+                    }
+                    None => Ok(()),
+                }
+            }
             Request::Patch { place, bytes, .. } => {
                 write!(f, " place {place} bytes {}", bytes.len())
             }
-            Request::Get { buffer_len, .. } => write!(f, " buffer {buffer_len}"),
+            Request::Get {
+                today, buffer_len, ..
+            } => write!(f, " on {}, buffer {buffer_len}", shown(*today)),
             Request::Wipe { .. } => Ok(()),
             Request::Raw { frame, reply_len } => {
                 let shown = &frame[..frame.len().min(8)];
@@ -175,6 +195,10 @@ impl fmt::Display for Request {
             }
         }
     }
+}
+
+fn shown(date: Date) -> String {
+    format!("{}-{}-{}", date.year, date.month, date.day)
 }
 
 /// A call with everything that it is lent.

@@ -1,4 +1,5 @@
-//! What `read-back` says, on compiled code: a recipe that was put comes back.
+//! What `read-back` says, on compiled code: a recipe that was put comes back, and
+//! outside its term it does not.
 
 use std::io::Write;
 use std::time::Instant;
@@ -9,21 +10,25 @@ use conformance::{Device, Library};
 
 const SEEDS: u64 = 64_000;
 
-/// Lists whose put answers 0, gets, and recipes read at least: 95 in 100 of
-/// those that there are.
-const LEAST: [u64; 3] = [39_300, 57_400, 53_700];
+/// Lists whose put answers 0, gets, recipes read, of these the ones with a term, and
+/// gets outside a term at least: 95 in 100 of those that there are.
+const LEAST: [u64; 5] = [39_500, 57_900, 43_300, 16_500, 9_800];
 
 /// The same of the lists on each part.
-const LEAST_BY_PART: [u64; 4] = [19_600, 19_500, 89, 95];
+const LEAST_BY_PART: [u64; 4] = [19_600, 19_600, 101, 91];
 
 /// Builds that lose a recipe.
-const LOSSES: [Slip; 6] = [
+const LOSSES: [Slip; 10] = [
     Slip::StoresNothing,
     Slip::SevenPagesAlike,
     Slip::SealedByAllBits,
     Slip::IdleCutSpoilsPage,
     Slip::GetLosesByte,
     Slip::WideByteField,
+    Slip::FirstDayExcluded,
+    Slip::LastDayExcluded,
+    Slip::TermForgotten,
+    Slip::DaysOfTwoBytes,
 ];
 
 /// Says something even when the test passes.
@@ -48,13 +53,22 @@ fn recipes_come_back() {
         ("lists after a put of answer 0", shown.lists),
         ("gets", shown.gets),
         ("recipes read", shown.read),
+        ("of these with a term", shown.read_inside),
+        ("gets outside the term", shown.outside),
     ]);
     say(&format!(
         "read-back of the library: {counts} in {:.1} s; by part {:?}",
         begin.elapsed().as_secs_f64(),
         shown.parts
     ));
-    for (shown, least) in [shown.lists, shown.gets, shown.read].iter().zip(&LEAST) {
+    let counts = [
+        shown.lists,
+        shown.gets,
+        shown.read,
+        shown.read_inside,
+        shown.outside,
+    ];
+    for (shown, least) in counts.iter().zip(&LEAST) {
         assert!(shown >= least, "only {shown} of {least}");
     }
     for (shown, least) in shown.parts.iter().zip(&LEAST_BY_PART) {

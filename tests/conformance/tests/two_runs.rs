@@ -17,7 +17,7 @@ const PAIRS: u64 = 48_000;
 const LEAST_BY_PART: [u64; 4] = [22_300, 22_300, 106, 112];
 
 /// Builds that leak something of the recipes.
-const LEAKS: [Slip; 12] = [
+const LEAKS: [Slip; 17] = [
     Slip::SkipsPageAlreadyThere,
     Slip::SkipsPageOutsidePatch,
     Slip::GetStopsAtStoredLength,
@@ -30,6 +30,11 @@ const LEAKS: [Slip; 12] = [
     Slip::LogShowsRecipeLength,
     Slip::PatchEndWraps,
     Slip::LongerLimitKept,
+    Slip::GetStopsOutsideTerm,
+    Slip::LogShowsTerm,
+    Slip::ShorterLimitForAll,
+    Slip::LongerLimitForTerms,
+    Slip::DatesUntestedOnVersion1,
 ];
 
 /// Says something even when the test passes.
@@ -54,7 +59,9 @@ fn nothing_of_the_recipes_shows() {
         ("pairs of lists", shown.pairs),
         ("calls", shown.calls()),
         ("frames", shown.frames),
-        ("unlike answers among 0, 12, 13", shown.unlike_answers),
+        ("unlike answers among 0, 12, 13, 15", shown.unlike_answers),
+        ("puts with a term in one run", shown.unlike_terms),
+        ("gets on unlike days", shown.unlike_days),
     ]);
     let seconds = begin.elapsed().as_secs_f64();
     say(&format!(
@@ -63,14 +70,16 @@ fn nothing_of_the_recipes_shows() {
     ));
     // 95 in 100 of what is reached.
     assert_eq!(shown.pairs, PAIRS);
-    assert!(shown.calls() >= 192_500);
-    assert!(shown.frames >= 1_623_000);
-    assert!(shown.unlike_answers >= 20_100);
+    assert!(shown.calls() >= 192_800);
+    assert!(shown.frames >= 1_575_300);
+    assert!(shown.unlike_answers >= 23_100);
+    assert!(shown.unlike_terms >= 7_800);
+    assert!(shown.unlike_days >= 33_300);
     for (shown, least) in shown.parts.iter().zip(&LEAST_BY_PART) {
         assert!(shown >= least, "only {shown} of {least} on a part");
     }
     for (kind, expected) in ANSWERS.iter().enumerate() {
-        let met: Vec<usize> = (0..14).filter(|&n| shown.answers[kind][n] > 0).collect();
+        let met: Vec<usize> = (0..16).filter(|&n| shown.answers[kind][n] > 0).collect();
         assert_eq!(met, *expected, "answers of {}", KINDS[kind]);
     }
 }
@@ -88,7 +97,7 @@ fn leaks_are_noticed() {
 /// That lists reach what the premises are for.
 #[test]
 fn premises_are_needed() {
-    for without in [Without::JunkAlike, Without::SizeAlike] {
+    for without in [Without::JunkAlike, Without::SizeAlike, Without::DatesAlike] {
         match run(&mut Model, without) {
             Ok(_) => panic!("nothing shows without {without:?}"),
             Err(broken) => println!("without {without:?}: {broken}"),

@@ -1,7 +1,7 @@
 //! One SPI transaction is one frame of the chip.
 
 use crate::device::Device;
-use slipknoll::{Chip, Error, Part, FACTORY_LEN};
+use slipknoll::{Chip, Date, Error, Part, Term, FACTORY_LEN};
 
 /// The longest frame that the chip takes.
 pub const FRAME_MAX: usize = 1100;
@@ -148,14 +148,15 @@ impl<'a> Bridge<'a> {
         Ok(())
     }
 
-    /// Stores a recipe in a slot.
-    pub fn put(&mut self, slot: usize, recipe: &[u8]) -> Result<(), Error> {
+    /// Stores a recipe in a slot, with a term or without.
+    pub fn put(&mut self, slot: usize, term: Option<Term>, recipe: &[u8]) -> Result<(), Error> {
         self.device
-            .put(&mut self.chip, &mut self.array, slot, recipe)
+            .put(&mut self.chip, &mut self.array, slot, term, recipe)
     }
 
     /// Reads a slot's recipe.
-    pub fn get(&mut self, slot: usize) -> Result<Vec<u8>, Error> {
-        self.device.get(&mut self.chip, &mut self.array, slot)
+    pub fn get(&mut self, slot: usize, today: Date) -> Result<Vec<u8>, Error> {
+        self.device
+            .get(&mut self.chip, &mut self.array, slot, today)
     }
 }

@@ -1,6 +1,6 @@
 //! What stands behind the bridge: a chip, and the slot driver above it.
 
-use slipknoll::{log_len, Chip, Error, Run, SLOT_ROOM};
+use slipknoll::{log_len, Chip, Date, Error, Run, Term, SLOT_ROOM};
 
 /// The poll limit of a call: an empty script ends each busy period at once.
 const POLL_LIMIT: usize = 1;
@@ -17,17 +17,24 @@ pub trait Device {
 
     fn end_busy(&mut self, chip: &mut Chip, array: &mut [u8]) -> Result<(), Error>;
 
-    /// Stores a recipe in a slot by the slot driver.
+    /// Stores a recipe in a slot by the slot driver, with a term or without.
     fn put(
         &mut self,
         chip: &mut Chip,
         array: &mut [u8],
         slot: usize,
+        term: Option<Term>,
         recipe: &[u8],
     ) -> Result<(), Error>;
 
     /// Reads a slot's recipe by the slot driver.
-    fn get(&mut self, chip: &mut Chip, array: &mut [u8], slot: usize) -> Result<Vec<u8>, Error>;
+    fn get(
+        &mut self,
+        chip: &mut Chip,
+        array: &mut [u8],
+        slot: usize,
+        today: Date,
+    ) -> Result<Vec<u8>, Error>;
 }
 
 /// The proved library.
@@ -53,17 +60,28 @@ impl Device for Library {
         chip: &mut Chip,
         array: &mut [u8],
         slot: usize,
+        term: Option<Term>,
         recipe: &[u8],
     ) -> Result<(), Error> {
         let mut log = [0; log_len::put(POLL_LIMIT)];
-        chip.put(array, slot, POLL_LIMIT, recipe, &mut Run::new(&mut log))
+        let mut run = Run::new(&mut log);
+        match term {
+            None => chip.put(array, slot, POLL_LIMIT, recipe, &mut run),
+            Some(term) => chip.put_term(array, slot, POLL_LIMIT, term, recipe, &mut run),
+        }
     }
 
-    fn get(&mut self, chip: &mut Chip, array: &mut [u8], slot: usize) -> Result<Vec<u8>, Error> {
+    fn get(
+        &mut self,
+        chip: &mut Chip,
+        array: &mut [u8],
+        slot: usize,
+        today: Date,
+    ) -> Result<Vec<u8>, Error> {
         let mut log = [0; log_len::get(POLL_LIMIT)];
         let mut buffer = [0; SLOT_ROOM];
         let mut run = Run::new(&mut log);
-        let recipe = chip.get(array, slot, POLL_LIMIT, &mut buffer, &mut run)?;
+        let recipe = chip.get(array, slot, POLL_LIMIT, today, &mut buffer, &mut run)?;
         Ok(recipe.to_vec())
     }
 }

@@ -8,7 +8,7 @@ use crate::client::{self, Run};
 use crate::image::{self, compare};
 use crate::slots;
 use conformance::Rng;
-use slipknoll::Error;
+use slipknoll::{Date, Error, Term};
 use std::ffi::OsStr;
 use std::fmt;
 use std::fs;
@@ -18,6 +18,17 @@ use std::time::Instant;
 /// The erases that flashrom knows, in the order in which it tries them: page,
 /// block, sector, chip.
 pub const ERASES: [u8; 4] = [0x81, 0x50, 0x7C, 0xC7];
+
+/// The numbers of a season's days, 1 May to 31 October 2026, by `date` of coreutils.
+const SEASON_DAYS: [u32; 2] = [9_617, 9_800];
+
+fn season() -> Term {
+    Term::new(date(2026, 5, 1), date(2026, 10, 31)).expect("a term")
+}
+
+fn date(year: u32, month: u32, day: u32) -> Date {
+    Date::new(year, month, day).expect("a date")
+}
 
 /// What flashrom is made to do.
 #[derive(Clone, Copy, Debug, PartialEq, Eq)]
@@ -187,42 +198,77 @@ impl<'b, 'a> Session<'b, 'a> {
         let part = self.bridge.part;
         let mut expected = self.bridge.array().to_vec();
         let mut rng = Rng::new(9);
-        // The first slot, one that is put twice, and the last.
-        for (slot, len) in [(0, 2), (300, part.recipe_max()), (300, 0), (511, 700)] {
+        // The first slot, one that is put twice, the last; and two with a term.
+        for (slot, len, term) in [
+            (0, 2, false),
+            (300, part.recipe_max(), false),
+            (300, 0, false),
+            (511, 700, false),
+            (40, 2, true),
+            (41, part.term_recipe_max(), true),
+        ] {
             let mut recipe = vec![0; len];
             rng.fill(&mut recipe);
-            let result = self.bridge.put(slot, &recipe);
+            let result = self.bridge.put(slot, term.then(season), &recipe);
             result.map_err(|error| format!("put into slot {slot}: {error}"))?;
-            let stored = slots::stored(part, &recipe);
+            let stored = slots::stored(part, term.then(|| SEASON_DAYS), &recipe);
             expected[slot * part.slot_len()..][..part.slot_len()].copy_from_slice(&stored);
             compare(&format!("slot {slot}"), &self.read_slot(slot)?, &stored)?;
         }
         self.read(&expected)
     }
 
-    /// Recipes that flashrom writes into slots are read by a get; a slot that it
-    /// leaves erased is blank.
+    /// Recipes that flashrom writes into slots are read by a get, those with a term
+    /// on its days alone; a slot that it leaves erased is blank.
     fn get(&mut self) -> Result<(), String> {
         let part = self.bridge.part;
         let mut image = self.bridge.array().to_vec();
         let mut slots: Vec<&mut [u8]> = image.chunks_mut(part.slot_len()).collect();
         let mut rng = Rng::new(10);
-        let recipes = [(5, 2), (299, part.recipe_max()), (510, 0)].map(|(slot, len)| {
+        let recipes = [
+            (5, 2, None),
+            (299, part.recipe_max(), None),
+            (510, 0, None),
+            (20, 300, Some(SEASON_DAYS)),
+            (21, part.term_recipe_max(), Some(SEASON_DAYS)),
+        ];
+        let recipes = recipes.map(|(slot, len, days)| {
             let mut recipe = vec![0; len];
             rng.fill(&mut recipe);
-            slots[slot].copy_from_slice(&slots::stored(part, &recipe));
-            (slot, Ok(recipe))
+            slots[slot].copy_from_slice(&slots::stored(part, days, &recipe));
+            (slot, days, recipe)
         });
         slots[4].fill(0xFF);
         self.write(&image)?;
-        for (slot, expected) in recipes.into_iter().chain([(4, Err(Error::Blank))]) {
-            let got = self.bridge.get(slot);
-            if got != expected {
-                let shown = got.map(|recipe| recipe.len());
-                return Err(format!("get of slot {slot}: {shown:?}"));
-            }
+        for (slot, days, recipe) in recipes {
+            // The day before the season, its first, its last, the day after.
+            let season = season();
+            let outside = match days {
+                Some(_) => Err(Error::Term),
+                None => Ok(recipe.clone()),
+            };
+            self.gets(slot, date(2026, 4, 30), &outside)?;
+            self.gets(slot, season.first(), &Ok(recipe.clone()))?;
+            self.gets(slot, season.last(), &Ok(recipe))?;
+            self.gets(slot, date(2026, 11, 1), &outside)?;
         }
+        self.gets(4, season().first(), &Err(Error::Blank))?;
         compare("the array", self.bridge.array(), &image)
+    }
+
+    /// A get of the slot comes to what is expected.
+    fn gets(
+        &mut self,
+        slot: usize,
+        today: Date,
+        expected: &Result<Vec<u8>, Error>,
+    ) -> Result<(), String> {
+        let got = self.bridge.get(slot, today);
+        if got != *expected {
+            let shown = got.map(|recipe| recipe.len());
+            return Err(format!("get of slot {slot}: {shown:?}"));
+        }
+        Ok(())
     }
 
     /// Has flashrom read one slot, by a layout that says where it lies.

@@ -2,7 +2,7 @@
 
 use flashrom::session::{Step, ERASES};
 use flashrom::{image, Bridge, Device, Failure, Library, Session};
-use slipknoll::{Chip, Error, Part};
+use slipknoll::{Chip, Date, Error, Part, Term};
 use std::path::Path;
 
 /// A byte that the first image leaves erased.
@@ -42,6 +42,10 @@ enum Fault {
     ShortPut,
     /// A get reads the slot beside.
     GetsNextSlot,
+    /// A put leaves out the term.
+    TermLeftOut,
+    /// A get answers outside a term as if nothing were there.
+    BlankOutside,
 }
 
 /// The proved library with one fault.
@@ -100,21 +104,33 @@ impl Device for Faulty {
         chip: &mut Chip,
         array: &mut [u8],
         slot: usize,
+        term: Option<Term>,
         recipe: &[u8],
     ) -> Result<(), Error> {
         match self.0 {
-            Fault::NextSlot => Library.put(chip, array, slot ^ 1, recipe),
+            Fault::NextSlot => Library.put(chip, array, slot ^ 1, term, recipe),
             Fault::ShortPut => keeping(array, 8 * slot + 7, |array| {
-                Library.put(chip, array, slot, recipe)
+                Library.put(chip, array, slot, term, recipe)
             }),
-            _ => Library.put(chip, array, slot, recipe),
+            Fault::TermLeftOut => Library.put(chip, array, slot, None, recipe),
+            _ => Library.put(chip, array, slot, term, recipe),
         }
     }
 
-    fn get(&mut self, chip: &mut Chip, array: &mut [u8], slot: usize) -> Result<Vec<u8>, Error> {
-        match self.0 {
-            Fault::GetsNextSlot => Library.get(chip, array, slot ^ 1),
-            _ => Library.get(chip, array, slot),
+    fn get(
+        &mut self,
+        chip: &mut Chip,
+        array: &mut [u8],
+        slot: usize,
+        today: Date,
+    ) -> Result<Vec<u8>, Error> {
+        let slot = match self.0 {
+            Fault::GetsNextSlot => slot ^ 1,
+            _ => slot,
+        };
+        match (self.0, Library.get(chip, array, slot, today)) {
+            (Fault::BlankOutside, Err(Error::Term)) => Err(Error::Blank),
+            (_, got) => got,
         }
     }
 }
@@ -323,6 +339,18 @@ fn short_put() {
 fn gets_next_slot() {
     let failure = failure("gets-next-slot", Fault::GetsNextSlot, &[Step::Get]);
     assert_eq!(failure.why, "get of slot 5: Err(Blank)");
+}
+
+#[test]
+fn term_left_out() {
+    let failure = failure("term-left-out", Fault::TermLeftOut, &[Step::Put]);
+    assert!(failure.why.starts_with("slot 40: byte 0 "));
+}
+
+#[test]
+fn blank_outside() {
+    let failure = failure("blank-outside", Fault::BlankOutside, &[Step::Get]);
+    assert_eq!(failure.why, "get of slot 20: Err(Blank)");
 }
 
 /// A bridge that promises more than the chip takes.

@@ -40,8 +40,56 @@ const PARTS: [&str; 14] = [
     "256",
 ];
 
-/// The options with values that are numbers; those of script are made.
-const VALUES: [(&str, &[&str]); 7] = [
+/// Dates around a term, and such as are none, that can be read.
+const DATES: [&str; 21] = [
+    "2026-05-01",
+    "2026-05-01",
+    "2026-04-30",
+    "2026-10-31",
+    "2026-10-31",
+    "2026-11-01",
+    "2026-7-1",
+    "002026-0007-00000000000000000000000000001",
+    "2000-01-01",
+    "2199-12-31",
+    "2000-02-29",
+    "2100-02-28",
+    "2100-03-01",
+    "2100-02-29",
+    "1999-12-31",
+    "2200-01-01",
+    "2026-13-01",
+    "2026-0-0",
+    "67562-05-01",
+    "4294967295-1-1",
+    "2026-1-4294967295",
+];
+
+/// Dates that cannot be read.
+const NO_DATES: [&str; 19] = [
+    "",
+    "-",
+    "--",
+    "---",
+    "2026",
+    "2026-",
+    "2026-5",
+    "2026-5-",
+    "2026--5",
+    "-2026-5-1",
+    "2026-5-1-",
+    "2026-5-1-1",
+    "2026-5-x",
+    "2026/5/1",
+    "4294967296-1-1",
+    "1-18446744073709551616-1",
+    "1-1-99999999999999999999999",
+    "99999999999999999999999",
+    "x-4294967296-1",
+];
+
+/// The options with values that are numbers or dates; those of script are made.
+const VALUES: [(&str, &[&str]); 10] = [
     ("b", &["1", "2", "3", "3", "1000", "0", "1001"]),
     ("script", &[]),
     (
@@ -62,11 +110,20 @@ const VALUES: [(&str, &[&str]); 7] = [
         ],
     ),
     ("reply", &["2", "4", "0", "300", "65536", "65537"]),
+    ("first", &DATES),
+    ("last", &DATES),
+    ("today", &DATES),
 ];
 
+/// The places of the options with dates.
+const FIRST: usize = 7;
+const LAST: usize = 8;
+const TODAY: usize = 9;
+
 /// Lengths of recipes and patches: around the pages' ends and the longest.
-const RECIPE_LENS: [usize; 18] = [
-    0, 1, 2, 5, 100, 252, 253, 254, 260, 261, 262, 2000, 2044, 2045, 2046, 2108, 2109, 2110,
+const RECIPE_LENS: [usize; 24] = [
+    0, 1, 2, 5, 100, 252, 253, 254, 260, 261, 262, 2000, 2036, 2037, 2038, 2044, 2045, 2046, 2100,
+    2101, 2102, 2108, 2109, 2110,
 ];
 
 /// Lengths of a frame's data.
@@ -206,7 +263,22 @@ fn line(rng: &mut Rng) -> String {
         16 => return format!("cut {}", number(rng, 300)),
         _ => return format!("part {}", rng.pick(&PARTS)),
     };
-    line + &options(rng)
+    line.clone() + &days(rng, &line) + &options(rng)
+}
+
+/// A term for half of the puts, a date for most of the gets.
+fn days(rng: &mut Rng, line: &str) -> String {
+    match line.split(' ').next() {
+        Some("put") if rng.one_in(2) => {
+            let mut days = [option(FIRST, rng), option(LAST, rng)];
+            if rng.one_in(4) {
+                days.reverse();
+            }
+            format!(" {} {}", days[0], days[1])
+        }
+        Some("get") if !rng.one_in(3) => format!(" {}", option(TODAY, rng)),
+        _ => String::new(),
+    }
 }
 
 /// A number below `bound`, or one of the others.
@@ -274,13 +346,15 @@ fn hex(rng: &mut Rng, bytes: &[u8]) -> String {
     digits
 }
 
-/// Some of the seven options, beginning with any of them.
+/// Some of the options, beginning with any of them; those with dates are rare.
 fn options(rng: &mut Rng) -> String {
     let mut text = String::new();
-    let first = rng.below(7);
-    for option in 0..7 {
-        if rng.one_in(5) {
-            text += &format!(" {}", self::option((first + option) % 7, rng));
+    let first = rng.below(VALUES.len());
+    for i in 0..VALUES.len() {
+        let option = (first + i) % VALUES.len();
+        let rarity = if option < FIRST { 5 } else { 60 };
+        if rng.one_in(rarity) {
+            text += &format!(" {}", self::option(option, rng));
         }
     }
     if rng.one_in(60) {
@@ -294,6 +368,7 @@ fn option(which: usize, rng: &mut Rng) -> String {
     let (name, values) = VALUES[which];
     let value = match (name, wrong) {
         ("script", _) => script(rng, wrong),
+        ("first" | "last" | "today", true) => rng.pick(&NO_DATES).into(),
         (_, true) => rng.pick(&NUMBERS).into(),
         _ => rng.pick(values).into(),
     };

@@ -3,7 +3,7 @@
 use std::collections::BTreeSet;
 
 /// Every message about a line, behind its number.
-pub const MESSAGES: [&str; 40] = [
+pub const MESSAGES: [&str; 48] = [
     "longer than 8192 characters",
     "no command",
     "unknown command",
@@ -44,12 +44,20 @@ pub const MESSAGES: [&str; 40] = [
     "reply is not a number",
     "reply is too large",
     "reply is over 65536",
+    "first is not a date",
+    "first is too large",
+    "first is missing",
+    "last is not a date",
+    "last is too large",
+    "last is missing",
+    "today is not a date",
+    "today is too large",
 ];
 
 /// The answers that lines can meet: all but 1, since the array is always a
 /// part's and a fresh part has no operation under way.
-pub const ANSWERS: [&str; 13] = [
-    "0", "2", "3", "4", "5", "6", "7", "8", "9", "10", "11", "12", "13",
+pub const ANSWERS: [&str; 15] = [
+    "0", "2", "3", "4", "5", "6", "7", "8", "9", "10", "11", "12", "13", "14", "15",
 ];
 
 /// Messages and answers of some outputs.

@@ -1,6 +1,6 @@
 //! What a line says, or what is wrong with it.
 
-use at45db081d_model::Part;
+use at45db081d_model::{Date, Part, Term};
 
 use crate::rules::Rules;
 
@@ -16,7 +16,9 @@ pub const PARTS: [(&str, Part); 4] = [
     ("4096x256", Part::FULL_256),
 ];
 
-const OPTIONS: [&str; 7] = ["b", "script", "junk", "junklen", "log", "buffer", "reply"];
+const OPTIONS: [&str; 10] = [
+    "b", "script", "junk", "junklen", "log", "buffer", "reply", "first", "last", "today",
+];
 
 /// What a line says.
 #[derive(Clone, Debug, PartialEq, Eq)]
@@ -58,7 +60,8 @@ pub enum Request {
     },
 }
 
-/// What every call takes. A length that is not given is as the call needs it.
+/// What every call takes. A length that is not given is as the call needs it; first
+/// and last day are both given or neither.
 #[derive(Clone, Debug, PartialEq, Eq)]
 pub struct Options {
     pub limit: usize,
@@ -68,6 +71,9 @@ pub struct Options {
     pub log_len: Option<usize>,
     pub buffer_len: Option<usize>,
     pub reply_len: Option<usize>,
+    pub first: Option<Date>,
+    pub last: Option<Date>,
+    pub today: Date,
 }
 
 impl Default for Options {
@@ -80,6 +86,9 @@ impl Default for Options {
             log_len: None,
             buffer_len: None,
             reply_len: None,
+            first: None,
+            last: None,
+            today: Date::new(2000, 1, 1),
         }
     }
 }
@@ -170,10 +179,14 @@ fn read_options<'a>(words: impl Iterator<Item = &'a [u8]>) -> Result<Options, St
         given.push(name);
         options.set(name, value)?;
     }
-    Ok(options)
+    match (options.first, options.last) {
+        (Some(_), None) => Err("last is missing".into()),
+        (None, Some(_)) => Err("first is missing".into()),
+        _ => Ok(options),
+    }
 }
 
-/// NAME=VALUE with one of the seven names.
+/// NAME=VALUE with one of the ten names.
 fn split_option(word: &[u8]) -> Option<(&'static str, &[u8])> {
     OPTIONS.into_iter().find_map(|name| {
         let value = word.strip_prefix(name.as_bytes())?.strip_prefix(b"=")?;
@@ -182,6 +195,11 @@ fn split_option(word: &[u8]) -> Option<(&'static str, &[u8])> {
 }
 
 impl Options {
+    /// The term of a put, if there is one.
+    pub fn term(&self) -> Option<Term> {
+        Some(Term::new(self.first?, self.last?))
+    }
+
     fn set(&mut self, name: &str, value: &[u8]) -> Result<(), String> {
         match name {
             "b" => self.limit = number(name, value)? as usize,
@@ -190,7 +208,10 @@ impl Options {
             "junklen" => self.junk_len = Some(length(name, value, JUNK_ROOM)?),
             "log" => self.log_len = Some(length(name, value, OUTPUT_ROOM)?),
             "buffer" => self.buffer_len = Some(length(name, value, OUTPUT_ROOM)?),
-            _ => self.reply_len = Some(length(name, value, OUTPUT_ROOM)?),
+            "reply" => self.reply_len = Some(length(name, value, OUTPUT_ROOM)?),
+            "first" => self.first = Some(date(name, value)?),
+            "last" => self.last = Some(date(name, value)?),
+            _ => self.today = date(name, value)?,
         }
         Ok(())
     }
@@ -223,6 +244,23 @@ fn length(name: &str, word: &[u8], room: usize) -> Result<usize, String> {
         return Err(format!("{name} is over {room}"));
     }
     Ok(length as usize)
+}
+
+/// Year, month and day, joined by `-`: each decimal digits only, at most 2^32 - 1.
+/// Whether there is such a day is the call's to say.
+fn date(name: &str, word: &[u8]) -> Result<Date, String> {
+    let mut parts = word.splitn(3, |&byte| byte == b'-');
+    // What follows a third `-` is no part of a number.
+    let mut next = || date_part(name, parts.next().unwrap_or(b""));
+    Ok(Date::new(next()?, next()?, next()?))
+}
+
+fn date_part(name: &str, digits: &[u8]) -> Result<u32, String> {
+    if digits.is_empty() || !digits.iter().all(u8::is_ascii_digit) {
+        return Err(format!("{name} is not a date"));
+    }
+    let number = number(name, digits)?;
+    u32::try_from(number).map_err(|_| format!("{name} is too large"))
 }
 
 /// An even number of hexadecimal digits, either case, or `-` for none.

@@ -106,7 +106,7 @@ impl<'a> Session<'a> {
             junk: &junk,
             log: &mut step.log,
         };
-        let call = with_lent(request, options.limit, &mut step.out);
+        let call = with_lent(request, options, &mut step.out);
         let outcome = self.chip.call(lent, call);
         step.n = outcome.n;
         self.step = step;
@@ -141,12 +141,14 @@ fn out_len(part: Part, request: &Request, options: &Options) -> usize {
     }
 }
 
-/// The call with its poll limit and its get buffer or reply.
-fn with_lent<'a>(request: &'a Request, poll_limit: usize, out: &'a mut [u8]) -> Call<'a> {
+/// The call with its poll limit and dates, and its get buffer or reply.
+fn with_lent<'a>(request: &'a Request, options: &Options, out: &'a mut [u8]) -> Call<'a> {
+    let poll_limit = options.limit;
     match *request {
         Request::Put { slot, ref recipe } => Call::Put {
             slot,
             poll_limit,
+            term: options.term(),
             recipe,
         },
         Request::Patch {
@@ -162,6 +164,7 @@ fn with_lent<'a>(request: &'a Request, poll_limit: usize, out: &'a mut [u8]) -> 
         Request::Get { slot } => Call::Get {
             slot,
             poll_limit,
+            today: options.today,
             buffer: out,
         },
         Request::Wipe { slot } => Call::Wipe { slot, poll_limit },

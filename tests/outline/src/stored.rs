@@ -34,6 +34,13 @@ pub const PAGES_256: Stored = stored(
     "tests/outline/pages256.out",
 );
 
+/// Terms and dates: what is read of them, and 14 and 15.
+pub const TERMS: Stored = stored(
+    "terms and dates",
+    "tests/outline/terms.in",
+    "tests/outline/terms.out",
+);
+
 /// The two examples of `make run`, whose outlines are one.
 pub const SHORT: Stored = example("the short recipe", "examples/outline/short.txt");
 pub const LONG: Stored = example("the long recipe", "examples/outline/long.txt");
@@ -42,7 +49,7 @@ const fn example(name: &'static str, input: &'static str) -> Stored {
     stored(name, input, "examples/outline/outline.txt")
 }
 
-pub const ALL: [Stored; 5] = [RUN, WIPE, PAGES_256, SHORT, LONG];
+pub const ALL: [Stored; 6] = [RUN, WIPE, PAGES_256, TERMS, SHORT, LONG];
 
 impl Stored {
     pub fn input(&self) -> Vec<u8> {

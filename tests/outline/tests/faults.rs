@@ -2,18 +2,18 @@
 //! each stand in for the program.
 
 use at45db081d_model::calls::LOG_LINE;
-use at45db081d_model::{Outcome, Part, Record};
+use at45db081d_model::{Date, Outcome, Part, Record};
 use outline_tests::crc::{crc32, Crc};
 use outline_tests::inputs::{input, INPUTS};
 use outline_tests::order::{self, Options, Order, Request};
 use outline_tests::session::Step;
-use outline_tests::stored::{Stored, PAGES_256, RUN};
+use outline_tests::stored::{Stored, PAGES_256, RUN, TERMS};
 use outline_tests::{difference, rules, run_by, Difference, Rules, RULES};
 
 /// What is wrong, and how.
 type Fault = (&'static str, fn(&mut Rules));
 
-const FAULTS: [Fault; 34] = [
+const FAULTS: [Fault; 43] = [
     ("padding shown", |it| it.frame_text = padding_shown),
     ("three bytes shown", |it| it.frame_text = three_shown),
     ("lower-case digits", |it| it.frame_text = lower_case),
@@ -54,6 +54,15 @@ const FAULTS: [Fault; 34] = [
     ("line ends at NUL", |it| it.read = to_nul),
     ("264 for 256", |it| it.read = long_pages),
     ("buffers of 2,109", |it| it.read = long_buffers),
+    ("first ignored", |it| it.read = no_first),
+    ("first for last", |it| it.read = turned),
+    ("first alone", |it| it.read = first_alone),
+    ("today ignored", |it| it.read = no_today),
+    ("another default day", |it| it.read = another_day),
+    ("months first", |it| it.read = months_first),
+    ("no date as no number", |it| it.read = no_number),
+    ("14 for 15", |it| it.totals_text = fourteen_for_15),
+    ("16 bits of a year", |it| it.read = narrow_years),
 ];
 
 fn faulty(fault: Fault) -> Rules {
@@ -89,7 +98,7 @@ fn stored_runs_notice_faults() {
     };
     for fault in FAULTS {
         let rules = faulty(fault);
-        let noticed = [RUN, PAGES_256].iter().any(|it| notices(it, &rules));
+        let noticed = [RUN, PAGES_256, TERMS].iter().any(|it| notices(it, &rules));
         assert!(noticed, "not noticed: {}", fault.0);
     }
 }
@@ -153,7 +162,10 @@ fn one_frame(outcome: &Outcome) -> String {
 }
 
 fn twelve_for_13(outcome: &Outcome) -> String {
-    let answer = outcome.answer.min(12);
+    let answer = match outcome.answer {
+        13 => 12,
+        answer => answer,
+    };
     rules::totals_text(&Outcome { answer, ..*outcome })
 }
 
@@ -282,6 +294,64 @@ fn long_buffers(line: &[u8], rules: &Rules) -> Result<Order, String> {
     changed(line, rules, |options| {
         options.buffer_len.get_or_insert(2109);
     })
+}
+
+fn no_first(line: &[u8], rules: &Rules) -> Result<Order, String> {
+    changed(line, rules, |options| {
+        options.first = options.first.map(|_| Date::new(2000, 1, 1));
+    })
+}
+
+fn turned(line: &[u8], rules: &Rules) -> Result<Order, String> {
+    changed(line, rules, |options| {
+        std::mem::swap(&mut options.first, &mut options.last);
+    })
+}
+
+/// A first day without a last is none at all.
+fn first_alone(line: &[u8], rules: &Rules) -> Result<Order, String> {
+    match order::read(line, rules) {
+        Err(what) if what == "last is missing" => {
+            let words = line.split(|&byte| byte == b' ');
+            let words: Vec<&[u8]> = words.filter(|it| !it.starts_with(b"first=")).collect();
+            order::read(&words.join(&b' '), rules)
+        }
+        read => read,
+    }
+}
+
+fn no_today(line: &[u8], rules: &Rules) -> Result<Order, String> {
+    changed(line, rules, |options| {
+        options.today = Options::default().today;
+    })
+}
+
+fn another_day(line: &[u8], rules: &Rules) -> Result<Order, String> {
+    changed(line, rules, |options| {
+        if options.today == Options::default().today {
+            options.today = Date::new(2026, 7, 1);
+        }
+    })
+}
+
+fn months_first(line: &[u8], rules: &Rules) -> Result<Order, String> {
+    changed(line, rules, |options| {
+        let Date { year, month, day } = options.today;
+        options.today = Date::new(year, day, month);
+    })
+}
+
+fn no_number(line: &[u8], rules: &Rules) -> Result<Order, String> {
+    order::read(line, rules).map_err(|what| what.replace("a date", "a number"))
+}
+
+fn narrow_years(line: &[u8], rules: &Rules) -> Result<Order, String> {
+    changed(line, rules, |options| options.today.year %= 0x1_0000)
+}
+
+fn fourteen_for_15(outcome: &Outcome) -> String {
+    let answer = outcome.answer.min(14);
+    rules::totals_text(&Outcome { answer, ..*outcome })
 }
 
 /// A call's options as changed.

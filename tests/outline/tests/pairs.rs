@@ -1,8 +1,8 @@
-//! Pairs of inputs with recipes of very different lengths: their outlines are
-//! alike, but for answers 0, 12 and 13.
+//! Pairs of inputs with recipes of very different lengths, with and without terms:
+//! their outlines are alike, but for answers 0, 12, 13 and 15.
 
 use at45db081d_model::Outcome;
-use outline_tests::order::{Request, PARTS};
+use outline_tests::order::{self, Order, Request, PARTS};
 use outline_tests::pairs::{check, pair, PAIRS};
 use outline_tests::{rules, run, run_by, Rules, RULES};
 
@@ -36,12 +36,46 @@ fn recipes_have_very_different_lengths() {
     assert!(puts >= 1_900, "{puts}");
 }
 
+/// Puts with a term in one input alone, in both, with other days.
+#[test]
+fn terms_and_days_differ() {
+    let (mut one, mut both, mut gets) = (0, 0, 0);
+    for pair in (0..PAIRS).map(pair) {
+        for (short, long) in pair.short.lines().zip(pair.long.lines()) {
+            let [short, long] = [short, long].map(dates_in);
+            match (&short[..], &long[..]) {
+                ([_], [_]) => gets += u32::from(short != long),
+                ([_, _], []) | ([], [_, _]) => one += 1,
+                ([_, _], [_, _]) => both += u32::from(short != long),
+                _ => assert_eq!(short, long),
+            }
+        }
+    }
+    assert!(
+        one >= 900 && both >= 450 && gets >= 950,
+        "{one} {both} {gets}"
+    );
+}
+
+/// The options of a line that give dates.
+fn dates_in(line: &str) -> Vec<&str> {
+    let is_date = |word: &&str| {
+        ["first=", "last=", "today="]
+            .iter()
+            .any(|it| word.starts_with(it))
+    };
+    line.split(' ').filter(is_date).collect()
+}
+
 /// What shows something of a recipe, and how.
 type Leak = (&'static str, fn(&mut Rules));
 
-const LEAKS: [Leak; 4] = [
+const LEAKS: [Leak; 7] = [
     ("n among the polls", |it| it.totals_text = n_polled),
     ("12 and 13 a frame shorter", |it| it.totals_text = shorter),
+    ("15 a frame shorter", |it| it.totals_text = shorter_outside),
+    ("log by the term", |it| it.read = log_by_term),
+    ("log by the day", |it| it.read = log_by_day),
     ("log by the recipe", |it| it.log_frames = log_by_recipe),
     ("long lines not read", |it| it.longest_line = 2000),
 ];
@@ -64,8 +98,29 @@ fn n_polled(outcome: &Outcome) -> String {
 }
 
 fn shorter(outcome: &Outcome) -> String {
-    let frames = outcome.frames - u64::from(outcome.answer >= 12);
+    let frames = outcome.frames - u64::from([12, 13].contains(&outcome.answer));
     rules::totals_text(&Outcome { frames, ..*outcome })
+}
+
+fn shorter_outside(outcome: &Outcome) -> String {
+    let frames = outcome.frames - u64::from(outcome.answer == 15);
+    rules::totals_text(&Outcome { frames, ..*outcome })
+}
+
+fn log_by_term(line: &[u8], rules: &Rules) -> Result<Order, String> {
+    let mut order = order::read(line, rules)?;
+    if let Order::Call(_, options) = &mut order {
+        options.log_len = options.term().map(|_| 6);
+    }
+    Ok(order)
+}
+
+fn log_by_day(line: &[u8], rules: &Rules) -> Result<Order, String> {
+    let mut order = order::read(line, rules)?;
+    if let Order::Call(_, options) = &mut order {
+        options.log_len = (options.today.year >= 2100).then(|| 6);
+    }
+    Ok(order)
 }
 
 fn log_by_recipe(request: &Request, limit: usize) -> usize {

@@ -2,7 +2,7 @@
 
 use outline_tests::crc::crc32;
 use outline_tests::met::Met;
-use outline_tests::stored::{ALL, LONG, RUN, SHORT, WIPE};
+use outline_tests::stored::{ALL, LONG, RUN, SHORT, TERMS, WIPE};
 use outline_tests::{difference, run};
 
 #[test]
@@ -36,12 +36,13 @@ fn crc_of_123456789() {
     assert_eq!(crc32(b""), 0);
 }
 
-/// The stored run meets every message and every answer that lines can meet,
-/// and has a line of 8,192 characters and a longer one.
+/// The stored run, with that of terms and dates, meets every message and every
+/// answer that lines can meet, and has a line of 8,192 characters and a longer one.
 #[test]
-fn stored_run_meets_everything() {
+fn stored_runs_meet_everything() {
     let mut met = Met::default();
     met.add(&RUN.output());
+    met.add(&TERMS.output());
     assert_eq!(met, Met::all());
     let input = RUN.input();
     let lens: Vec<usize> = input

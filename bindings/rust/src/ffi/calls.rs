@@ -1,4 +1,5 @@
-//! The slot calls: put, patch, get, wipe and raw.
+//! The slot calls: put, with a term or without, patch, get, wipe and raw. A date
+//! is `[year, month, day]`, any numbers.
 
 use crate::{Record, Run};
 
@@ -11,6 +12,29 @@ pub mod raw {
             array_len: usize,
             slot: usize,
             poll_limit: usize,
+            recipe: *const u8,
+            recipe_len: usize,
+            script: *const u8,
+            script_len: usize,
+            junk: *const u8,
+            junk_len: usize,
+            log: *mut u8,
+            log_len: usize,
+            counts: *mut u64,
+        ) -> u8;
+
+        pub fn slipknoll_put_term(
+            record: *mut u8,
+            array: *mut u8,
+            array_len: usize,
+            slot: usize,
+            poll_limit: usize,
+            first_year: u32,
+            first_month: u32,
+            first_day: u32,
+            last_year: u32,
+            last_month: u32,
+            last_day: u32,
             recipe: *const u8,
             recipe_len: usize,
             script: *const u8,
@@ -46,6 +70,9 @@ pub mod raw {
             array_len: usize,
             slot: usize,
             poll_limit: usize,
+            year: u32,
+            month: u32,
+            day: u32,
             buffer: *mut u8,
             buffer_len: usize,
             script: *const u8,
@@ -122,6 +149,45 @@ pub fn put(
     }
 }
 
+/// Stores a recipe in a slot with its first and its last day.
+#[allow(clippy::too_many_arguments)]
+pub fn put_term(
+    record: &mut Record,
+    array: &mut [u8],
+    slot: usize,
+    poll_limit: usize,
+    first: [u32; 3],
+    last: [u32; 3],
+    recipe: &[u8],
+    run: &mut Run,
+) -> u8 {
+    // SAFETY: as in `put`.
+    unsafe {
+        raw::slipknoll_put_term(
+            record.as_mut_ptr(),
+            array.as_mut_ptr(),
+            array.len(),
+            slot,
+            poll_limit,
+            first[0],
+            first[1],
+            first[2],
+            last[0],
+            last[1],
+            last[2],
+            recipe.as_ptr(),
+            recipe.len(),
+            run.script.as_ptr(),
+            run.script.len(),
+            run.junk.as_ptr(),
+            run.junk.len(),
+            run.log.as_mut_ptr(),
+            run.log.len(),
+            run.counts.as_mut_ptr(),
+        )
+    }
+}
+
 /// Changes bytes of a slot's recipe, from `place` on.
 pub fn patch(
     record: &mut Record,
@@ -160,6 +226,7 @@ pub fn get(
     array: &mut [u8],
     slot: usize,
     poll_limit: usize,
+    today: [u32; 3],
     buffer: &mut [u8],
     run: &mut Run,
 ) -> u8 {
@@ -171,6 +238,9 @@ pub fn get(
             array.len(),
             slot,
             poll_limit,
+            today[0],
+            today[1],
+            today[2],
             buffer.as_mut_ptr(),
             buffer.len(),
             run.script.as_ptr(),

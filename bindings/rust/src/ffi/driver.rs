@@ -1,10 +1,10 @@
 //! The slot driver alone: it takes in a reply and hands out the frame that
-//! follows, or none at the end.
+//! follows, or none at the end. A date is `[year, month, day]`, any numbers.
 
 use crate::{DRIVER_FRAME_LEN, SLOT_ROOM};
 
 /// Length of the driver's state.
-pub const STATE_LEN: usize = 48;
+pub const STATE_LEN: usize = 72;
 
 /// What the library answers of a driver that has not ended.
 pub const RUNNING: u8 = 255;
@@ -24,6 +24,21 @@ pub mod raw {
             recipe_len: usize,
         );
 
+        pub fn slipknoll_driver_start_put_term(
+            state: *mut u8,
+            array_len: usize,
+            slot: usize,
+            poll_limit: usize,
+            first_year: u32,
+            first_month: u32,
+            first_day: u32,
+            last_year: u32,
+            last_month: u32,
+            last_day: u32,
+            recipe: *const u8,
+            recipe_len: usize,
+        );
+
         pub fn slipknoll_driver_start_patch(
             state: *mut u8,
             array_len: usize,
@@ -39,6 +54,9 @@ pub mod raw {
             array_len: usize,
             slot: usize,
             poll_limit: usize,
+            year: u32,
+            month: u32,
+            day: u32,
             buffer_len: usize,
         );
 
@@ -95,6 +113,35 @@ pub fn start_put(
     }
 }
 
+/// Starts a put with a first and a last day.
+pub fn start_put_term(
+    state: &mut State,
+    array_len: usize,
+    slot: usize,
+    poll_limit: usize,
+    first: [u32; 3],
+    last: [u32; 3],
+    recipe: &[u8],
+) {
+    // SAFETY: as in `start_put`.
+    unsafe {
+        raw::slipknoll_driver_start_put_term(
+            state.as_mut_ptr(),
+            array_len,
+            slot,
+            poll_limit,
+            first[0],
+            first[1],
+            first[2],
+            last[0],
+            last[1],
+            last[2],
+            recipe.as_ptr(),
+            recipe.len(),
+        )
+    }
+}
+
 /// Starts a patch.
 pub fn start_patch(
     state: &mut State,
@@ -124,11 +171,21 @@ pub fn start_get(
     array_len: usize,
     slot: usize,
     poll_limit: usize,
+    today: [u32; 3],
     buffer_len: usize,
 ) {
     // SAFETY: as in `start_put`.
     unsafe {
-        raw::slipknoll_driver_start_get(state.as_mut_ptr(), array_len, slot, poll_limit, buffer_len)
+        raw::slipknoll_driver_start_get(
+            state.as_mut_ptr(),
+            array_len,
+            slot,
+            poll_limit,
+            today[0],
+            today[1],
+            today[2],
+            buffer_len,
+        )
     }
 }
 
@@ -193,8 +250,17 @@ pub fn answer(state: &State) -> Option<u8> {
 
 /// Of a get that has ended with 0 the recipe's length; else 0.
 ///
-/// The recipe stands in `staged` behind its first three bytes.
+/// The recipe stands in `staged` from [`body`] on.
 pub fn count(state: &State, staged: &[u8; SLOT_ROOM]) -> usize {
     // SAFETY: as in `start_put`.
     unsafe { raw::slipknoll_driver_count(state.as_ptr(), staged.as_ptr()) }
+}
+
+/// Where the recipe begins in the bytes of its slot: behind its term if these have
+/// one. The same as the header's `SLIPKNOLL_BODY`.
+pub fn body(staged: &[u8; SLOT_ROOM]) -> usize {
+    match staged[0] {
+        2 => 11,
+        _ => 3,
+    }
 }

@@ -8,10 +8,10 @@ returns : tie.Need-returns
 unfolding decodeDriver
 returns c = λ i.
     record {
-      array = c .before .before .before .before .before .before .before .before .before .before .before .number-at .ensures i;
-      slot = c .before .before .before .before .before .before .before .before .before .number-at2 .ensures i;
-      limit = c .before .before .before .before .before .before .before .number-at3 .ensures i;
-      place = c .before .before .before .before .before .number-at4 .ensures i;
+      array = c .before .before .before .before .before .before .before .before .before .before .number-at .ensures i;
+      slot = c .before .before .before .before .before .before .before .before .number-at2 .ensures i;
+      limit = c .before .before .before .before .before .before .number-at3 .ensures i;
+      aim = c .before .before .before .before .before .decode-aim .ensures i;
       kind = c .before .before .before .kind .ensures i;
       verdict = c .before .verdict .ensures i;
       course = c .decode-course .ensures i;

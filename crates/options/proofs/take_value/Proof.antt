@@ -16,7 +16,11 @@ returns-2 c = simp (sym (c .before .before .before .before .is-given .ensures) �
 
 returns-3 : tie.Need-returns-3
 unfolding takeValue
-returns-3 c = simp (sym (c .before .before .before .before .before .is-given .ensures) ∙ c .before .before .before .before .if1 .left, sym (c .before .before .before .is-script .ensures) ∙ c .before .before .if2 .left) (c .take-number .ensures)
+returns-3 c = simp (sym (c .before .before .before .before .before .before .before .is-given .ensures) ∙ c .before .before .before .before .before .before .if1 .left, sym (c .before .before .before .before .before .is-script .ensures) ∙ c .before .before .before .before .if2 .left, sym (c .before .before .before .is-day .ensures) ∙ c .before .before .if3 .taken) (c .take-date .ensures)
+
+returns-4 : tie.Need-returns-4
+unfolding takeValue
+returns-4 c = simp (sym (c .before .before .before .before .before .before .before .is-given .ensures) ∙ c .before .before .before .before .before .before .if1 .left, sym (c .before .before .before .before .before .is-script .ensures) ∙ c .before .before .before .before .if2 .left, sym (c .before .before .before .is-day .ensures) ∙ c .before .before .if3 .left) (c .take-number .ensures)
 
 pub take-value-spec : {M : Type 1} → statement M
 take-value-spec =
@@ -27,8 +31,14 @@ take-value-spec =
     (λ c κs. search needs)
     (λ c κs. search needs)
     returns-2
+    (λ c κs. search needs)
     (λ c. search needs)
     (λ c. search needs)
     (λ c. search needs)
     (λ c κs. search needs)
-    returns-3)
+    returns-3
+    (λ c. search needs)
+    (λ c. search needs)
+    (λ c. search needs)
+    (λ c κs. search needs)
+    returns-4)

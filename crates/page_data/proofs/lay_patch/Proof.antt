@@ -14,17 +14,17 @@ returns : tie.Need-returns
 returns c =
     let s = c .before .before .before in
     let a = s .args in
-    laid-before (a .place) (a .bytes .now) (a .start) (a .part .now) (a .place + 3 - a .start) refl (omega (arith, c .if1 .taken, s .pre))
+    laid-before (a .head) (a .place) (a .bytes .now) (a .start) (a .part .now) (a .place + a .head - a .start) refl (omega (arith, c .if1 .taken, s .pre .0, s .pre .1))
 
 returns-2 : tie.Need-returns-2
 returns-2 c =
     let a = c .before .before .before .before .before .before .args in
-    laid-before (a .place) (a .bytes .now) (a .start) (a .part .now) (c .before .before .excess .result) (c .before .before .excess .ensures) (c .if2 .taken)
+    laid-before (a .head) (a .place) (a .bytes .now) (a .start) (a .part .now) (c .before .before .excess .result) (c .before .before .excess .ensures) (c .if2 .taken)
 
 returns-3 : tie.Need-returns-3
 returns-3 c =
     let a = c .before .before .before .before .before .before .before .args in
-    laid-after (a .place) (a .bytes .now) (a .start) (a .part .now) (c .before .before .excess2 .result) (c .before .before .excess2 .ensures) (c .if3 .taken)
+    laid-after (a .head) (a .place) (a .bytes .now) (a .start) (a .part .now) (c .before .before .excess2 .result) (c .before .before .excess2 .ensures) (c .if3 .taken)
 
 copy-requires : tie.Need-copy-requires
 copy-requires c κs =
@@ -44,7 +44,7 @@ returns-4 c =
     let lesser = c .before .before .before .before .before .lesser in
     let copy = c .before .before .copy in
     let a = c .before .before .before .before .before .before .before .before .before .before .before .before .before .args in
-    laid-some (a .place) (a .bytes .now) (a .start) (a .part .now) (excess .result) (excess2 .result) (lesser .result)
+    laid-some (a .head) (a .place) (a .bytes .now) (a .start) (a .part .now) (excess .result) (excess2 .result) (lesser .result)
     (copy .last .0) (excess .ensures) (excess2 .ensures) (c .before .before .before .before .before .before .before .if2 .left)
     (c .before .before .before .before .before .before .if3 .left) (lesser .ensures) (copy .ensures)
 

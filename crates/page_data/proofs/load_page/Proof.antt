@@ -16,7 +16,7 @@ use Rattle.page_data.proofs.load_page.Tie as tie
 -- n bytes from index `start` of the slot on, as the kind stores it
 abbrev stored : tie.Start → Kind → ℕ → ℕ → List ℕ
 stored s k n start =
-    let a = s .args in tabulate n (λ i. storedBy k (held (a .verdict) (a .place) (a .payload .now) (a .staged .now)) (start + i))
+    let a = s .args in tabulate n (λ i. storedBy k (held (a .verdict) (a .aim) (a .payload .now) (a .staged .now)) (start + i))
 
 -- what the kind's function makes is the page asked for
 made : (s : tie.Start) {k : Kind} {start : ℕ} → start ≡ s .args .g .size * (s .args .page % 8) → s .args .kind ≡ k

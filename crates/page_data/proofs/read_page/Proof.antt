@@ -13,7 +13,7 @@ slice-aggregate-judge c =
     let a = s .args in
     let p = c .before .before .before .before .before .before .page-start in
     let r = c .before .before .before .before .copy-from in
-    sym (length-take-le (a .g .size) _ (read-room (s .pre .0) (a .kind) (a .verdict) (a .place) (a .page) (a .payload .now) (a .staged .now) (p .result) (p .ensures .0) (s .pre .1) (a .reply .now) (r .last .0) (r .ensures)))
+    sym (length-take-le (a .g .size) _ (read-room (s .pre .0) (a .kind) (a .verdict) (a .aim) (a .page) (a .payload .now) (a .staged .now) (p .result) (p .ensures .0) (s .pre .1) (a .reply .now) (r .last .0) (r .ensures)))
 
 returns : tie.Need-returns
 returns c =
@@ -21,7 +21,7 @@ returns c =
     let a = s .args in
     let p = c .before .before .before .before .before .before .before .page-start in
     let r = c .before .before .before .before .before .copy-from in
-    read-first (s .pre .0) (a .kind) (a .verdict) (a .place) (a .page) (a .payload .now) (a .staged .now) (p .result) (p .ensures .0) (s .pre .1) (a .reply .now) (r .last .0) (r .ensures) (c .judge .result) (c .before .before .if1 .taken) (c .judge .ensures (a .verdict) (a .staged .now))
+    read-first (s .pre .0) (a .kind) (a .verdict) (a .aim) (a .page) (a .payload .now) (a .staged .now) (p .result) (p .ensures .0) (s .pre .1) (a .reply .now) (r .last .0) (r .ensures) (c .judge .result) (c .before .before .if1 .taken) (c .judge .ensures (a .verdict) (a .staged .now))
 
 returns-2 : tie.Need-returns-2
 returns-2 c =
@@ -29,7 +29,7 @@ returns-2 c =
     let a = s .args in
     let p = c .before .before .before .before .before .page-start in
     let r = c .before .before .before .copy-from in
-    read-later (s .pre .0) (a .kind) (a .verdict) (a .place) (a .page) (a .payload .now) (a .staged .now) (p .result) (p .ensures .0) (s .pre .1) (a .reply .now) (r .last .0) (r .ensures) (c .if1 .left)
+    read-later (s .pre .0) (a .kind) (a .verdict) (a .aim) (a .page) (a .payload .now) (a .staged .now) (p .result) (p .ensures .0) (s .pre .1) (a .reply .now) (r .last .0) (r .ensures) (c .if1 .left)
 
 pub read-page-spec : {M : Type 1} → statement M
 read-page-spec =

@@ -24,7 +24,17 @@ returns-4 c = let a = c .before .before .before .before .args in simp (lt-leb (a
 
 returns-5 : tie.Need-returns-5
 unfolding earlyRefusal
-returns-5 c = let a = c .before .before .before .before .args in simp (lt-leb (a .g .pages / 8) (a .slot) (c .before .before .before .if1 .left), le-leb 1 (a .limit) (c .before .before .if2 .left), le-leb (a .limit) 1000 (c .before .if3 .left), c .if4 .left)
+returns-5 c =
+    let b = c .before in
+    let a = b .before .before .before .before .args in
+    simp (lt-leb (a .g .pages / 8) (a .slot) (b .before .before .before .if1 .left), le-leb 1 (a .limit) (b .before .before .if2 .left), le-leb (a .limit) 1000 (b .before .if3 .left), b .if4 .left, c .if5 .taken)
+
+returns-6 : tie.Need-returns-6
+unfolding earlyRefusal
+returns-6 c =
+    let b = c .before in
+    let a = b .before .before .before .before .args in
+    simp (lt-leb (a .g .pages / 8) (a .slot) (b .before .before .before .if1 .left), le-leb 1 (a .limit) (b .before .before .if2 .left), le-leb (a .limit) 1000 (b .before .if3 .left), b .if4 .left, c .if5 .left)
 
 pub early-refusal-spec : {M : Type 1} → statement M
-early-refusal-spec = tie.close (tie.spec returns returns-2 returns-3 returns-4 returns-5)
+early-refusal-spec = tie.close (tie.spec returns returns-2 returns-3 returns-4 returns-5 returns-6)

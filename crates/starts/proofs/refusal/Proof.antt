@@ -17,14 +17,14 @@ returns : tie.Need-returns
 returns c =
     let a = c .before .before .before .before .before .args in
     let asked = asking (a .kind) (a .slot) (a .limit) in
-    let on : c .refusal-on .result ≡ startRefusal (Known (c .before .before .p .given .0 .0)) asked (a .place) (a .n) (a .lent) = c .refusal-on .ensures in
-    on ∙ ap (λ (p : Part). startRefusal p asked (a .place) (a .n) (a .lent)) (sym (c .before .before .p .given .1) ∙ c .before .before .before .before .part-of .ensures)
+    let on : c .refusal-on .result ≡ startRefusal (Known (c .before .before .p .given .0 .0)) asked (a .detail) (a .n) (a .lent) = c .refusal-on .ensures in
+    on ∙ ap (λ (p : Part). startRefusal p asked (a .detail) (a .n) (a .lent)) (sym (c .before .before .p .given .1) ∙ c .before .before .before .before .part-of .ensures)
 
 returns-2 : tie.Need-returns-2
 unfolding startRefusal
 returns-2 c =
     let a = c .before .before .before .args in
-    ap (λ (p : Part). startRefusal p (asking (a .kind) (a .slot) (a .limit)) (a .place) (a .n) (a .lent)) (sym (c .enum-told .given .1) ∙ c .before .before .part-of .ensures)
+    ap (λ (p : Part). startRefusal p (asking (a .kind) (a .slot) (a .limit)) (a .detail) (a .n) (a .lent)) (sym (c .enum-told .given .1) ∙ c .before .before .part-of .ensures)
 
 pub refusal-spec : {M : Type 1} → statement M
 refusal-spec =

@@ -1,8 +1,8 @@
--- `starts::refusal_on` meets its contract: the tests are the definition's, 5 by what is to be stored and what is lent.
+-- `starts::refusal_on` meets its contract: the tests are the definition's, 5 and 14 by what the call is told and lent.
 -- Assumes nothing.
-use mathlib.Core.Bool.{_||_, Bool}
-use mathlib.Core.Path.{_≡_, ap, _∙_}
-use Rattle.slots.specs.Refusals.{isOver, isShort, earlyRefusal}
+use mathlib.Core.Path.{ap, _∙_}
+use Rattle.slots.specs.declared.Flaws.{Flaws}
+use Rattle.slots.specs.Refusals.{earlyRefusal}
 use Rattle.slots.specs.Lists.{asking}
 use Rattle.worlds.specs.Start.{startRefusal}
 use borrow.Author.Needs.{needs}
@@ -13,10 +13,7 @@ returns : tie.Need-returns
 unfolding startRefusal
 returns c =
     let a = c .before .before .args in
-    let b = c .before .is-oversize .result in
-    let five : b ≡ (isOver (a .kind) (a .g) (a .place) (a .n) || isShort (a .kind) (a .g) (a .lent)) = c .before .is-oversize .ensures in
-    let early : c .early-refusal .result ≡ earlyRefusal (a .g) (asking (a .kind) (a .slot) (a .limit)) b = c .early-refusal .ensures in
-    early ∙ ap (λ (z : Bool). earlyRefusal (a .g) (asking (a .kind) (a .slot) (a .limit)) z) five
+    c .early-refusal .ensures ∙ ap (λ (z : Flaws). earlyRefusal (a .g) (asking (a .kind) (a .slot) (a .limit)) z) (c .before .flaws-in .ensures)
 
 pub refusal-on-spec : {M : Type 1} → statement M
 refusal-on-spec = tie.close (tie.spec (λ c κs. search needs) (λ c κs. search needs) returns)

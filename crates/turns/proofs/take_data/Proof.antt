@@ -12,13 +12,13 @@ use Rattle.turns.proofs.take_data.Tie as tie
 returns : tie.Need-returns
 unfolding takenBy
 returns c =
-    let a = c .before .before .before .before .before .before .before .before .before .before .args in
+    let a = c .before .before .before .before .before .before .before .before .before .before .before .args in
     c .before .before .read-page .ensures
     ∙ ap (λ (x : Step). takenBy x (a .g) (a .d .kind) (holdingOf (a .d) (a .payload .now) (a .staged .now)) (a .reply .now)) (sym (c .before .before .before .before .before .x .given .1))
 
 returns-2 : tie.Need-returns-2
 returns-2 c =
-    let a = c .before .before .before .before .args in
+    let a = c .before .before .before .before .before .args in
     taken-none (a .x) (a .g) (a .d .kind) (holdingOf (a .d) (a .payload .now) (a .staged .now)) (a .reply .now) (c .match .keys2)
 
 pub take-data-spec : {M : Type 1} → statement M

@@ -13,24 +13,24 @@ use Rattle.turns.proofs.take_step.Statement.{statement}
 use Rattle.turns.proofs.take_step.Tie as tie
 
 mul-sector-of : tie.Need-mul-sector-of
-mul-sector-of c = let s = c .before .before .before .before .before in omega (arith, s .pre .0 .slot, sound-sized (s .pre .0) .few)
+mul-sector-of c = let s = c .before .before .before .before .before .before in omega (arith, s .pre .0 .slot, sound-sized (s .pre .0) .few)
 
 sector-of-requires : tie.Need-sector-of-requires
-sector-of-requires c κs = sound-sized (c .before .before .before .before .before .pre .0)
+sector-of-requires c κs = sound-sized (c .before .before .before .before .before .before .pre .0)
 
 take-course-requires : tie.Need-take-course-requires
 take-course-requires c κs =
-    let s = c .before .before .before .before .before .before .before in
+    let s = c .before .before .before .before .before .before .before .before in
     (sound-place (s .pre .0), sound-sector (s .pre .0) (c .before .sector-of .ensures))
 
 take-data-requires : tie.Need-take-data-requires
 take-data-requires c κs =
-    let s = c .before .before .before .before .before .before .before .before .before in
+    let s = c .before .before .before .before .before .before .before .before .before .before in
     (sound-pages (s .pre .0), s .pre .2)
 
 returns : tie.Need-returns
 returns c =
-    let s = c .before .before .before .before .before .before .before .before .before .before .before .before in
+    let s = c .before .before .before .before .before .before .before .before .before .before .before .before .before in
     let a = s .args in
     let d = a .d in
     let plan = planBy (d .kind) (a .g) (d .slot) in

@@ -19,7 +19,7 @@ use Rattle.turns.proofs.write_load.Tie as tie
 returns : tie.Need-returns
 unfolding loaded
 returns c =
-    let s = c .before .before .before .before .before .before .before .before .before .before .before .before in
+    let s = c .before .before .before .before .before .before .before .before .before .before .before .before .before in
     let a = s .args in
     let p = c .before .before .before .before .before .before .put-address in
     let h = holdingOf (a .d) (a .payload .now) (a .staged .now) in

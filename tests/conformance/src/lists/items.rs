@@ -1,8 +1,9 @@
 //! Random items: requests, scripts, frames and what is lent.
 
-use at45db081d_model::Part;
+use at45db081d_model::{Date, Part, Term};
 
 use super::item::{CallItem, Item, Junk};
+use crate::dates;
 use crate::frames::{self, ROWS};
 use crate::parts;
 use crate::request::Request;
@@ -44,8 +45,13 @@ pub fn call(rng: &mut Rng, part: Part) -> CallItem {
 fn request(rng: &mut Rng, part: Part) -> Request {
     let (slot, limit) = (slot(rng, part), limit(rng));
     let over = rng.one_in(16);
+    let wrong = rng.one_in(16);
     match rng.below(13) {
-        0..=2 => Request::put(slot, limit, recipe(rng, part, over)),
+        0..=2 => {
+            let term = term(rng, wrong);
+            let recipe = recipe(rng, part, term.is_some(), over);
+            Request::put(slot, limit, term, recipe)
+        }
         3..=5 => {
             let (place, bytes) = patch(rng, part, over);
             Request::patch(slot, limit, place, bytes)
@@ -55,7 +61,7 @@ fn request(rng: &mut Rng, part: Part) -> Request {
                 true => rng.below(part.max_recipe()),
                 false => part.max_recipe() + rng.below(3),
             };
-            Request::get(slot, limit, buffer_len)
+            Request::get(slot, limit, today(rng, wrong), buffer_len)
         }
         9 => Request::wipe(slot, limit),
         _ => {
@@ -66,10 +72,25 @@ fn request(rng: &mut Rng, part: Part) -> Request {
     }
 }
 
+/// A term or none; one that is wrong is there.
+pub fn term(rng: &mut Rng, wrong: bool) -> Option<Term> {
+    match wrong {
+        true => Some(dates::no_term(rng)),
+        false => rng.one_in(2).then(|| dates::term(rng)),
+    }
+}
+
+pub fn today(rng: &mut Rng, wrong: bool) -> Date {
+    match wrong {
+        true => dates::no_date(rng),
+        false => dates::date(rng),
+    }
+}
+
 /// A recipe, within the limit or over it; short ones are frequent, so that
 /// pages of zeros are.
-pub fn recipe(rng: &mut Rng, part: Part, over: bool) -> Vec<u8> {
-    let (most, page) = (part.max_recipe(), part.page_size);
+pub fn recipe(rng: &mut Rng, part: Part, has_term: bool, over: bool) -> Vec<u8> {
+    let (most, page) = (part.max_recipe_of(has_term), part.page_size);
     let len = match rng.below(8) {
         0 if over => 0x1_0000 + rng.below(most),
         _ if over => most + 1 + rng.below(200),

@@ -1,16 +1,18 @@
 //! A recipe that was put comes back (14.8): if a put has answered 0, and the list
-//! after it is quiet in the slot, each get of the slot hands over exactly this
-//! recipe with 0, or says why not with 1 to 9 or 11.
+//! after it is quiet in the slot, each get of the slot says why not with 1 to 9, 11
+//! or 14, or else hands over exactly this recipe with 0 if today is inside its term
+//! and answers 15 if it is not. A recipe without a term is handed over on any day.
 
 use std::ops::Range;
 
 use at45db081d_model::record::field;
-use at45db081d_model::{Chip, Outcome, Part};
+use at45db081d_model::{Chip, Date, Part, Term};
 
 use super::item::{CallItem, Item, Junk};
 use super::items;
-use super::world::World;
+use super::world::{Outline, World};
 use super::Broken;
+use crate::dates;
 use crate::device::{Device, Model};
 use crate::parts;
 use crate::records::{self, OPERATIONS};
@@ -25,6 +27,7 @@ const LONGEST: usize = 12;
 pub struct Kept {
     pub world: World,
     pub slot: usize,
+    pub term: Option<Term>,
     pub recipe: Vec<u8>,
     /// The put comes first.
     pub items: Vec<Item>,
@@ -37,8 +40,11 @@ pub struct Shown {
     /// Of these the ones on each part.
     pub parts: [u64; 4],
     pub gets: u64,
-    /// Gets that answered 0.
+    /// Gets that answered 0, and of these the ones with a term.
     pub read: u64,
+    pub read_inside: u64,
+    /// Gets that answered 15.
+    pub outside: u64,
 }
 
 /// Makes the list of a seed, runs it on a device and looks at every get; adds to
@@ -48,37 +54,57 @@ pub fn check(device: &mut dyn Device, seed: u64, shown: &mut Shown) -> Result<()
     let mut world = kept.world.clone();
     for (i, item) in kept.items.iter().enumerate() {
         let outline = world.run(device, item);
-        let outcome = outline.outcome;
-        if i == 0 && outcome.answer != 0 {
+        let answer = outline.outcome.answer;
+        if i == 0 && answer != 0 {
             return Ok(());
         }
-        if !is_get(item, kept.slot) {
-            continue;
-        }
-        let same = outcome.n == kept.recipe.len() as u64 && outline.read == kept.recipe;
+        let today = match get_of(item, kept.slot) {
+            Some(today) => today,
+            None => continue,
+        };
         let last = i + 1 == kept.items.len();
-        if !allowed(outcome, same, last) {
-            return Err(broken(seed, &kept, i, outcome, same));
+        if !allowed(&kept, &outline, today, last) {
+            return Err(broken(seed, &kept, i, &outline));
         }
         shown.gets += 1;
-        shown.read += u64::from(outcome.answer == 0);
+        shown.read += u64::from(answer == 0);
+        shown.read_inside += u64::from(answer == 0 && kept.term.is_some());
+        shown.outside += u64::from(answer == 15);
     }
     shown.lists += 1;
     parts::count(&mut shown.parts, kept.world.array.len());
     Ok(())
 }
 
-/// The chip is idle and awake at the last get, which must answer 0.
-fn allowed(outcome: Outcome, same: bool, last: bool) -> bool {
-    match outcome.answer {
-        0 => same,
-        1..=9 | 11 => !last,
+/// The chip is idle and awake at the last get, and its date is one: it must answer
+/// 0 or 15. Which of them is told by the dates alone.
+fn allowed(kept: &Kept, outline: &Outline, today: Date, last: bool) -> bool {
+    match outline.outcome.answer {
+        0 => reads_recipe(kept, outline) && is_inside(kept.term, today),
+        15 => outline.outcome.n == 0 && !is_inside(kept.term, today),
+        1..=9 | 11 | 14 => !last,
         _ => false,
     }
 }
 
-fn broken(seed: u64, kept: &Kept, at: usize, outcome: Outcome, same: bool) -> Broken {
-    let read = if same { "the recipe" } else { "something else" };
+fn reads_recipe(kept: &Kept, outline: &Outline) -> bool {
+    outline.outcome.n == kept.recipe.len() as u64 && outline.read == kept.recipe
+}
+
+/// By year, month and day, with the first and the last day inside.
+fn is_inside(term: Option<Term>, today: Date) -> bool {
+    let key = |it: Date| (it.year, it.month, it.day);
+    term.map_or(true, |it| {
+        key(it.first) <= key(today) && key(today) <= key(it.last)
+    })
+}
+
+fn broken(seed: u64, kept: &Kept, at: usize, outline: &Outline) -> Broken {
+    let outcome = outline.outcome;
+    let read = match reads_recipe(kept, outline) {
+        true => "the recipe",
+        false => "something else",
+    };
     Broken {
         seed,
         what: format!("item {at}: get of {outcome:?} reads {read}"),
@@ -86,12 +112,14 @@ fn broken(seed: u64, kept: &Kept, at: usize, outcome: Outcome, same: bool) -> Br
     }
 }
 
-fn is_get(item: &Item, slot: usize) -> bool {
+/// Today's date, if the item is a get of the slot.
+fn get_of(item: &Item, aim: usize) -> Option<Date> {
     match item {
-        Item::Call(call) => {
-            matches!(call.request, Request::Get { .. }) && call.request.slot() == Some(slot)
-        }
-        _ => false,
+        Item::Call(call) => match call.request {
+            Request::Get { slot, today, .. } if slot == aim => Some(today),
+            _ => None,
+        },
+        _ => None,
     }
 }
 
@@ -102,9 +130,10 @@ pub fn kept(seed: u64) -> Kept {
     let part = parts::pick(&mut rng, 200);
     let slot = slot(&mut rng, part);
     let world = world(&mut rng, part);
-    let recipe = items::recipe(&mut rng, part, false);
+    let term = items::term(&mut rng, false);
+    let recipe = items::recipe(&mut rng, part, term.is_some(), false);
     let mut put = items::call(&mut rng, part);
-    put.request = Request::put(slot, 1 + rng.below(5), recipe.clone());
+    put.request = Request::put(slot, 1 + rng.below(5), term, recipe.clone());
     put.log_len = put.request.log_len();
     let mut items = vec![Item::Call(Box::new(put))];
     let mut ahead = world.clone();
@@ -114,7 +143,7 @@ pub fn kept(seed: u64) -> Kept {
     };
     for _ in 0..rng.below(longest) {
         let mut item = items::item(&mut rng, part);
-        aim(&mut rng, &mut item, slot);
+        aim(&mut rng, &mut item, slot, term);
         if !touches(&ahead, &item, part, slot) {
             ahead.run(&mut Model, &item);
             items.push(item);
@@ -126,10 +155,11 @@ pub fn kept(seed: u64) -> Kept {
         frame: vec![0xAB],
         reply_len: 1,
     });
-    items.push(last_get(&mut rng, part, slot));
+    items.push(last_get(&mut rng, part, slot, term));
     Kept {
         world,
         slot,
+        term,
         recipe,
         items,
     }
@@ -152,8 +182,8 @@ fn world(rng: &mut Rng, part: Part) -> World {
     World::new(record, array, rng.next_u64())
 }
 
-/// Turns calls to the slot half of the time.
-fn aim(rng: &mut Rng, item: &mut Item, aim: usize) {
+/// Turns calls to the slot half of the time, and gets to days around its term.
+fn aim(rng: &mut Rng, item: &mut Item, aim: usize, term: Option<Term>) {
     if let Item::Call(call) = item {
         if let Request::Put { slot, .. }
         | Request::Patch { slot, .. }
@@ -164,11 +194,25 @@ fn aim(rng: &mut Rng, item: &mut Item, aim: usize) {
                 *slot = aim;
             }
         }
+        if let Request::Get { today, .. } = &mut call.request {
+            if today.number().is_some() && !rng.one_in(4) {
+                *today = a_day(rng, term);
+            }
+        }
     }
 }
 
-fn last_get(rng: &mut Rng, part: Part, slot: usize) -> Item {
-    let request = Request::get(slot, 1, part.max_recipe());
+/// A day around a term, or any.
+fn a_day(rng: &mut Rng, term: Option<Term>) -> Date {
+    match term.and_then(Term::days) {
+        Some(days) => dates::around(rng, days),
+        None => dates::date(rng),
+    }
+}
+
+fn last_get(rng: &mut Rng, part: Part, slot: usize, term: Option<Term>) -> Item {
+    let today = a_day(rng, term);
+    let request = Request::get(slot, 1, today, part.max_recipe());
     Item::Call(Box::new(CallItem {
         log_len: request.log_len(),
         request,

@@ -3,16 +3,17 @@
 //! alike in registers and otherwise different.
 //!
 //! The outcomes are the same one by one (14.22): lines of the log, frames, polls
-//! and answer of a call, the answer of an event, with 0, 12 and 13 as one.
+//! and answer of a call, the answer of an event, with 0, 12, 13 and 15 as one.
 
 use at45db081d_model::record::{field, tag};
-use at45db081d_model::slot::store;
-use at45db081d_model::{Part, Record};
+use at45db081d_model::slot::{store, Head};
+use at45db081d_model::{Part, Record, Term};
 
 use super::item::{CallItem, Item, Junk};
 use super::items::{self, SLOTS};
 use super::world::{Outline, World};
 use super::Broken;
+use crate::dates;
 use crate::device::{Device, Model};
 use crate::parts;
 use crate::records::{self, OPERATIONS};
@@ -33,6 +34,8 @@ pub enum Without {
     JunkAlike,
     /// Whether 5 is met is free.
     SizeAlike,
+    /// Whether 14 is met is free.
+    DatesAlike,
 }
 
 /// Two chips and two lists.
@@ -49,9 +52,13 @@ pub struct Shown {
     pub parts: [u64; 4],
     pub frames: u64,
     /// Calls by kind and answer of the first run.
-    pub answers: [[u64; 14]; KINDS.len()],
-    /// Calls whose answers differ, both being one of 0, 12 and 13.
+    pub answers: [[u64; 16]; KINDS.len()],
+    /// Calls whose answers differ, both being one of 0, 12, 13 and 15.
     pub unlike_answers: u64,
+    /// Puts that are accepted, with a term in one run alone.
+    pub unlike_terms: u64,
+    /// Gets that send frames, on different days.
+    pub unlike_days: u64,
 }
 
 impl Shown {
@@ -59,10 +66,21 @@ impl Shown {
         self.answers.iter().flatten().sum()
     }
 
-    fn count(&mut self, item: &Item, first: &Outline, second: &Outline) {
-        if let Item::Call(call) = item {
+    fn count(&mut self, items: &[Item; 2], first: &Outline, second: &Outline) {
+        if let [Item::Call(call), Item::Call(other)] = items {
             let answer = usize::from(first.outcome.answer);
             self.answers[call.request.kind()][answer] += 1;
+            match (&call.request, &other.request) {
+                (Request::Put { term, .. }, Request::Put { term: another, .. }) => {
+                    let unlike = answer == 0 && term.is_some() != another.is_some();
+                    self.unlike_terms += u64::from(unlike);
+                }
+                (Request::Get { today, .. }, Request::Get { today: another, .. }) => {
+                    let unlike = first.outcome.frames > 0 && today != another;
+                    self.unlike_days += u64::from(unlike);
+                }
+                _ => {}
+            }
         }
         self.frames += first.outcome.frames;
         self.unlike_answers += u64::from(first.outcome.answer != second.outcome.answer);
@@ -89,7 +107,7 @@ pub fn check(
         if let Some(what) = difference(a, b) {
             return Err(broken(seed, &twins, i, what));
         }
-        shown.count(&twins.items[i][0], a, b);
+        shown.count(&twins.items[i], a, b);
     }
     shown.pairs += 1;
     parts::count(&mut shown.parts, twins.worlds[0].array.len());
@@ -99,7 +117,7 @@ pub fn check(
 /// How two outlines differ, if they may not.
 fn difference(a: &Outline, b: &Outline) -> Option<String> {
     let class = |answer: u8| match answer {
-        12 | 13 => 0,
+        12 | 13 | 15 => 0,
         answer => answer,
     };
     let (first, second) = (a.outcome, b.outcome);
@@ -165,13 +183,15 @@ fn record(rng: &mut Rng, part: Part) -> Record {
     record
 }
 
-/// Random bytes; some slots hold a recipe.
+/// Random bytes; some slots hold a recipe, with a term or without.
 fn array(rng: &mut Rng, part: Part, len: usize) -> Vec<u8> {
     let mut array = vec![0; len];
     rng.fill(&mut array);
     for slot in array.chunks_exact_mut(part.slot_size()).take(SLOTS) {
         if rng.one_in(2) {
-            store(slot, &items::recipe(rng, part, false));
+            let days = rng.one_in(2).then(|| dates::stored(rng));
+            let recipe = items::recipe(rng, part, days.is_some(), false);
+            store(slot, &recipe, days);
         }
     }
     array
@@ -190,9 +210,11 @@ fn item_pair(rng: &mut Rng, ahead: &mut World, part: Part, without: Without) -> 
     let answer = ahead.run(&mut Model, &first).outcome.answer;
     // Both meet 5 or neither does (14.19); neither if 1 to 4 come before it.
     let size_matters = !(1..=4).contains(&answer) && without != Without::SizeAlike;
+    // Likewise 14, which 5 comes before.
+    let dates_matter = !(1..=5).contains(&answer) && without != Without::DatesAlike;
     let mut second = first.clone();
     if let Item::Call(call) = &mut second {
-        change_request(rng, part, call, size_matters);
+        change_request(rng, part, call, size_matters, dates_matter);
     }
     if let Some(junk) = second.junk() {
         *junk = other_junk(rng, junk, reach);
@@ -200,27 +222,57 @@ fn item_pair(rng: &mut Rng, ahead: &mut World, part: Part, without: Without) -> 
     [first, second]
 }
 
-/// At times puts the recipe that the slot holds already.
+/// At times puts the recipe that the slot holds already, with its term if it has
+/// one of dates.
 fn put_again(rng: &mut Rng, part: Part, request: &mut Request, array: &[u8]) {
-    if let Request::Put { slot, recipe, .. } = request {
+    let call = request.with_lent(&mut []);
+    let fits = call.size_fits(part) && call.dates_fit();
+    if let Request::Put {
+        slot, term, recipe, ..
+    } = request
+    {
         let held = array.chunks_exact(part.slot_size()).nth(*slot);
-        if let Some(held) = held.filter(|held| held[0] == 1 && rng.one_in(3)) {
-            let len = usize::from(u16::from_be_bytes([held[1], held[2]]));
-            if len.max(recipe.len()) <= part.max_recipe() {
-                *recipe = held[3..3 + len].to_vec();
-            }
+        let head = held.and_then(|held| Head::read(part, held).ok());
+        if let Some((held, head)) = held.zip(head).filter(|_| fits && rng.one_in(3)) {
+            *term = match head.days.map(|days| days.map(dates::of)) {
+                None => None,
+                Some([Some(first), Some(last)]) if first_is_first(head) => {
+                    Some(Term::new(first, last))
+                }
+                Some(_) => return,
+            };
+            *recipe = held[head.body..][..head.len].to_vec();
         }
     }
 }
 
-/// Makes recipe or patch another one, its length too.
-fn change_request(rng: &mut Rng, part: Part, call: &mut CallItem, size_matters: bool) {
+fn first_is_first(head: Head) -> bool {
+    head.days.map_or(false, |[first, last]| first <= last)
+}
+
+/// Makes recipe or patch another one, its length too; term and today's date
+/// others, and whether there is a term.
+fn change_request(
+    rng: &mut Rng,
+    part: Part,
+    call: &mut CallItem,
+    size_matters: bool,
+    dates_matter: bool,
+) {
     let most = part.max_recipe();
     match &mut call.request {
-        Request::Put { recipe, .. } => {
-            let over = recipe.len() > most;
+        Request::Put { term, recipe, .. } => {
+            let over = recipe.len() > part.max_recipe_of(term.is_some());
             let over = if size_matters { over } else { rng.one_in(2) };
-            *recipe = items::recipe(rng, part, over);
+            let wrong = term.map_or(false, |term| term.days().is_none());
+            let wrong = if dates_matter { wrong } else { rng.one_in(2) };
+            *term = items::term(rng, wrong);
+            *recipe = items::recipe(rng, part, term.is_some(), over);
+        }
+        Request::Get { today, .. } => {
+            let wrong = today.number().is_none();
+            let wrong = if dates_matter { wrong } else { rng.one_in(2) };
+            *today = items::today(rng, wrong);
         }
         Request::Patch { place, bytes, .. } => {
             let over = place.saturating_add(bytes.len()) > most;

@@ -4,11 +4,12 @@
 //! driver over a [`wire`] that drops, changes or miscounts something.
 
 use at45db081d_model::record::{field, tag};
-use at45db081d_model::{answer, Call, Chip, Lent, Outcome, Part, Record};
+use at45db081d_model::{answer, Call, Chip, Date, Lent, Outcome, Part, Record};
 
 use crate::device::{Device, Model};
 
 mod pages;
+mod terms;
 mod wire;
 
 use wire::Wire;
@@ -116,6 +117,53 @@ pub enum Slip {
     PageSizeBitForgotten,
     /// Their recipes may have 2,109 bytes.
     LongerLimitKept,
+
+    /// 2100 is a leap year.
+    LeapYear2100,
+    /// Years before 2000 and after 2199 are taken.
+    YearsUntested,
+    /// Every month has 31 days.
+    LongMonths,
+    /// Years are taken modulo 65,536, months and days modulo 256.
+    NarrowNumbers,
+    /// A first day after the last is taken.
+    FirstAfterLastTaken,
+    /// 14 is not tested on a get of a record without a term.
+    DatesUntestedOnVersion1,
+    /// 14 before 5.
+    DatesBeforeSize,
+    /// 6 before 14.
+    LogBeforeDates,
+    /// Recipes without a term have the limit of those with one.
+    ShorterLimitForAll,
+    /// Recipes with a term have the limit of those without.
+    LongerLimitForTerms,
+    /// The first day is outside.
+    FirstDayExcluded,
+    /// The last day is outside.
+    LastDayExcluded,
+    /// 15 before 12.
+    TermBeforeBlank,
+    /// Every day is inside.
+    TermForgotten,
+    /// Days in a slot that no put writes make it hold no record.
+    StoredDaysTested,
+    /// Days are compared by two of their bytes.
+    DaysOfTwoBytes,
+    /// A patch looks at the term.
+    PatchLooksAtTerm,
+    /// A patch counts from behind the length, with a term too.
+    PatchCountsBehindLength,
+    /// Days are written and read with the low byte first.
+    DaysLittleEndian,
+    /// Get under 15 carries the length that it read.
+    GetTellsLengthUnder15,
+    /// Get under 15 changes the buffer.
+    GetFillsBufferUnder15,
+    /// Get outside the term reads no further page.
+    GetStopsOutsideTerm,
+    /// The log of a put with a term shows that there is one.
+    LogShowsTerm,
 }
 
 /// The slips of page sizes that the chip alone has; the last is the calls'.
@@ -127,7 +175,7 @@ pub const PAGE_SIZE_SLIPS: [Slip; 4] = [
 ];
 
 /// Every slip.
-pub const SLIPS: [Slip; 46] = [
+pub const SLIPS: [Slip; 69] = [
     Slip::SkipsPageAlreadyThere,
     Slip::SkipsPageOutsidePatch,
     Slip::GetStopsAtStoredLength,
@@ -174,6 +222,29 @@ pub const SLIPS: [Slip; 46] = [
     Slip::CutFillsBuffers,
     Slip::PageSizeBitForgotten,
     Slip::LongerLimitKept,
+    Slip::LeapYear2100,
+    Slip::YearsUntested,
+    Slip::LongMonths,
+    Slip::NarrowNumbers,
+    Slip::FirstAfterLastTaken,
+    Slip::DatesUntestedOnVersion1,
+    Slip::DatesBeforeSize,
+    Slip::LogBeforeDates,
+    Slip::ShorterLimitForAll,
+    Slip::LongerLimitForTerms,
+    Slip::FirstDayExcluded,
+    Slip::LastDayExcluded,
+    Slip::TermBeforeBlank,
+    Slip::TermForgotten,
+    Slip::StoredDaysTested,
+    Slip::DaysOfTwoBytes,
+    Slip::PatchLooksAtTerm,
+    Slip::PatchCountsBehindLength,
+    Slip::DaysLittleEndian,
+    Slip::GetTellsLengthUnder15,
+    Slip::GetFillsBufferUnder15,
+    Slip::GetStopsOutsideTerm,
+    Slip::LogShowsTerm,
 ];
 
 /// The model with one slip.
@@ -239,6 +310,7 @@ impl Device for Faulty {
     }
 
     fn call(&mut self, record: &mut Record, lent: Lent, call: Call) -> Outcome {
+        let call = terms::read(self.0, lent.array, call);
         if let Err(answer) = self.refuse(&Chip::from_record(record), &lent, &call) {
             if self.0 == Slip::RefusalClearsLog {
                 lent.log.fill(0);
@@ -254,8 +326,9 @@ impl Device for Faulty {
             Call::Get {
                 slot,
                 poll_limit,
+                today,
                 buffer,
-            } => self.get(wire, slot, poll_limit, buffer),
+            } => self.get(wire, slot, poll_limit, today, buffer),
             Call::Raw { frame, reply } => self.raw(wire, frame, reply),
             call => wire.run(call),
         }
@@ -263,20 +336,27 @@ impl Device for Faulty {
 }
 
 impl Faulty {
-    fn get(&self, wire: Wire, slot: usize, poll_limit: usize, buffer: &mut [u8]) -> Outcome {
+    fn get(
+        &self,
+        wire: Wire,
+        slot: usize,
+        poll_limit: usize,
+        today: Date,
+        buffer: &mut [u8],
+    ) -> Outcome {
         let mut read = buffer.to_vec();
         let outcome = wire.run(Call::Get {
             slot,
             poll_limit,
+            today,
             buffer: &mut read,
         });
         let n = outcome.n as usize;
-        if outcome.answer == answer::ACCEPTED {
-            match self.0 {
-                Slip::GetClearsBuffer => read[n..].fill(0),
-                Slip::GetLosesByte if n > 0 => read[n - 1] = buffer[n - 1],
-                _ => {}
-            }
+        match (self.0, outcome.answer) {
+            (Slip::GetClearsBuffer, answer::ACCEPTED) => read[n..].fill(0),
+            (Slip::GetLosesByte, answer::ACCEPTED) if n > 0 => read[n - 1] = buffer[n - 1],
+            (Slip::GetFillsBufferUnder15, answer::TERM) => read[0] ^= 0xFF,
+            _ => {}
         }
         buffer.copy_from_slice(&read);
         outcome
@@ -297,11 +377,13 @@ impl Faulty {
     /// The refusals, with two of them the other way round, one too many or one
     /// too few.
     fn refuse(&self, chip: &Chip, lent: &Lent, call: &Call) -> Result<(), u8> {
-        let right = call.refuse(chip, lent).map(|_| ());
-        let most = Part::from_array_len(lent.array.len()).map_or(0, Part::max_recipe);
+        let part = Part::from_array_len(lent.array.len());
+        let most = part.map_or(0, Part::max_recipe);
         let limit = call.target().map_or(1, |(_, limit)| limit);
         let log_fits = limit > 1000 || lent.log.len() >= 6 * call.most_frames();
         let script_fits = lent.script.iter().all(|&byte| byte <= 2);
+        let right = call.refuse(chip, lent).map(|_| ());
+        let right = terms::refuse(self.0, right, call, part, log_fits);
         match (self.0, right, call) {
             (Slip::LimitBeforeSlot, Err(answer::SLOT), _) if limit == 0 => Err(answer::LIMIT),
             (Slip::SizeBeforeLimit, Err(answer::LIMIT), Call::Put { recipe, .. })
@@ -345,7 +427,11 @@ impl Faulty {
                 wraps && end <= most
             }
             (Slip::RecipeLengthWraps, Err(answer::SIZE), Call::Put { recipe, .. }) => {
-                recipe.len() % 0x1_0000 <= most
+                recipe.len() % 0x1_0000 <= most && call.dates_fit()
+            }
+            (Slip::LongerLimitForTerms, Err(answer::SIZE), Call::Put { .. }) => {
+                let part = Part::from_array_len(lent.array.len());
+                part.map_or(false, |part| terms::fits_longer(self.0, part, call))
             }
             _ if pages::part_of_256(lent.array.len()).is_some() => {
                 return pages::refuse(self.0, right, call)
@@ -378,17 +464,23 @@ impl Faulty {
                 bytes: &bytes[..0],
             },
             (
-                Slip::RecipeLengthWraps | Slip::LongerLimitKept,
+                Slip::RecipeLengthWraps | Slip::LongerLimitKept | Slip::LongerLimitForTerms,
                 Call::Put {
                     slot,
                     poll_limit,
+                    term,
                     recipe,
                 },
-            ) => Call::Put {
-                slot,
-                poll_limit,
-                recipe: &recipe[..most.min(recipe.len() % 0x1_0000)],
-            },
+            ) => {
+                let most = part.max_recipe_of(term.is_some());
+                let recipe = &recipe[..most.min(recipe.len() % 0x1_0000)];
+                Call::Put {
+                    slot,
+                    poll_limit,
+                    term,
+                    recipe,
+                }
+            }
             (_, call) => call,
         }
     }

@@ -67,7 +67,7 @@ pub fn after_cut(slip: Slip, record: &mut Record, junk: &[u8]) {
 pub fn refuse(slip: Slip, right: Result<(), u8>, call: &Call) -> Result<(), u8> {
     match (slip, right, call) {
         (Slip::LongerLimitKept, Err(answer::SIZE), Call::Put { recipe, .. })
-            if recipe.len() <= LONGER =>
+            if recipe.len() <= LONGER && call.dates_fit() =>
         {
             Ok(())
         }

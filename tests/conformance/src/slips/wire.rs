@@ -3,10 +3,10 @@
 use at45db081d_model::calls::log_line;
 use at45db081d_model::driver::Link;
 use at45db081d_model::part::{sector_bits, sector_of};
-use at45db081d_model::slot::{judge_patch, stored_len, HEADER_SIZE};
+use at45db081d_model::slot::{judge_get, judge_patch, Head, HEADER_SIZE, TERM_HEADER_SIZE};
 use at45db081d_model::{answer, Call, Lent, Outcome, Part, Record};
 
-use super::{Faulty, Slip};
+use super::{terms, Faulty, Slip};
 use crate::device::Device;
 
 const LOAD: u8 = 0x84;
@@ -36,6 +36,9 @@ pub struct Wire<'a> {
     /// Where a patch begins, and the length of recipe or patch.
     place: usize,
     len: usize,
+    /// Whether a put has a term, and the day of a get.
+    has_term: bool,
+    today: u32,
     frames: usize,
     polls: u64,
     /// Pages loaded and pages read so far, and the first of each.
@@ -57,6 +60,11 @@ impl<'a> Wire<'a> {
         call: &Call,
     ) -> Wire<'a> {
         let (slot, poll_limit) = call.target().unwrap_or_default();
+        let (has_term, today) = match call {
+            Call::Put { term, .. } => (term.is_some(), None),
+            Call::Get { today, .. } => (false, today.number()),
+            _ => (false, None),
+        };
         let (kind, place, len) = match call {
             Call::Put { recipe, .. } => (Kind::Put, 0, recipe.len()),
             Call::Patch { place, bytes, .. } => (Kind::Patch, *place, bytes.len()),
@@ -74,6 +82,8 @@ impl<'a> Wire<'a> {
             poll_limit,
             place,
             len,
+            has_term,
+            today: today.unwrap_or(0),
             frames: 0,
             polls: 0,
             loads: 0,
@@ -92,9 +102,14 @@ impl<'a> Wire<'a> {
         if self.cut && !first_answers.contains(&result) {
             result = Err(answer::CUT);
         }
+        result = self.judged(result);
         let mut n = result.unwrap_or(0) as u64;
-        if self.slip == Slip::GetTellsLengthUnder12 && result == Err(answer::BLANK) {
-            n = u64::from(u16::from_be_bytes([self.first_read[1], self.first_read[2]]));
+        match (self.slip, self.kind, result) {
+            (Slip::GetTellsLengthUnder12, Kind::Get, Err(answer::BLANK))
+            | (Slip::GetTellsLengthUnder15, Kind::Get, Err(answer::TERM)) => {
+                n = u64::from(u16::from_be_bytes([self.first_read[1], self.first_read[2]]));
+            }
+            _ => {}
         }
         let answer = result.err().unwrap_or(answer::ACCEPTED);
         if self.slip == Slip::LogClearedBehind {
@@ -105,6 +120,17 @@ impl<'a> Wire<'a> {
             frames: self.frames_told(answer),
             polls: self.polls_told(),
             n,
+        }
+    }
+
+    /// The result with a verdict of the slip's on what was read.
+    fn judged(&self, result: Result<usize, u8>) -> Result<usize, u8> {
+        let (slip, part, bytes) = (self.slip, self.part, &self.first_read);
+        let at_end = !matches!(result, Err(8..=11));
+        match self.kind {
+            Kind::Get if at_end => terms::judge_get(slip, result, part, bytes, self.today),
+            Kind::Patch if at_end => terms::judge_patch(slip, result, part, bytes),
+            _ => result,
         }
     }
 
@@ -132,8 +158,14 @@ impl<'a> Wire<'a> {
 
     /// The bytes of the slot that a get has to read by its first page.
     fn used(&self) -> usize {
-        let n = stored_len(self.part, &self.first_read);
-        HEADER_SIZE + n.unwrap_or(self.part.slot_size())
+        let head = Head::read(self.part, &self.first_read);
+        head.map_or(self.part.slot_size(), |head| head.body + head.len)
+    }
+
+    /// Where a patch begins in the slot, by its first page.
+    fn patch_start(&self) -> usize {
+        let head = Head::read(self.part, &self.first_read);
+        head.map_or(HEADER_SIZE, |head| head.body) + self.place
     }
 
     /// Decides whether a frame is dropped; an error ends the call.
@@ -146,7 +178,7 @@ impl<'a> Wire<'a> {
                 }
             }
             (Slip::SkipsPageOutsidePatch, LOAD) if self.kind == Kind::Patch => {
-                let first = HEADER_SIZE + self.place;
+                let first = self.patch_start();
                 let page = self.part.page_range(self.loads as u16);
                 if first >= page.end || first + self.len <= page.start {
                     self.dropping = 3;
@@ -154,6 +186,12 @@ impl<'a> Wire<'a> {
             }
             (Slip::GetStopsAtStoredLength, READ) if self.kind == Kind::Get && self.reads > 0 => {
                 if self.reads * self.part.page_size >= self.used() {
+                    self.dropping = 1;
+                }
+            }
+            (Slip::GetStopsOutsideTerm, READ) if self.kind == Kind::Get && self.reads > 0 => {
+                let verdict = judge_get(self.part, &self.first_read, self.today);
+                if verdict == Err(answer::TERM) {
                     self.dropping = 1;
                 }
             }
@@ -189,12 +227,15 @@ impl<'a> Wire<'a> {
                 changed.copy_from_slice(&self.first_load);
             }
             (Slip::PatchWritesUnder13, LOAD, Kind::Patch) => {
-                let at = HEADER_SIZE + self.place;
+                let at = self.patch_start();
                 let late = judge_patch(self.part, &self.first_read, self.place + self.len);
                 let page_size = self.part.page_size;
                 if late == Err(answer::END) && at / page_size == self.loads {
                     changed[4 + at % page_size] ^= 0xFF;
                 }
+            }
+            (Slip::DaysLittleEndian, LOAD, Kind::Put) if self.has_term && self.loads == 0 => {
+                terms::turn_days(&mut changed[4..]);
             }
             _ => {}
         }
@@ -213,6 +254,11 @@ impl<'a> Wire<'a> {
                 reply[4 + byte] &= !bits;
             }
             (Slip::RegisterByteOff, PROTECTION | LOCKDOWN) => reply.copy_within(..16, 4),
+            (Slip::DaysLittleEndian, READ)
+                if self.kind == Kind::Get && self.reads == 1 && reply[8] == 2 =>
+            {
+                terms::turn_days(&mut reply[8..]);
+            }
             _ => {}
         }
     }
@@ -224,9 +270,16 @@ impl<'a> Wire<'a> {
         match (self.slip, frame[0], self.kind) {
             (Slip::LogPadsWithZeros, _, _) => line[padding..].fill(0),
             (Slip::LogKeepsPadding, _, _) => line[padding..].copy_from_slice(&target[padding..]),
+            (Slip::LogShowsTerm, LOAD, Kind::Put) if self.has_term && self.loads == 0 => {
+                line[5] = 1;
+            }
             (Slip::LogShowsRecipeLength, LOAD, Kind::Put) => {
                 let page_size = self.part.page_size;
-                let used = (HEADER_SIZE + self.len).saturating_sub(self.loads * page_size);
+                let head = match self.has_term {
+                    true => TERM_HEADER_SIZE,
+                    false => HEADER_SIZE,
+                };
+                let used = (head + self.len).saturating_sub(self.loads * page_size);
                 let len = 4 + used.min(page_size) as u16;
                 line[..2].copy_from_slice(&len.to_be_bytes());
             }

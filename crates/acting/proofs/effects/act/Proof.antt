@@ -10,7 +10,7 @@ use Rattle.acting.proofs.effects.act.Tie as tie
 
 returns : tie.Need-returns
 returns c = let a = (c .before .before .before .before .before .before .before .before .before .before .before .before .before .before .before .before .before .args) in
-    by-command (a .o) (a .bytes .now) (a .script .now) (a .junk .now) (a .log .now) (a .out .now) (a .block .now) (a .array .now) Put ((c .before .before .before .before .before .before .before .before .before .enum-told) .given .1) ((c .before .before .before .before .before .before .before .before .before .before .before .before .before .before .before .before .before .pre) .0) (λ s. call-took s ((c .before .before .before .before .slipknoll-put) .ensures))
+    by-command (a .o) (a .bytes .now) (a .script .now) (a .junk .now) (a .log .now) (a .out .now) (a .block .now) (a .array .now) Put ((c .before .before .before .before .before .before .before .before .before .enum-told) .given .1) ((c .before .before .before .before .before .before .before .before .before .before .before .before .before .before .before .before .before .pre) .0) (λ s. call-took s ((c .before .before .before .before .store) .ensures))
 
 returns-2 : tie.Need-returns-2
 returns-2 c = let a = (c .before .before .before .before .before .before .before .before .before .before .before .before .before .before .before .before .before .args) in

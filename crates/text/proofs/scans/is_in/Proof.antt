@@ -4,6 +4,7 @@ use mathlib.Core.Bool.{not}
 use Rattle.text.specs.declared.scans.Class.{Class}
 use Rattle.text.specs.Classes.{isIn}
 use Rattle.text.specs.Words.{notBlank}
+use Rattle.text.specs.Hyphens.{notHyphen}
 use borrow.Author.Needs.{needs}
 use Rattle.text.proofs.scans.is_in.Statement.{statement}
 use Rattle.text.proofs.scans.is_in.Tie as tie
@@ -21,6 +22,10 @@ returns-3 c = (c .is-digit .ensures) ∙ ap (λ (k : Class). isIn k ((c .before 
 returns-4 : tie.Need-returns-4
 returns-4 c = (c .is-hex-digit .ensures) ∙ ap (λ (k : Class). isIn k ((c .before .before .before .args .b))) (sym ((c .before .enum-told4 .given .1)))
 
+returns-5 : tie.Need-returns-5
+unfolding notHyphen
+returns-5 c = ap (λ (k : Class). isIn k (c .before .before .args .b)) (sym (c .enum-told5 .given .1))
+
 pub is-in-spec : {M : Type 1} → statement M
 is-in-spec =
     tie.close
@@ -33,7 +38,9 @@ is-in-spec =
     (λ c κs. search needs)
     (λ c. search needs)
     (λ c κs. search needs)
+    (λ c. search needs)
     returns
     returns-2
     returns-3
-    returns-4)
+    returns-4
+    returns-5)

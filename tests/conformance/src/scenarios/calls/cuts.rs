@@ -4,6 +4,7 @@ use at45db081d_model::record::tag;
 use at45db081d_model::Part;
 
 use super::{load, open_record, request, slot, store_head, GET, KINDS};
+use crate::dates;
 use crate::mismatch::Mismatch;
 use crate::pair::Pair;
 use crate::records::OPERATIONS;
@@ -46,7 +47,8 @@ fn run(pair: &mut Pair, case: u64) -> Result<(), Mismatch> {
     let register = digits.pick(&REGISTERS);
     let slot = slot(&mut rng, part);
     if rng.one_in(2) {
-        store_head(pair, slot, 1, 100)?;
+        let (version, days) = (rng.pick(&[1, 2]), dates::stored(&mut rng));
+        store_head(pair, slot, version, 100, days)?;
     }
     load(pair, open_record(&mut rng, part, operation))?;
     let mut script = beginning_of(&mut rng, beginning, index);

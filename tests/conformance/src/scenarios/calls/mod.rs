@@ -3,6 +3,7 @@
 use at45db081d_model::record::field;
 use at45db081d_model::{Part, Record};
 
+use crate::dates;
 use crate::mismatch::Mismatch;
 use crate::pair::Pair;
 use crate::records;
@@ -21,11 +22,14 @@ mod random_calls;
 mod raws;
 mod scripts;
 mod sealed;
+mod stored_terms;
+mod terms;
+mod wrong_dates;
 mod wrongs;
 
 /// Every scenario of calls, with the share of its cases that a full part gets:
 /// one in so many.
-pub const CALLS: [(Scenario, u64); 11] = [
+pub const CALLS: [(Scenario, u64); 14] = [
     (cuts::CUTS, 5),
     (polls::POLLS, 5),
     (bounds::BOUNDS, 4),
@@ -36,6 +40,9 @@ pub const CALLS: [(Scenario, u64); 11] = [
     (wrongs::WRONGS, 2),
     (scripts::SCRIPTS, 2),
     (raws::RAWS, 10),
+    (terms::TERMS, 4),
+    (stored_terms::STORED_TERMS, 8),
+    (wrong_dates::WRONG_DATES, 4),
     (random_calls::RANDOM_CALLS, 1),
 ];
 
@@ -59,13 +66,15 @@ pub fn open_record(rng: &mut Rng, part: Part, operation: (u8, u8)) -> Record {
     record
 }
 
-/// A call of some kind with random content; a patch is mostly a short one.
+/// A call of some kind with random content; a patch is mostly a short one, half of
+/// the puts have a term, and every date is one.
 pub fn request(rng: &mut Rng, part: Part, kind: usize, slot: usize, poll_limit: usize) -> Request {
     let most = part.max_recipe();
     match kind {
         PUT => {
-            let len = rng.below(most + 1);
-            Request::put(slot, poll_limit, random_bytes(rng, len))
+            let term = rng.one_in(2).then(|| dates::term(rng));
+            let len = rng.below(part.max_recipe_of(term.is_some()) + 1);
+            Request::put(slot, poll_limit, term, random_bytes(rng, len))
         }
         PATCH => {
             let place = rng.below(40);
@@ -73,7 +82,7 @@ pub fn request(rng: &mut Rng, part: Part, kind: usize, slot: usize, poll_limit: 
             let len = rng.below(longest);
             Request::patch(slot, poll_limit, place, random_bytes(rng, len))
         }
-        GET => Request::get(slot, poll_limit, most + rng.below(3)),
+        GET => Request::get(slot, poll_limit, dates::date(rng), most + rng.below(3)),
         WIPE => Request::wipe(slot, poll_limit),
         _ => Request::raw(random_frame(rng, part)),
     }
@@ -116,14 +125,30 @@ pub fn slot(rng: &mut Rng, part: Part) -> usize {
     rng.pick(&edge_slots(part))
 }
 
-/// The caller writes version and length at the beginning of a slot.
-pub fn store_head(pair: &mut Pair, slot: usize, version: u8, len: u16) -> Result<(), Mismatch> {
-    let [high, low] = len.to_be_bytes();
-    pair.step(Step::Store {
-        at: slot * pair.part.slot_size(),
-        bytes: vec![version, high, low],
-    })?;
+/// The caller writes version and length at the beginning of a slot, and behind a
+/// version other than 1 first and last day.
+pub fn store_head(
+    pair: &mut Pair,
+    slot: usize,
+    version: u8,
+    len: u16,
+    days: [u32; 2],
+) -> Result<(), Mismatch> {
+    let at = slot * pair.part.slot_size();
+    let bytes = head(version, len, days);
+    pair.step(Step::Store { at, bytes })?;
     Ok(())
+}
+
+/// The first bytes of a record of this version, whether or not there is one.
+pub fn head(version: u8, len: u16, [first, last]: [u32; 2]) -> Vec<u8> {
+    let mut bytes = vec![version];
+    bytes.extend(len.to_be_bytes());
+    if version != 1 {
+        bytes.extend(first.to_be_bytes());
+        bytes.extend(last.to_be_bytes());
+    }
+    bytes
 }
 
 /// Loads a record.

@@ -3,8 +3,8 @@
 //! up to the largest number.
 
 use at45db081d_model::record::tag;
-use at45db081d_model::slot::HEADER_SIZE;
-use at45db081d_model::Part;
+use at45db081d_model::slot::{HEADER_SIZE, TERM_HEADER_SIZE};
+use at45db081d_model::{Date, Part};
 
 use super::{load, open_record, random_bytes, slot, store_head};
 use crate::mismatch::Mismatch;
@@ -48,7 +48,11 @@ const FAR: [usize; 13] = [
 ];
 
 /// What the slot's head says: see `head`.
-const HEADS: usize = 8;
+const HEADS: usize = 14;
+
+/// Terms: the days that there are, and none.
+const TERMS: [[u32; 2]; 3] = [[0, 73_048], [u32::MAX, 0], [9_816, u32::MAX]];
+const TODAY: Date = Date::new(2026, 11, 16);
 
 const NEAR: usize = BOUNDARIES * OFFSETS;
 
@@ -62,33 +66,40 @@ fn run(pair: &mut Pair, case: u64) -> Result<(), Mismatch> {
     let (part, mut digits, mut rng) = (pair.part, Digits::new(case), Rng::new(case));
     let place = digits.below(NEAR + 4 + FAR.len());
     let len = digits.pick(&LENGTHS);
+    let which = digits.below(HEADS);
+    let body = match which {
+        8.. => TERM_HEADER_SIZE,
+        _ => HEADER_SIZE,
+    };
     let place = match place.checked_sub(NEAR) {
-        None => near(part, place),
+        None => near(part, place, body),
         Some(wrapped) if wrapped < 4 => wrapped.wrapping_sub(len),
         Some(far) => FAR[far - 4],
     };
     let slot = slot(&mut rng, part);
     let most = part.max_recipe();
-    let (version, stored) = head(digits.below(HEADS), most, place.saturating_add(len));
-    store_head(pair, slot, version, stored)?;
+    let (version, stored) = head(which, part, place.saturating_add(len));
+    store_head(pair, slot, version, stored, rng.pick(&TERMS))?;
     load(pair, open_record(&mut rng, part, (tag::IDLE, 0)))?;
     let bytes = random_bytes(&mut rng, len);
     let patch = Request::patch(slot, 1, place, bytes);
     pair.call(CallStep::new(part, patch))?;
-    pair.call(CallStep::new(part, Request::get(slot, 1, most)))?;
+    pair.call(CallStep::new(part, Request::get(slot, 1, TODAY, most)))?;
     Ok(())
 }
 
 /// A place whose slot offset is within 3 of a boundary, at the recipe's
 /// beginning if there is none.
-fn near(part: Part, index: usize) -> usize {
+fn near(part: Part, index: usize, body: usize) -> usize {
     let (boundary, offset) = (index / OFFSETS * part.page_size, index % OFFSETS);
-    (boundary + offset).saturating_sub(3 + HEADER_SIZE)
+    (boundary + offset).saturating_sub(3 + body)
 }
 
-/// Version and length of a slot, by the longest recipe and the end of the patch.
-fn head(index: usize, most: usize, end: usize) -> (u8, u16) {
-    let (most, end) = (most as u16, end.min(most) as u16);
+/// Version and length of a slot, by the longest recipes and the end of the patch.
+fn head(index: usize, part: Part, end: usize) -> (u8, u16) {
+    let plain = part.max_recipe() as u16;
+    let most = part.max_recipe_of(index >= 8) as u16;
+    let end = end.min(most.into()) as u16;
     match index {
         0 => (1, end),
         1 => (1, end.saturating_sub(1)),
@@ -96,7 +107,13 @@ fn head(index: usize, most: usize, end: usize) -> (u8, u16) {
         3 => (1, most),
         4 => (1, most + 1),
         5 => (0, end),
-        6 => (2, most),
-        _ => (1, 0xFFFF),
+        6 => (3, end),
+        7 => (1, 0xFFFF),
+        8 => (2, end),
+        9 => (2, end.saturating_sub(1)),
+        10 => (2, most),
+        11 => (2, most + 1),
+        12 => (2, plain),
+        _ => (2, 0xFFFF),
     }
 }

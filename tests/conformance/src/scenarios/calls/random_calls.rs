@@ -4,7 +4,8 @@
 use at45db081d_model::record::field;
 use at45db081d_model::Part;
 
-use super::{load, random_bytes, random_frame, request, slot, store_head, KINDS, PATCH};
+use super::{load, random_bytes, random_frame, request, slot, store_head, KINDS, PATCH, PUT};
+use crate::dates;
 use crate::mismatch::Mismatch;
 use crate::pair::Pair;
 use crate::parts;
@@ -52,7 +53,8 @@ fn run(pair: &mut Pair, seed: u64) -> Result<(), Mismatch> {
             92..=94 => {
                 let slot = slot(&mut rng, part);
                 let len = rng.below(part.max_recipe() + 1) as u16;
-                store_head(pair, slot, 1, len)?;
+                let (version, days) = (rng.pick(&[1, 2]), dates::stored(&mut rng));
+                store_head(pair, slot, version, len, days)?;
             }
             _ => {
                 let mut record = records::random(&mut rng);
@@ -79,6 +81,10 @@ fn call(rng: &mut Rng, part: Part) -> CallStep {
             let len = rng.below(part.max_recipe() + 2 - place);
             Request::patch(slot, limit, place, random_bytes(rng, len))
         }
+        _ if rng.one_in(40) => match kind {
+            PUT => Request::put(slot, limit, Some(dates::no_term(rng)), Vec::new()),
+            _ => Request::get(slot, limit, dates::no_date(rng), part.max_recipe()),
+        },
         _ => request(rng, part, kind, slot, limit),
     };
     let mut call = CallStep::new(part, request).with_junk(rng.next_u64(), rng.byte());

@@ -1,11 +1,13 @@
-//! What meets 1 to 7, alone and together: every set of wrong things for every
-//! call, for the order of refusals.
+//! What meets 1 to 7 and 14, alone and together: every set of wrong things for
+//! every call, for the order of refusals.
 
+use at45db081d_model::answer::is_refusal;
 use at45db081d_model::record::tag;
 use at45db081d_model::{Part, Record};
 
 use super::super::refusals::{array_len, ARRAY_LENGTHS};
 use super::{load, open_record, random_bytes, random_frame, slot, GET, KINDS, PATCH, PUT, WIPE};
+use crate::dates;
 use crate::mismatch::Mismatch;
 use crate::pair::Pair;
 use crate::parts;
@@ -22,26 +24,30 @@ pub const WRONGS: Scenario = Scenario {
 };
 
 /// Times that each set of wrong things is tried, in other ways.
-const TURNS: usize = 24;
+const TURNS: usize = 16;
+
+/// The refusals, in the order in which they are looked at.
+const ORDER: [usize; 8] = [1, 2, 3, 4, 5, 14, 6, 7];
 
 fn cases(_: Part) -> u64 {
-    (KINDS * 128 * TURNS) as u64
+    (KINDS * (1 << ORDER.len()) * TURNS) as u64
 }
 
-/// Which answers of 1 to 7 the call is to meet.
+/// Which of the refusals the call is to meet.
 #[derive(Clone, Copy)]
 struct Wrong(usize);
 
 impl Wrong {
     fn has(self, answer: usize) -> bool {
-        self.0 >> (answer - 1) & 1 == 1
+        let place = ORDER.iter().position(|&it| it == answer);
+        self.0 >> place.expect("a refusal") & 1 == 1
     }
 }
 
 fn run(pair: &mut Pair, case: u64) -> Result<(), Mismatch> {
     let (part, mut digits, mut rng) = (pair.part, Digits::new(case), Rng::new(case));
     let kind = digits.below(KINDS);
-    let wrong = Wrong(digits.below(128));
+    let wrong = Wrong(digits.below(1 << ORDER.len()));
     let operation = rng.pick(&OPERATIONS);
     let mut record = open_record(&mut rng, part, operation);
     let request = request(&mut rng, kind, wrong, part);
@@ -53,10 +59,10 @@ fn run(pair: &mut Pair, case: u64) -> Result<(), Mismatch> {
     set_script(&mut rng, &mut call, wrong.has(7), part);
     load(pair, record)?;
     let answer = pair.call(call)?.answer;
-    let first = (1..=7).find(|&n| wrong.has(n) && concerns(kind, n));
+    let first = (ORDER.into_iter()).find(|&n| wrong.has(n) && concerns(kind, n));
     match first {
         Some(first) => assert_eq!(usize::from(answer), first, "the first wrong thing"),
-        None => assert!(answer == 0 || answer >= 8, "nothing is wrong"),
+        None => assert!(!is_refusal(answer), "nothing is wrong"),
     }
     Ok(())
 }
@@ -64,8 +70,9 @@ fn run(pair: &mut Pair, case: u64) -> Result<(), Mismatch> {
 /// Which refusals concern a call.
 fn concerns(kind: usize, answer: usize) -> bool {
     match kind {
-        PUT | PATCH | GET => answer != 2,
-        WIPE => answer != 2 && answer != 5,
+        PUT | GET => answer != 2,
+        PATCH => answer != 2 && answer != 14,
+        WIPE => ![2, 5, 14].contains(&answer),
         _ => [1, 2, 6, 7].contains(&answer),
     }
 }
@@ -83,11 +90,16 @@ fn request(rng: &mut Rng, kind: usize, wrong: Wrong, part: Part) -> Request {
     let (size, most) = (wrong.has(5), part.max_recipe());
     match kind {
         PUT => {
+            let term = match wrong.has(14) {
+                true => Some(dates::no_term(rng)),
+                false => rng.one_in(2).then(|| dates::term(rng)),
+            };
+            let most = part.max_recipe_of(term.is_some());
             let len = rng.pick(&match size {
                 false => [0, 1, most - 1, most],
                 true => [most + 1, most + 2, 4000, 65_541],
             });
-            Request::put(slot, limit, random_bytes(rng, len))
+            Request::put(slot, limit, term, random_bytes(rng, len))
         }
         PATCH => {
             let (place, len) = rng.pick(&patches(most, size));
@@ -98,7 +110,11 @@ fn request(rng: &mut Rng, kind: usize, wrong: Wrong, part: Part) -> Request {
                 false => [most, most + 1, 2200],
                 true => [0, 1, most - 1],
             });
-            Request::get(slot, limit, buffer_len)
+            let today = match wrong.has(14) {
+                true => dates::no_date(rng),
+                false => dates::date(rng),
+            };
+            Request::get(slot, limit, today, buffer_len)
         }
         WIPE => Request::wipe(slot, limit),
         _ => raw(rng, part, wrong.has(2)),
