@@ -92,10 +92,10 @@ impl Subject for Library {
         let chip = &mut self.chip;
         let mut run = Run::new(log);
         let result = match work {
-            Work::Put => chip.put(array, slot, POLL_LIMIT, recipe, &mut run),
+            Work::Put => chip.put(array, slot, POLL_LIMIT, None, recipe, &mut run),
             Work::PutTerm => {
                 let recipe = &recipe[..*term_len];
-                chip.put_term_ymd(array, slot, POLL_LIMIT, FIRST, LAST, recipe, &mut run)
+                chip.put_ymd(array, slot, POLL_LIMIT, FIRST, LAST, recipe, &mut run)
             }
             Work::Patch => {
                 let bytes = &recipe[..PATCH_LEN];

@@ -68,7 +68,7 @@ fn keep_recipes(mut bench: Bench) -> Result<(), Box<dyn std::error::Error>> {
 
     let mut seen = Vec::new();
     for recipe in [&b"salt"[..], &vec![0x5A; part.recipe_max()]] {
-        let mut put = Driver::put(part, SLOT, POLL_LIMIT, recipe)?;
+        let mut put = Driver::put(part, SLOT, POLL_LIMIT, None, recipe)?;
         put.run(|frame, reply| bench.exchange(frame, reply))?;
         seen.push(std::mem::take(&mut bench.seen));
 
@@ -81,7 +81,7 @@ fn keep_recipes(mut bench: Bench) -> Result<(), Box<dyn std::error::Error>> {
 
     // For one season, which is over: the frames are the same.
     let season = Term::new(Date::new(2026, 5, 1)?, Date::new(2026, 10, 31)?)?;
-    let mut put = Driver::put_term(part, SLOT, POLL_LIMIT, season, b"pesto")?;
+    let mut put = Driver::put(part, SLOT, POLL_LIMIT, Some(season), b"pesto")?;
     put.run(|frame, reply| bench.exchange(frame, reply))?;
     seen.push(std::mem::take(&mut bench.seen));
     let mut get = Driver::get(part, SLOT, POLL_LIMIT, today)?;

@@ -108,33 +108,13 @@ impl Chip {
         accepted(ffi::cut(&mut self.record, array, junk))
     }
 
-    /// Stores a recipe in a slot, without a term.
+    /// Stores a recipe in a slot: without a term, or with the days on which it may
+    /// be read, and then at most
+    /// [`term_recipe_max`](crate::Part::term_recipe_max) bytes.
     ///
     /// Errors: all but `Frame`, `Blank`, `End`, `Dates` and `Term`. After `Chip`,
     /// `Busy`, `Sealed` and `Cut` pages of the slot may be old, new, or (`Cut`)
     /// junk.
-    pub fn put(
-        &mut self,
-        array: &mut [u8],
-        slot: usize,
-        poll_limit: usize,
-        recipe: &[u8],
-        run: &mut Run,
-    ) -> Result<(), Error> {
-        accepted(ffi::calls::put(
-            &mut self.record,
-            array,
-            slot,
-            poll_limit,
-            recipe,
-            run,
-        ))
-    }
-
-    /// Stores a recipe of at most [`term_recipe_max`](crate::Part::term_recipe_max)
-    /// bytes in a slot, to be read on the days of a term.
-    ///
-    /// Errors: those of [`put`](Chip::put).
     ///
     /// ```
     /// # use slipknoll::{log_len, Chip, Date, Error, Part, Run, Term, FACTORY_LEN};
@@ -142,8 +122,9 @@ impl Chip {
     /// # let mut chip = Chip::fresh(&[0; FACTORY_LEN], &mut array)?;
     /// # let mut log = [0; log_len::put(1)];
     /// # let mut run = Run::new(&mut log);
+    /// chip.put(&mut array, 2, 1, None, b"salt", &mut run)?; // for good
     /// let season = Term::new(Date::new(2027, 5, 1)?, Date::new(2027, 10, 31)?)?;
-    /// chip.put_term(&mut array, 3, 1, season, b"malt", &mut run)?;
+    /// chip.put(&mut array, 3, 1, Some(season), b"malt", &mut run)?;
     ///
     /// let mut buffer = [0; Part::Short.recipe_max()];
     /// let early = Date::new(2027, 4, 30)?;
@@ -153,24 +134,30 @@ impl Chip {
     /// assert_eq!(read, Ok(&b"malt"[..]));
     /// # Ok::<(), slipknoll::Error>(())
     /// ```
-    pub fn put_term(
+    pub fn put(
         &mut self,
         array: &mut [u8],
         slot: usize,
         poll_limit: usize,
-        term: Term,
+        term: Option<Term>,
         recipe: &[u8],
         run: &mut Run,
     ) -> Result<(), Error> {
-        let [first, last] = [term.first(), term.last()].map(Date::ymd);
-        self.put_term_ymd(array, slot, poll_limit, first, last, recipe, run)
+        let record = &mut self.record;
+        accepted(match term.map(Term::ymd) {
+            None => ffi::calls::put(record, array, slot, poll_limit, recipe, run),
+            Some([first, last]) => {
+                ffi::calls::put_term(record, array, slot, poll_limit, first, last, recipe, run)
+            }
+        })
     }
 
-    /// The same with days that may be any numbers: year, month and day of each.
+    /// The same with days that may be any numbers: year, month and day of the first
+    /// and of the last.
     ///
     /// Errors: those of [`put`](Chip::put), and `Dates`.
     #[allow(clippy::too_many_arguments)]
-    pub fn put_term_ymd(
+    pub fn put_ymd(
         &mut self,
         array: &mut [u8],
         slot: usize,
@@ -180,15 +167,9 @@ impl Chip {
         recipe: &[u8],
         run: &mut Run,
     ) -> Result<(), Error> {
+        let record = &mut self.record;
         accepted(ffi::calls::put_term(
-            &mut self.record,
-            array,
-            slot,
-            poll_limit,
-            first,
-            last,
-            recipe,
-            run,
+            record, array, slot, poll_limit, first, last, recipe, run,
         ))
     }
 
@@ -204,7 +185,7 @@ impl Chip {
     /// # let mut chip = Chip::fresh(&[0; FACTORY_LEN], &mut array)?;
     /// let mut log = [0; log_len::patch(1)];
     /// let mut run = Run::new(&mut log);
-    /// chip.put(&mut array, 3, 1, b"salt", &mut run)?;
+    /// chip.put(&mut array, 3, 1, None, b"salt", &mut run)?;
     /// chip.patch(&mut array, 3, 1, 0, b"m", &mut run)?;
     /// let beyond = chip.patch(&mut array, 3, 1, 3, b"ed", &mut run);
     /// assert_eq!((beyond, run.frames()), (Err(Error::End), 35));

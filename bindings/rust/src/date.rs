@@ -103,4 +103,9 @@ impl Term {
     pub fn last(self) -> Date {
         self.last
     }
+
+    /// Year, month and day of the first and of the last day.
+    pub fn ymd(self) -> [[u32; 3]; 2] {
+        [self.first.ymd(), self.last.ymd()]
+    }
 }

@@ -21,7 +21,7 @@ use crate::{Date, Error, Part, Term, DRIVER_FRAME_LEN, SLOT_ROOM};
 ///     chip.end_busy(&mut array)
 /// };
 ///
-/// Driver::put(Part::Full, 7, 100, b"AB")?.run(&mut exchange)?;
+/// Driver::put(Part::Full, 7, 100, None, b"AB")?.run(&mut exchange)?;
 ///
 /// let today = Date::new(2026, 11, 16)?;
 /// let mut get = Driver::get(Part::Full, 7, 100, today)?;
@@ -63,7 +63,8 @@ pub struct Driver<'a> {
 }
 
 impl<'a> Driver<'a> {
-    /// Starts to store a recipe in a slot, without a term.
+    /// Starts to store a recipe in a slot: without a term, or with the days on which
+    /// it may be read.
     ///
     /// Errors of every start: `Slot`, `Limit`, `Size`, and of those with `ymd` in
     /// their names `Dates`; nothing is to be sent.
@@ -71,27 +72,20 @@ impl<'a> Driver<'a> {
         part: Part,
         slot: usize,
         poll_limit: usize,
+        term: Option<Term>,
         recipe: &'a [u8],
     ) -> Result<Driver<'a>, Error> {
-        Driver::start(recipe, false, |state| {
-            driver::start_put(state, part.array_len(), slot, poll_limit, recipe)
-        })
+        match term.map(Term::ymd) {
+            None => Driver::start(recipe, false, |state| {
+                driver::start_put(state, part.array_len(), slot, poll_limit, recipe)
+            }),
+            Some([first, last]) => Driver::put_ymd(part, slot, poll_limit, first, last, recipe),
+        }
     }
 
-    /// Starts to store a recipe in a slot, to be read on the days of a term.
-    pub fn put_term(
-        part: Part,
-        slot: usize,
-        poll_limit: usize,
-        term: Term,
-        recipe: &'a [u8],
-    ) -> Result<Driver<'a>, Error> {
-        let [first, last] = [term.first(), term.last()].map(Date::ymd);
-        Driver::put_term_ymd(part, slot, poll_limit, first, last, recipe)
-    }
-
-    /// The same with days that may be any numbers: year, month and day of each.
-    pub fn put_term_ymd(
+    /// The same with days that may be any numbers: year, month and day of the first
+    /// and of the last.
+    pub fn put_ymd(
         part: Part,
         slot: usize,
         poll_limit: usize,

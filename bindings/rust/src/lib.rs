@@ -3,8 +3,8 @@
 //! * [`Chip`] is a chip that the program holds: its record of registers and
 //!   buffers. The flash array is the caller's and is lent to each call. Frames,
 //!   busy ends, pin moves and cuts reach it one by one, recipes by
-//!   [`put`](Chip::put), [`put_term`](Chip::put_term), [`patch`](Chip::patch),
-//!   [`get`](Chip::get) and [`wipe`](Chip::wipe).
+//!   [`put`](Chip::put), [`patch`](Chip::patch), [`get`](Chip::get) and
+//!   [`wipe`](Chip::wipe).
 //! * [`Driver`] makes the same calls on a chip elsewhere, say a real one behind
 //!   a radio link: it yields frames and is given the replies.
 //!
@@ -19,7 +19,7 @@
 //!
 //! let mut log = [0; log_len::put(1)];
 //! let mut run = Run::new(&mut log);
-//! chip.put(&mut array, 3, 1, b"AB", &mut run)?;
+//! chip.put(&mut array, 3, 1, None, b"AB", &mut run)?;
 //! assert_eq!((run.frames(), run.polls()), (27, 9));
 //!
 //! let (today, mut buffer) = (Date::new(2026, 11, 16)?, vec![0; part.recipe_max()]);
@@ -27,7 +27,8 @@
 //! # Ok::<(), slipknoll::Error>(())
 //! ```
 //!
-//! A recipe may have a [`Term`], the days on which a get reads it.
+//! A recipe may have a [`Term`], the days on which a get reads it; `None` is a
+//! recipe for good.
 //!
 //! What shows on the wire, the outlines of the frames, depends on nothing of
 //! the recipes and their terms; see `docs/THEOREMS.md` of the repository. [`ffi`] is the C

@@ -76,16 +76,10 @@ fn compare(bench: &Bench, term: Option<Term>, recipe: &[u8], place: usize, bytes
     let (mut driven, mut called) = (bench.clone(), bench.clone());
     let mut buffer = vec![0; part.recipe_max()];
 
-    let put = match term {
-        None => Driver::put(part, SLOT, POLL_LIMIT, recipe),
-        Some(term) => Driver::put_term(part, SLOT, POLL_LIMIT, term, recipe),
-    };
-    let put = driven.drive(put.expect("a put"));
+    let put = Driver::put(part, SLOT, POLL_LIMIT, term, recipe).expect("a put");
+    let put = driven.drive(put);
     let expected = called.call(|chip, array, run| {
-        match term {
-            None => chip.put(array, SLOT, POLL_LIMIT, recipe, run)?,
-            Some(term) => chip.put_term(array, SLOT, POLL_LIMIT, term, recipe, run)?,
-        }
+        chip.put(array, SLOT, POLL_LIMIT, term, recipe, run)?;
         Ok(Vec::new())
     });
     assert_eq!(put, expected);
@@ -154,8 +148,8 @@ fn terms_are_kept() {
     for part in Part::ALL {
         let mut bench = Bench::new(part);
         let (first, last) = (date(2096, 2, 29), date(2100, 3, 1));
-        let term = Term::new(first, last).expect("a term");
-        let put = Driver::put_term(part, SLOT, POLL_LIMIT, term, b"salt").expect("a put");
+        let term = Some(Term::new(first, last).expect("a term"));
+        let put = Driver::put(part, SLOT, POLL_LIMIT, term, b"salt").expect("a put");
         assert_eq!(bench.drive(put).0, Ok(()));
         // Days 35,123 (8933h) and 36,584 (8EE8h), by `date` of coreutils.
         let slot = &bench.array[SLOT * part.slot_len()..][..16];
@@ -200,10 +194,10 @@ fn refused_dates() {
         let get = Driver::get_ymd(part, 0, 1, bad);
         assert_eq!(get.err(), Some(Error::Dates));
         for [first, last] in [[bad, good], [good, bad]] {
-            let put = Driver::put_term_ymd(part, 0, 1, first, last, b"salt");
+            let put = Driver::put_ymd(part, 0, 1, first, last, b"salt");
             assert_eq!(put.err(), Some(Error::Dates));
             let called = bench.call(|chip, array, run| {
-                chip.put_term_ymd(array, 0, 1, first, last, b"salt", run)?;
+                chip.put_ymd(array, 0, 1, first, last, b"salt", run)?;
                 Ok(Vec::new())
             });
             assert_eq!(called.0, Err(Error::Dates));
@@ -221,9 +215,9 @@ fn refused_dates() {
     // The first after the last.
     let (first, last) = (date(2026, 11, 17), today());
     assert_eq!(Term::new(first, last), Err(Error::Dates));
-    let put = Driver::put_term_ymd(part, 0, 1, first.ymd(), last.ymd(), b"salt");
+    let put = Driver::put_ymd(part, 0, 1, first.ymd(), last.ymd(), b"salt");
     assert_eq!(put.err(), Some(Error::Dates));
-    assert!(Driver::put_term_ymd(part, 0, 1, last.ymd(), last.ymd(), b"salt").is_ok());
+    assert!(Driver::put_ymd(part, 0, 1, last.ymd(), last.ymd(), b"salt").is_ok());
     // Numbers of a date do what the date does.
     assert!(Driver::get_ymd(part, 0, 1, good).is_ok());
     assert_eq!(today().ymd(), good);
@@ -245,7 +239,7 @@ fn errors_on(part: Part) {
         sealed.exchange(&frame, &mut reply).expect("a frame");
     }
     compare(&sealed, None, b"salt", 0, b"m");
-    let put = Driver::put(part, SLOT, POLL_LIMIT, b"salt").expect("a put");
+    let put = Driver::put(part, SLOT, POLL_LIMIT, None, b"salt").expect("a put");
     assert_eq!(sealed.drive(put).0, Err(Error::Sealed));
     assert_eq!(sealed.outline.len(), 3);
 
@@ -285,7 +279,7 @@ fn busy() {
 /// The exchange's own error comes through, and the driver stands where it was.
 #[test]
 fn lost_link() {
-    let mut put = Driver::put(Part::Full, 0, 1, b"salt").expect("a put");
+    let mut put = Driver::put(Part::Full, 0, 1, None, b"salt").expect("a put");
     let result = put.run(|_, _| Err("no link"));
     assert_eq!(result, Err(DriveError::Link("no link")));
     assert_eq!(put.frame(), Some(&[0xD7, 0x00][..]));
@@ -304,17 +298,18 @@ fn refused_starts() {
         let get = Driver::get(part, 0, 1001, today());
         assert_eq!(error(get), Some(Error::Limit));
         let long = vec![0; most + 1];
-        assert_eq!(error(Driver::put(part, 0, 1, &long)), Some(Error::Size));
+        let put = Driver::put(part, 0, 1, None, &long);
+        assert_eq!(error(put), Some(Error::Size));
         let patch = Driver::patch(part, 0, 1, usize::MAX, &[1]);
         assert_eq!(error(patch), Some(Error::Size));
         let patch = Driver::patch(part, 0, 1, most, &[1]);
         assert_eq!(error(patch), Some(Error::Size));
-        assert_eq!(error(Driver::put(part, 0, 1, &long[1..])), None);
+        assert_eq!(error(Driver::put(part, 0, 1, None, &long[1..])), None);
         // Eight bytes less with a term.
-        let term = Term::new(today(), today()).expect("a term");
-        let put = Driver::put_term(part, 0, 1, term, &long[8..]);
+        let term = Some(Term::new(today(), today()).expect("a term"));
+        let put = Driver::put(part, 0, 1, term, &long[8..]);
         assert_eq!(error(put), Some(Error::Size));
-        let put = Driver::put_term(part, 0, 1, term, &long[9..]);
+        let put = Driver::put(part, 0, 1, term, &long[9..]);
         assert_eq!(error(put), None);
     }
 }

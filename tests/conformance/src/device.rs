@@ -97,7 +97,7 @@ impl Device for Library {
                 poll_limit,
                 term: None,
                 recipe,
-            } => number(chip.put(array, slot, poll_limit, recipe, &mut run)),
+            } => number(chip.put(array, slot, poll_limit, None, recipe, &mut run)),
             Call::Put {
                 slot,
                 poll_limit,
@@ -105,7 +105,7 @@ impl Device for Library {
                 recipe,
             } => {
                 let (first, last) = (ymd(first), ymd(last));
-                number(chip.put_term_ymd(array, slot, poll_limit, first, last, recipe, &mut run))
+                number(chip.put_ymd(array, slot, poll_limit, first, last, recipe, &mut run))
             }
             Call::Patch {
                 slot,

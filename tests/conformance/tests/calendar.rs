@@ -106,7 +106,7 @@ impl Bench {
         let (array, mut log) = (&mut self.array, [0; log_len::put(1)]);
         let mut run = Run::new(&mut log);
         array[..11].fill(0x77);
-        let put = (self.chip).put_term_ymd(array, 0, 1, ymd, ymd, b"salt", &mut run);
+        let put = (self.chip).put_ymd(array, 0, 1, ymd, ymd, b"salt", &mut run);
         let mut buffer = [0; Part::Short.recipe_max()];
         let get = self.chip.get_ymd(array, 0, 1, ymd, &mut buffer, &mut run);
         if put == Err(Error::Dates) {

@@ -65,10 +65,7 @@ impl Device for Library {
     ) -> Result<(), Error> {
         let mut log = [0; log_len::put(POLL_LIMIT)];
         let mut run = Run::new(&mut log);
-        match term {
-            None => chip.put(array, slot, POLL_LIMIT, recipe, &mut run),
-            Some(term) => chip.put_term(array, slot, POLL_LIMIT, term, recipe, &mut run),
-        }
+        chip.put(array, slot, POLL_LIMIT, term, recipe, &mut run)
     }
 
     fn get(
