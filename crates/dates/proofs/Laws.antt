@@ -7,7 +7,7 @@ use mathlib.Core.Bool.{Bool, true, false, cond, not, _&&_, _||_, false≢true}
 use mathlib.Core.Logic.{_⊎_, inl, inr, ⊎-elim}
 use mathlib.Core.Path.{_≡_, refl, sym, ap, subst, _∙_}
 use lib.Dec.{eqb, ltb, leb}
-use borrow.Author.Tests.{ltb-true, ltb-false, leb-true, eqb-true, eqb-false, lt-ltb, le-ltb, le-leb, eq-eqb, ne-eqb}
+use borrow.Author.Tests.{ltb-true, ltb-false, leb-true, eqb-true, eqb-false, lt-ltb, le-ltb, le-leb, lt-leb, eq-eqb, ne-eqb}
 use Rattle.dates.specs.declared.Date.{Date}
 use Rattle.dates.specs.Calendar.{isLeap, daysInYear, daysInMonth, isDate, daysOfYears, daysOfMonths, dayNumber, date, nextDate, isBefore}
 
@@ -23,7 +23,7 @@ pub record Exists (d : Date) : Type 0 where
   pub day-to : d .day ≤ daysInMonth (isLeap (d .year)) (d .month)
 
 -- both of two tests that pass together pass
-both : (a b : Bool) → a && b ≡ true → (a ≡ true) × (b ≡ true)
+pub both : (a b : Bool) → a && b ≡ true → (a ≡ true) × (b ≡ true)
 both true true h = (refl, refl)
 both true false h = absurd (false≢true h)
 both false b h = absurd (false≢true h)
@@ -417,6 +417,14 @@ order d e t u =
     (λ p. subst (λ (x : Date). isBefore d x ≡ ltb (dayNumber d) (dayNumber x)) p
     (not-itself d ∙ sym (le-ltb (dayNumber d) (dayNumber d) (omega arith)))))
     (compared d e)
+
+-- .. so a number is not over another exactly if the other's date is not before
+pub not-before : (d e : Date) → isDate d ≡ true → isDate e ≡ true → leb (dayNumber d) (dayNumber e) ≡ not (isBefore e d)
+not-before d e t u = go (isBefore e d) refl
+  where
+    go : (b : Bool) → isBefore e d ≡ b → leb (dayNumber d) (dayNumber e) ≡ not b
+    go true h = lt-leb (dayNumber d) (dayNumber e) (ltb-true (dayNumber e) (dayNumber d) (sym (order e d u t) ∙ h))
+    go false h = le-leb (dayNumber d) (dayNumber e) (ltb-false (dayNumber e) (dayNumber d) (sym (order e d u t) ∙ h))
 
 -- dates with one number are one date
 pub one-number : (d e : Date) → isDate d ≡ true → isDate e ≡ true → dayNumber d ≡ dayNumber e → d ≡ e

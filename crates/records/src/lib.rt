@@ -2,7 +2,7 @@
 // Internal to this repository: a caller here meets each `requires`; no entry point is in this crate.
 ghost use mathlib.Core.Path.{_≡_};
 ghost use Prim.Native.Nat.{ℕ, _+_, _≤_, _<_};
-ghost use mathlib.Core.Bool.{_||_};
+ghost use mathlib.Core.Bool.{cond, _||_};
 ghost use mathlib.Core.List.{List};
 ghost use lib.ListN.{length};
 ghost use lib.Dec.{eqb, ltb};
@@ -139,19 +139,27 @@ pub fn is_record(g: Geometry, bytes: &[u8]) -> bool
 
 // ---- verdicts
 
+// The verdict of the first of two tests that fails; Good where both pass.
+fn first_failed(a: bool, one: Verdict, b: bool, two: Verdict) -> Verdict
+    ensures { λ r. ⌜ r ≡ cond a (cond b Verdict.Good two) one ⌝ }
+{
+    if !a {
+        return one;
+    }
+    if !b {
+        return two;
+    }
+    Verdict::Good
+}
+
 // 12, then 15.
 fn judge_get(g: Geometry, today: usize, bytes: &[u8]) -> Verdict
     requires { ⌜ Pages g ⌝ }
     ensures { λ r. ⌜ r ≡ getVerdict g today (now (bytes .entry)) ⌝ }
 {
-    if !is_record(g, bytes) {
-        return Verdict::Blank;
-    }
-    let period = period_in(bytes);
-    if is_within(period, today) {
-        return Verdict::Good;
-    }
-    Verdict::Outside
+    let record = is_record(g, bytes);
+    let inside = is_within(period_in(bytes), today);
+    first_failed(record, Verdict::Blank, inside, Verdict::Outside)
 }
 
 // 12, then 13.
@@ -159,13 +167,9 @@ fn judge_patch(g: Geometry, place: usize, count: usize, bytes: &[u8]) -> Verdict
     requires { ⌜ Pages g ⌝ }
     ensures { λ r. ⌜ r ≡ patchVerdict g (place + count) (now (bytes .entry)) ⌝ }
 {
-    if !is_record(g, bytes) {
-        return Verdict::Blank;
-    }
-    if ends_beyond(record_length(bytes), place, count) {
-        return Verdict::Beyond;
-    }
-    Verdict::Good
+    let record = is_record(g, bytes);
+    let fits = !ends_beyond(record_length(bytes), place, count);
+    first_failed(record, Verdict::Blank, fits, Verdict::Beyond)
 }
 
 // The verdict on the bytes of a slot's first page.

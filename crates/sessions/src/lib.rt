@@ -51,7 +51,9 @@ fn take_first(
     requires { ⌜ (Sound g d) × (x ≡ stepIn g d) × (length (now staged) ≡ slotRoom) × (n ≤ length (now reply)) ⌝ }
     ensures { λ r. ⌜ (r ≡ tookOn g d (now (payload .entry)) (now (staged .entry)) (take n (now (reply .entry)))) × (now (staged .exit) ≡ dataAfter g d (now (payload .entry)) (now (staged .entry)) (take n (now (reply .entry))) .staged) ⌝ }
 {
-    turns::take_step(g, d, x, payload, &reply[..n], staged)
+    let course = turns::take_course(g, d, x, &reply[..n]);
+    let verdict = turns::take_data(g, d, x, payload, &reply[..n], staged);
+    turns::with(d, verdict, course)
 }
 
 // One frame sent and logged, its script byte acted on, its reply taken in. `frame` and `reply` are room for the two.

@@ -19,6 +19,7 @@ pub mod Track
 pub mod Stores
 pub mod Written
 pub mod Image
+pub mod Terms
 pub mod Gets
 pub mod ReadBack
 pub mod Elsewhere

@@ -25,8 +25,8 @@ use Rattle.state.specs.Memory.{State}
 use Rattle.state.specs.Outcomes.{Left, partIn, sendOutcome, endOutcome, pinOutcome, cutOutcome}
 use Rattle.slots.specs.Calls.{Out, Request, Secret, refused, callOut, callNext, rawOut, rawNext}
 
--- (11.14) a call or an event, with all that it is given. Of a call by a plan: `detail` is a patch's place, a put's term, a get's date, `payload` the recipe or the patch, `lent` the get
--- buffer; what does not concern the call is not looked at
+-- (11.14) a call or an event, with all that it is given. Of a call by a plan: `detail` is a patch's place, a put's term, a get's date, `payload` the recipe
+-- or the patch, `lent` the get buffer; what does not concern the call is not looked at
 pub data Op : Type 0 where
   call : (asked : Asked) (detail : Detail) (script payload junk log lent : List ℕ) → Op
   raw : (frame script junk log reply : List ℕ) → Op

@@ -8,12 +8,13 @@ ghost use lib.ListN.{length, replicate};
 ghost use Rattle.geometry.specs.Parts.{slotRoom};
 ghost use Rattle.slices.specs.Lists.{over};
 ghost use Rattle.slots.specs.Plans.{isWait};
-ghost use Rattle.slots.specs.Driver.{opcodeOf, shapeOf, frameOf, takenBy, frameRoom};
-ghost use Rattle.records.specs.Held.{held, Pages};
+ghost use Rattle.slots.specs.Driver.{opcodeOf, shapeOf, frameOf, frameRoom};
+ghost use Rattle.records.specs.Held.{Pages};
 ghost use Rattle.steps.specs.Places.{pageBy};
-ghost use Rattle.worlds.specs.Turns.{holdingOf, stepIn, Sound, dataAfter, tookOn};
+ghost use Rattle.worlds.specs.Turns.{holdingOf, with, stepIn, Sound, dataAfter, courseAfter, tookOn};
 use geometry::Geometry;
 use slots::Command;
+use slots::Course;
 use slots::Driver;
 use slots::Step;
 use slots::Verdict;
@@ -131,8 +132,20 @@ pub fn poll_count(x: Step) -> usize
 
 // ---- replies
 
+// The control state after a step's reply.
+pub fn take_course(g: Geometry, d: Driver, x: Step, reply: &[u8]) -> Course
+    requires { ⌜ (Sound g d) × (x ≡ stepIn g d) ⌝ }
+    ensures { λ r. ⌜ r ≡ courseAfter g d (now (reply .entry)) ⌝ }
+{
+    let k = d.kind;
+    let c = d.course;
+    let sector = geometry::sector_of(g, 8 * d.slot);
+    let last = steps::is_last(k, c.place);
+    courses::take_course(c, x, last, d.limit, sector, reply)
+}
+
 // The verdict after a step's reply, and the bytes read.
-fn take_data(
+pub fn take_data(
     g: Geometry,
     d: Driver,
     x: Step,
@@ -140,8 +153,8 @@ fn take_data(
     reply: &[u8],
     staged: &mut [u8],
 ) -> Verdict
-    requires { ⌜ (Pages g) × (length (now staged) ≡ slotRoom) ⌝ }
-    ensures { λ r. ⌜ held r (d .aim) (now (payload .entry)) (now (staged .exit)) ≡ takenBy x g (d .kind) (holdingOf d (now (payload .entry)) (now (staged .entry))) (now (reply .entry)) ⌝ }
+    requires { ⌜ (Sound g d) × (x ≡ stepIn g d) × (length (now staged) ≡ slotRoom) ⌝ }
+    ensures { λ r. ⌜ (r ≡ dataAfter g d (now (payload .entry)) (now (staged .entry)) (now (reply .entry)) .verdict) × (now (staged .exit) ≡ dataAfter g d (now (payload .entry)) (now (staged .entry)) (now (reply .entry)) .staged) ⌝ }
 {
     let k = d.kind;
     let v = d.verdict;
@@ -150,6 +163,23 @@ fn take_data(
         return page_data::read_page(g, k, v, aim, p, payload, reply, staged);
     }
     v
+}
+
+// The state with another verdict and control state.
+pub fn with(d: Driver, verdict: Verdict, course: Course) -> Driver
+    ensures { λ r. ⌜ r ≡ with d verdict course ⌝ }
+{
+    let k = d.kind;
+    let aim = d.aim;
+    Driver {
+        array: d.array,
+        slot: d.slot,
+        limit: d.limit,
+        aim: aim,
+        kind: k,
+        verdict: verdict,
+        course: course,
+    }
 }
 
 // The state after a step's reply, and the bytes read.
@@ -164,20 +194,7 @@ pub fn take_step(
     requires { ⌜ (Sound g d) × (x ≡ stepIn g d) × (length (now staged) ≡ slotRoom) ⌝ }
     ensures { λ r. ⌜ (r ≡ tookOn g d (now (payload .entry)) (now (staged .entry)) (now (reply .entry))) × (now (staged .exit) ≡ dataAfter g d (now (payload .entry)) (now (staged .entry)) (now (reply .entry)) .staged) ⌝ }
 {
-    let k = d.kind;
-    let aim = d.aim;
-    let c = d.course;
-    let sector = geometry::sector_of(g, 8 * d.slot);
-    let last = steps::is_last(k, c.place);
-    let course = courses::take_course(c, x, last, d.limit, sector, reply);
+    let course = take_course(g, d, x, reply);
     let verdict = take_data(g, d, x, payload, reply, staged);
-    Driver {
-        array: d.array,
-        slot: d.slot,
-        limit: d.limit,
-        aim: aim,
-        kind: k,
-        verdict: verdict,
-        course: course,
-    }
+    with(d, verdict, course)
 }

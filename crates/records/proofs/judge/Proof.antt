@@ -11,11 +11,11 @@ returns c v staged = rw (c .enum-told .given .1)
 
 returns-2 : tie.Need-returns-2
 unfolding judged
-returns-2 c v staged = rw (c .before .enum-told2 .given .1) (c .judge-patch .ensures)
+returns-2 c v staged = rw (c .before .enum-told2 .given .1) (search needs)
 
 returns-3 : tie.Need-returns-3
 unfolding judged
-returns-3 c v staged = rw (c .before .enum-told3 .given .1) (c .judge-get .ensures)
+returns-3 c v staged = rw (c .before .enum-told3 .given .1) (search needs)
 
 returns-4 : tie.Need-returns-4
 unfolding judged
