@@ -68,7 +68,7 @@ fn low_byte(n: usize) -> u8
     (n % 256) as u8
 }
 
-// The head of a recipe of n bytes, and zeros up to the longest head.
+// The head of a recipe of n bytes, at the beginning of the room for the longest head.
 fn head_bytes(period: Period, n: usize) -> [u8; 11]
     ensures { λ r. ⌜ take (headSize (versionOf period)) r ≡ headOf period n ⌝ }
 {
