@@ -38,7 +38,7 @@ daysOfMonths leap (suc n) = daysOfMonths leap n + daysInMonth leap (suc n)
 unfoldable pub dayNumber : Date → ℕ
 dayNumber d = daysOfYears (d .year - 2000) + daysOfMonths (isLeap (d .year)) (d .month - 1) + (d .day - 1)
 
--- Aid: 0 where there is no such date
+-- (12.18) the day number that a call goes by: 0 for a date that does not exist
 unfoldable pub dayOf : Date → ℕ
 dayOf d = cond (isDate d) (dayNumber d) 0
 

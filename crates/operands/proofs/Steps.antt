@@ -5,10 +5,10 @@ use mathlib.Core.Bool.{Bool, true, false, cond}
 use mathlib.Core.List.{List}
 use Prim.Native.Nat.{ℕ}
 use borrow.Author.Tests.{ne-eqb, eq-eqb}
-use Rattle.words.specs.Words.{wordFrom, partOf}
+use Rattle.words.specs.Words.{wordFrom, partOf, nowhere}
 use Rattle.operands.specs.Operands.{firstOf, takesPlace, takesBytes}
 use Rattle.word_values.specs.Values.{decimalOf, numberAs, testHex}
-use Rattle.operands.specs.Operands.{nowhere, withNumberTo, numberIn, isNothing, takeFirst, withPlaceTo, placeIn, takePlace, withBytesTo, bytesIn, takeBytes, thenPlace, thenBytes, operandsOf}
+use Rattle.operands.specs.Operands.{withNumberTo, numberIn, isNothing, takeFirst, withPlaceTo, placeIn, takePlace, withBytesTo, bytesIn, takeBytes, thenPlace, thenBytes, operandsOf}
 use Rattle.words.specs.declared.Command.{Command}
 use Rattle.words.specs.declared.Span.{Span}
 use Rattle.faults.specs.declared.Name.the-variants as Name

@@ -4,7 +4,7 @@ use Prim.Native.Nat.{ℕ}
 use mathlib.Core.Bool.{Bool, true, false, cond}
 use mathlib.Core.List.{List}
 use lib.Dec.{eqb}
-use Rattle.words.specs.Words.{wordFrom, partOf}
+use Rattle.words.specs.Words.{wordFrom, partOf, nowhere}
 use Rattle.words.specs.declared.Command.{Command}
 use Rattle.words.specs.declared.Command.the-variants as Command
 use Rattle.words.specs.declared.Span.{Span}
@@ -66,10 +66,6 @@ takesBytes Command.Part = false
 takesBytes Command.Sum = false
 
 -- ---- the words in their places
-
--- an empty part of the line
-abbrev pub nowhere : Span
-nowhere = record { start = 0; end = 0 }
 
 -- the operands with the number, read up to index at
 abbrev pub withNumberTo : ℕ → Numbered → Step

@@ -15,7 +15,8 @@ use Rattle.text.specs.Decimal.{numberOf}
 use Rattle.words.specs.Words.{wordFrom, partOf, isCall, keyOf}
 use Rattle.word_values.specs.Values.{testHex}
 use Rattle.word_values.specs.Days.{dateOf}
-use Rattle.options.specs.Options.{isGiven, isScript, isDay, roomOf, withNumber, numberTaken, dateTaken, scriptTaken, takeValue, keyTaken, takeOption, takeWord, takeWords, wordsOf, bothOrNone, paired, optionsOf}
+use Rattle.options.specs.Options.{numberTaken, dateTaken, scriptTaken, takeValue, keyTaken, takeOption, takeWord, takeWords, wordsOf, bothOrNone, paired, optionsOf}
+use Rattle.settings.specs.Settings.{isGiven, isScript, isDay, roomOf, withNumber}
 use Rattle.words.specs.Bounds.{Within, SoundKeyed}
 use Rattle.options.specs.Bounds.{SoundSettings, SoundChoice}
 use Rattle.words.specs.declared.Command.{Command}
@@ -31,7 +32,7 @@ use Rattle.word_values.specs.declared.Tested.{Tested}
 use Rattle.word_values.specs.declared.Tested.the-variants as Tested
 use Rattle.word_values.specs.declared.Dated.{Dated}
 use Rattle.word_values.specs.declared.Dated.the-variants as Dated
-use Rattle.options.specs.declared.Settings.{Settings}
+use Rattle.settings.specs.declared.Settings.{Settings}
 use Rattle.options.specs.declared.Choice.{Choice}
 use Rattle.options.specs.declared.Choice.the-variants as Choice
 use Rattle.words.proofs.Spans.{word-within, key-within}

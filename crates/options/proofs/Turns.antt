@@ -10,11 +10,12 @@ use lib.ListN.{length}
 use lib.Dec.{ltb}
 use borrow.Author.Tests.{ltb-true, ltb-false, lt-ltb, le-ltb}
 use Rattle.words.specs.Words.{wordFrom}
-use Rattle.options.specs.Options.{takeWord, takeWords, wordsOf, unsetOf}
+use Rattle.options.specs.Options.{takeWord, takeWords, wordsOf}
+use Rattle.settings.specs.Settings.{unsetOf}
 use Rattle.words.specs.Bounds.{Within}
 use Rattle.words.specs.declared.Command.{Command}
 use Rattle.words.specs.declared.Span.{Span}
-use Rattle.options.specs.declared.Settings.{Settings}
+use Rattle.settings.specs.declared.Settings.{Settings}
 use Rattle.options.specs.declared.Choice.{Choice}
 use Rattle.options.specs.declared.Choice.the-variants as Choice
 use Rattle.words.proofs.Spans.{word-within, word-on}

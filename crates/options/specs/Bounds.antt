@@ -2,7 +2,7 @@
 -- Assumes nothing.
 use Prim.Native.Nat.{ℕ, _≤_}
 use Rattle.words.specs.Bounds.{Within}
-use Rattle.options.specs.declared.Settings.{Settings}
+use Rattle.settings.specs.declared.Settings.{Settings}
 use Rattle.options.specs.declared.Choice.{Choice}
 use Rattle.options.specs.declared.Choice.the-variants as Choice
 

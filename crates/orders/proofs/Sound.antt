@@ -30,8 +30,8 @@ use Rattle.words.specs.declared.Chosen.the-variants as Chosen
 use Rattle.operands.specs.declared.Taken.{Taken}
 use Rattle.operands.specs.declared.Step.{Step}
 use Rattle.operands.specs.declared.Step.the-variants as Step
-use Rattle.options.specs.declared.Setting.{Setting}
-use Rattle.options.specs.declared.Settings.{Settings}
+use Rattle.settings.specs.declared.Setting.{Setting}
+use Rattle.settings.specs.declared.Settings.{Settings}
 use Rattle.options.specs.declared.Choice.{Choice}
 use Rattle.options.specs.declared.Choice.the-variants as Choice
 use Rattle.operands.proofs.Sound.{operands-sound}

@@ -10,10 +10,10 @@ use Rattle.orders.specs.declared.Lent.{Lent}
 use Rattle.orders.specs.declared.Lent.the-variants as Lent
 use Rattle.orders.specs.declared.Order.{Order}
 use Rattle.operands.specs.declared.Taken.{Taken}
-use Rattle.options.specs.declared.Setting.{Setting}
-use Rattle.options.specs.declared.DateSetting.{DateSetting}
-use Rattle.options.specs.declared.Days.{Days}
-use Rattle.options.specs.declared.Settings.{Settings}
+use Rattle.settings.specs.declared.Setting.{Setting}
+use Rattle.settings.specs.declared.DateSetting.{DateSetting}
+use Rattle.settings.specs.declared.Days.{Days}
+use Rattle.settings.specs.declared.Settings.{Settings}
 
 -- an option's value, or its default
 abbrev pub valueOr : Setting → ℕ → ℕ

@@ -27,6 +27,6 @@ pub inside : (first last today : Date) → isTerm (Between first last) ≡ true 
     → isWithin (periodOf (Between first last)) (dayOf today) ≡ (not (isBefore today first) && not (isBefore last today))
 unfolding isTerm periodOf isWithin
 inside first last today h t =
-    let dates = both (isDate first && isDate last) (leb (dayOf first) (dayOf last)) h .0 in
+    let dates = both (isDate first && isDate last) (leb (dayNumber first) (dayNumber last)) h .0 in
     let each = both (isDate first) (isDate last) dates in
     (λ i. ordered first today (each .0) t i && ordered today last t (each .1) i)

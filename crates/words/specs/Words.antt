@@ -27,6 +27,10 @@ wordFrom xs at = record { start = scan isBlank xs at; end = scan notBlank xs (sc
 abbrev pub partOf : List ℕ → Span → List ℕ
 partOf xs w = take (w .end - w .start) (drop (w .start) xs)
 
+-- an empty part of a line
+abbrev pub nowhere : Span
+nowhere = record { start = 0; end = 0 }
+
 -- the word begins with these bytes
 unfoldable pub beginsWith : List ℕ → List ℕ → Bool
 beginsWith word opening = leb (length opening) (length word) && same (take (length opening) word) opening

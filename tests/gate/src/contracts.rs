@@ -5,12 +5,13 @@ use std::collections::{BTreeMap, BTreeSet};
 
 /// The crates that others may use. Their open functions promise something of
 /// their results, and require nothing: no caller need check first.
-pub const OPEN: [&str; 22] = [
+pub const OPEN: [&str; 23] = [
     "callings",
     "calls",
     "checksum",
     "chip",
     "contents",
+    "dates",
     "driver",
     "faults",
     "frame_text",

@@ -2,6 +2,7 @@
 -- Assumes nothing.
 use mathlib.Core.Path.{sym, _∙_}
 use borrow.Author.Tests.{not-true, not-false}
+use Rattle.dates.specs.Calendar.{dayOf}
 use Rattle.dates.specs.Terms.{isTerm}
 use borrow.Author.Needs.{needs}
 use Rattle.dates.proofs.is_span.Statement.{statement}
@@ -18,7 +19,7 @@ returns-2 c =
     rw (sym (e .before .is-date .ensures) ∙ not-false _ (e .if1 .left), sym (c .before .is-date2 .ensures) ∙ not-true _ (c .if2 .taken))
 
 returns-3 : tie.Need-returns-3
-unfolding isTerm
+unfolding isTerm dayOf
 returns-3 c =
     let e = c .before .before in
     rw (

@@ -1,8 +1,9 @@
 -- `options::take_date` meets its contract: each arm is one of the definition's over what `date` gives.
 -- Assumes nothing.
 use Rattle.options.specs.declared.Choice.the-variants as Choice
-use Rattle.options.specs.declared.Days.{Days}
-use Rattle.options.specs.Options.{withDays, dateTaken}
+use Rattle.settings.specs.declared.Days.{Days}
+use Rattle.options.specs.Options.{dateTaken}
+use Rattle.settings.specs.Settings.{withDays}
 use mathlib.Core.Path.{sym, ap, _∙_}
 use borrow.Author.Needs.{needs}
 use Rattle.options.proofs.take_date.Statement.{statement}

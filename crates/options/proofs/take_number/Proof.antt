@@ -2,7 +2,8 @@
 -- Assumes nothing.
 use Rattle.options.specs.declared.Choice.the-variants as Choice
 use Rattle.faults.specs.declared.Fault.the-variants as Fault
-use Rattle.options.specs.Options.{withNumber, numberTaken}
+use Rattle.options.specs.Options.{numberTaken}
+use Rattle.settings.specs.Settings.{withNumber}
 use mathlib.Core.Bool.{Bool, cond}
 use mathlib.Core.Path.{sym, ap, subst, _∙_}
 use Prim.Native.Nat.{ℕ, _≤_, _<_}

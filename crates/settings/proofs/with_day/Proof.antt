@@ -1,11 +1,11 @@
--- `options::with_day` meets its contract: each arm sets the field that the definition sets.
+-- `settings::with_day` meets its contract: each arm sets the field that the definition sets.
 -- Assumes nothing.
-use Rattle.options.specs.Options.{withDay}
+use Rattle.settings.specs.Settings.{withDay}
 use Rattle.words.specs.declared.Key.{Key}
 use mathlib.Core.Path.{sym, ap}
 use borrow.Author.Needs.{needs}
-use Rattle.options.proofs.with_day.Statement.{statement}
-use Rattle.options.proofs.with_day.Tie as tie
+use Rattle.settings.proofs.with_day.Statement.{statement}
+use Rattle.settings.proofs.with_day.Tie as tie
 
 returns-8 : tie.Need-returns-8
 returns-8 c =

@@ -1,10 +1,10 @@
--- `options::is_given` meets its contract: each arm is the definition's.
+-- `settings::is_given` meets its contract: each arm is the definition's.
 -- Assumes nothing.
-use Rattle.options.specs.Options.{isGiven}
+use Rattle.settings.specs.Settings.{isGiven}
 use mathlib.Core.Path.{sym, ap}
 use borrow.Author.Needs.{needs}
-use Rattle.options.proofs.is_given.Statement.{statement}
-use Rattle.options.proofs.is_given.Tie as tie
+use Rattle.settings.proofs.is_given.Statement.{statement}
+use Rattle.settings.proofs.is_given.Tie as tie
 
 returns : tie.Need-returns
 returns c = ap (isGiven (c .before .before .args .s)) (sym (c .enum-told .given .1))

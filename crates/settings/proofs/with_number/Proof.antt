@@ -1,13 +1,13 @@
--- `options::with_number` meets its contract: each arm sets the field that the definition sets.
+-- `settings::with_number` meets its contract: each arm sets the field that the definition sets.
 -- Assumes nothing.
-use Rattle.options.specs.Options.{withNumber}
-use Rattle.options.specs.declared.Settings.{Settings}
+use Rattle.settings.specs.Settings.{withNumber}
+use Rattle.settings.specs.declared.Settings.{Settings}
 use Rattle.words.specs.declared.Key.{Key}
 use mathlib.Core.Path.{_≡_, sym, ap}
 use Prim.Native.Nat.{ℕ}
 use borrow.Author.Needs.{needs}
-use Rattle.options.proofs.with_number.Statement.{statement}
-use Rattle.options.proofs.with_number.Tie as tie
+use Rattle.settings.proofs.with_number.Statement.{statement}
+use Rattle.settings.proofs.with_number.Tie as tie
 
 -- the arm of the key that k is
 arm : (s : Settings) (n : ℕ) (k : Key) {l : Key} → k ≡ l → withNumber s l n ≡ withNumber s k n
