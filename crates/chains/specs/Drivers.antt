@@ -12,7 +12,7 @@ use Rattle.slots.specs.Calls.{outline}
 use Rattle.worlds.specs.Step.{frameIn, pollIn, tookIn, stagedIn, toldIn}
 use Rattle.worlds.specs.Chains.{heardIn}
 use Rattle.driver_blocks.specs.Block.{toldNumber, decodeDriver, encodeDriver}
-use Rattle.chains.specs.Chains.{SoftNumber}
+use Rattle.chains.specs.Chains.{DataNumber}
 
 -- (14.28) the block, the bytes read so far, the outlines of the frames that slipknoll_driver_frame and _next gave, how many frames and how many polls
 pub record Held : Type 0 where
@@ -58,9 +58,9 @@ Agree (suc n) g payload replies others z =
     (eqb (length (sends payload z)) 0 ≡ false → heardIn g (decodeDriver (z .block)) (replies (z .frames)) ≡ heardIn g (decodeDriver (z .block)) (others (z .frames)))
     × Agree n g payload replies others (linked payload replies z)
 
--- (14.28) what is the same of both: the frames' outlines, their number, the polls, and what is told (0, 12, 13 and 15 as one)
+-- (14.28) what is the same of both: the frames' outlines, their number, the polls, and what is told (0, 12, 13, 15 and 16 as one)
 pub record Same (y z : Held) : Type 0 where
   pub lines : y .lines ≡ z .lines
   pub frames : y .frames ≡ z .frames
   pub polls : y .polls ≡ z .polls
-  pub answer : (toldOf y ≡ toldOf z) ⊎ (SoftNumber (toldOf y) × SoftNumber (toldOf z))
+  pub answer : (toldOf y ≡ toldOf z) ⊎ (DataNumber (toldOf y) × DataNumber (toldOf z))

@@ -12,7 +12,7 @@ use Rattle.slots.specs.declared.Told.the-variants.{Answered}
 use Rattle.slots.specs.Plans.{sectorFor}
 use Rattle.slots.specs.Driver.{Heard, heard, isEnded}
 use Rattle.slots.specs.Calls.{outline}
-use Rattle.slots.specs.Alike.{Soft}
+use Rattle.slots.specs.Alike.{FromData}
 use Rattle.worlds.specs.Turns.{askedOf, stepIn}
 use Rattle.worlds.specs.Step.{stageIn, frameIn, pollIn, tookIn, stagedIn, toldIn}
 
@@ -59,10 +59,10 @@ AgreeIn (suc n) g payload replies others z =
     (isEnded (stageIn (z .driver)) ≡ false → heardIn g (z .driver) (replies (z .frames)) ≡ heardIn g (z .driver) (others (z .frames)))
     × AgreeIn n g payload replies others (linked payload replies z)
 
--- (14.26) what is the same of both: the frames' outlines, their number, the polls, whether it has ended, and what the driver tells (0, 12, 13 and 15 as one)
+-- (14.26) what is the same of both: the frames' outlines, their number, the polls, whether it has ended, and what the driver tells (0, 12, 13, 15 and 16 as one)
 pub record SameChain (y z : Chain) : Type 0 where
   pub lines : y .lines ≡ z .lines
   pub frames : y .frames ≡ z .frames
   pub polls : y .polls ≡ z .polls
   pub stage : isEnded (stageIn (y .driver)) ≡ isEnded (stageIn (z .driver))
-  pub answer : (a b : Answer) → toldIn (y .driver) ≡ Answered a → toldIn (z .driver) ≡ Answered b → (a ≡ b) ⊎ (Soft a × Soft b)
+  pub answer : (a b : Answer) → toldIn (y .driver) ≡ Answered a → toldIn (z .driver) ≡ Answered b → (a ≡ b) ⊎ (FromData a × FromData b)

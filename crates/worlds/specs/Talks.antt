@@ -14,7 +14,7 @@ use Rattle.slots.specs.Plans.{Asked, sectorFor, isWait}
 use Rattle.slots.specs.Driver.{Heard, Holding, frameOf, heard, after, takenBy, stepOf, isEnded, toldBy}
 use Rattle.slots.specs.Refusals.{earlyRefusal}
 use Rattle.slots.specs.Calls.{outline, firstCourse}
-use Rattle.slots.specs.Alike.{Soft}
+use Rattle.slots.specs.Alike.{FromData}
 
 -- (14.25) a driver and what it has sent so far: control state, data, the frames' outlines, how many frames and polls
 pub record Talk : Type 0 where
@@ -56,11 +56,11 @@ HeardAlike zero g a replies others t = Unit {0}
 HeardAlike (suc n) g a replies others t =
     (isEnded (t .course .stage) ≡ false → hearing g a replies t ≡ hearing g a others t) × HeardAlike n g a replies others (talked g a replies t)
 
--- (14.26) what is the same in both: the frames' outlines, their number, the polls, and what the driver tells (0, 12, 13 and 15 as one)
+-- (14.26) what is the same in both: the frames' outlines, their number, the polls, and what the driver tells (0, 12, 13, 15 and 16 as one)
 pub record SameTalk (t u : Talk) : Type 0 where
   pub lines : t .lines ≡ u .lines
   pub frames : t .frames ≡ u .frames
   pub polls : t .polls ≡ u .polls
   pub stage : isEnded (t .course .stage) ≡ isEnded (u .course .stage)
   pub answer : (a b : Answer) → toldBy (t .course .stage) (t .holding .verdict) ≡ Answered a → toldBy (u .course .stage) (u .holding .verdict) ≡ Answered b
-      → (a ≡ b) ⊎ (Soft a × Soft b)
+      → (a ≡ b) ⊎ (FromData a × FromData b)
