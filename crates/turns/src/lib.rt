@@ -175,15 +175,8 @@ pub fn take_data(
     let aim = d.aim;
     match x {
         Step::Wait { checked: c } => take_compare(v, c, reply),
-        Step::Protection => v,
-        Step::Lockdown => v,
         Step::Read { page: p } => page_data::read_page(g, k, v, aim, p, payload, reply, staged),
-        Step::Load { page: _ } => v,
-        Step::Send {
-            command: _,
-            page: _,
-        } => v,
-        Step::End => v,
+        _ => v,
     }
 }
 
