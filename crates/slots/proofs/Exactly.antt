@@ -28,7 +28,7 @@ use Rattle.slots.proofs.Planned.{frames-as-planned}
 
 long : (g : Geometry) (x : Step) → isWait x ≡ false → isEnd x ≡ false → 3 ≤ shapeOf g x .length
 unfolding shapeOf isWait isEnd
-long g Wait w e = never (sym w)
+long g (Wait c) w e = never (sym w)
 long g Protection w e = omega arith
 long g Lockdown w e = omega arith
 long g (Read p) w e = omega arith
@@ -42,7 +42,7 @@ no-poll g k h x w e q =
 
 plain-no-wait : (x : Step) → isPlain x ≡ true → (isWait x ≡ false) × (isEnd x ≡ false)
 unfolding isPlain isWait isEnd
-plain-no-wait Wait e = never e
+plain-no-wait (Wait c) e = never e
 plain-no-wait Protection e = never e
 plain-no-wait Lockdown e = never e
 plain-no-wait (Read p) e = (refl, refl)

@@ -30,7 +30,7 @@ use Rattle.slots.specs.declared.Kind.the-variants.{Put, Patch, Get}
 use Rattle.slots.specs.declared.Stage.{Stage}
 use Rattle.slots.specs.declared.Stage.the-variants.{Going, Ended}
 use Rattle.slots.specs.declared.Verdict.{Verdict}
-use Rattle.slots.specs.declared.Verdict.the-variants.{Good, Blank, Beyond, Outside}
+use Rattle.slots.specs.declared.Verdict.the-variants.{Good, Blank, Beyond, Outside, Miscompared}
 use Rattle.state.specs.Outcomes.{partIn, cutState}
 use Rattle.state.specs.Whole.{Whole}
 use Rattle.slots.specs.Plans.{bound, isAsking, pageSteps, planBy, Asked}
@@ -83,6 +83,7 @@ zero-done Answers.Blank e = never e
 zero-done Answers.End e = never e
 zero-done Answers.Dates e = never e
 zero-done Answers.Term e = never e
+zero-done Answers.Miscompare e = never e
 
 good-is : (v : Verdict) → verdictAnswer v ≡ Answers.Done → v ≡ Good
 unfolding verdictAnswer
@@ -90,6 +91,7 @@ good-is Good e = refl
 good-is Blank e = let z : _≡_ {A = ℕ} 0 1 = cc in absurd (omega arith)
 good-is Beyond e = let z : _≡_ {A = ℕ} 0 1 = cc in absurd (omega arith)
 good-is Outside e = let z : _≡_ {A = ℕ} 0 1 = cc in absurd (omega arith)
+good-is Miscompared e = let z : _≡_ {A = ℕ} 0 1 = cc in absurd (omega arith)
 
 -- 0 is the plan's end, and a good verdict
 pub answer-done : (t : Stage) (v : Verdict) → answerIn (toldBy t v) ≡ Answers.Done → (t ≡ Ended Answers.Done) × (v ≡ Good)

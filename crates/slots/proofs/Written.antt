@@ -25,7 +25,7 @@ use Rattle.slots.specs.Driver.{Holding, storedBy, judged, readIn}
 use Rattle.slots.specs.Quiet.{pageIn, Kept}
 use Rattle.slots.proofs.Parts.{cases}
 use Rattle.slots.proofs.Kept.{end-kept}
-use Rattle.slots.proofs.Stores.{Writer, cold, Lawful, opens, lists, frees, reads, loads, puts, programs, waited, erases, blanks, finish, pages-lawful}
+use Rattle.slots.proofs.Stores.{Writer, cold, Lawful, opens, lists, frees, reads, loads, puts, programs, waited, compares, checks, erases, blanks, finish, pages-lawful}
 
 -- ---- put
 
@@ -50,7 +50,7 @@ pub put-lawful : (g : Geometry) (slot : ℕ) (period : Period) (recipe : List �
     → Lawful g Put slot (putWriter g slot period recipe) fits few cold (planBy Put g slot)
 unfolding planBy isAsking runBy pageSteps putWriter
 put-lawful g slot period recipe fits few =
-    opens (lists (frees (pages-lawful g Put slot (putWriter g slot period recipe) fits few (pageSteps Put) (λ p xs i l. puts tt i (λ h u. u) (programs i (waited l))) 8 (8 * slot) (omega arith) refl)))
+    opens (lists (frees (pages-lawful g Put slot (putWriter g slot period recipe) fits few (pageSteps Put) (λ p xs i l. puts tt i (λ h u. u) (programs i (waited (compares i (checks l))))) 8 (8 * slot) (omega arith) refl)))
 
 -- ---- wipe
 
@@ -159,4 +159,4 @@ module _ (g : Geometry) (slot place : ℕ) (bytes : List ℕ) (old : ℕ → ℕ
   pub patch-lawful : (fits : 8 * slot + 8 ≤ g .pages) (few : Sized g (g .pages * g .size)) → Lawful g Patch slot patchWriter fits few cold (planBy Patch g slot)
   unfolding planBy isAsking runBy pageSteps patchWriter
   patch-lawful fits few =
-      opens (lists (frees (pages-lawful g Patch slot patchWriter fits few (pageSteps Patch) (λ p xs i l. reads tt i (loads tt i (programs i (waited l)))) 8 (8 * slot) (omega arith) refl)))
+      opens (lists (frees (pages-lawful g Patch slot patchWriter fits few (pageSteps Patch) (λ p xs i l. reads tt i (loads tt i (programs i (waited (compares i (checks l)))))) 8 (8 * slot) (omega arith) refl)))
