@@ -15,7 +15,7 @@ use slots::Kind;
 // The most frames that a call with this poll limit sends.
 fn frames_for(c: Command, limit: usize) -> usize
     requires { ⌜ limit ≤ 1000 ⌝ }
-    ensures { λ r. ⌜ (r ≡ framesFor c limit) × (r ≤ 9026) ⌝ }
+    ensures { λ r. ⌜ (r ≡ framesFor c limit) × (r ≤ 17034) ⌝ }
 {
     match c {
         Command::Put => steps::bound_of(Kind::Put, limit),
