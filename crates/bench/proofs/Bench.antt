@@ -30,7 +30,7 @@ use Rattle.dates.specs.Calendar.{isLeap, daysInYear, daysInMonth, isDate, daysO
 use Rattle.dates.specs.Terms.{isTerm}
 use Rattle.slots.specs.Details.{periodOf, aimOf}
 use Rattle.slots.specs.Records.{slotSize, headSize, versionOf, dayBytes, periodBytes, dayIn, periodIn, isWithin, limitOf, lengthIn, isRecord, image, patched, getVerdict, patchVerdict, changed}
-use Rattle.slots.specs.Driver.{opcodeOf, shapeOf, frameByte, storedBy, loaded, registerIn, heard, courseBy, judged, readIn, takenBy, isEnded, verdictAnswer, weighed, toldBy}
+use Rattle.slots.specs.Driver.{opcodeOf, shapeOf, frameByte, storedBy, loaded, registerIn, heard, courseBy, judged, readIn, compareIn, miscomparing, takenBy, isEnded, verdictAnswer, weighed, toldBy}
 use Rattle.slots.specs.Refusals.{flawsIn, isMisdated, isOver, isShort, hasOverTwo, hasCut, badScript, lateRefusal, earlyRefusal, orElse, callRefusal, rawRefusal}
 use Rattle.slots.specs.Calls.{outline, registersAfter, memoryAfter, stateAfter, openAfter, closedAfter, stepOpen, stepClosed, run, firstCourse, startOpen, startClosed, ran, countBy, countOf, outFrom, answerIn, callOut, callNext, rawSent, rawOut, rawNext}
 use Rattle.slots.specs.Lists.{callBy, rawBy, outOf, calledBy, rawLeft, nextOf, runList, leftBy, boundOf, lentTo, logOf}
@@ -38,7 +38,7 @@ use Rattle.bench.specs.Start.{freshShort, freshShort256, log}
 use Rattle.bench.specs.Table.{Bench}
 
 pub bench : Bench
-unfolding tabulate over splice andOver same ringRead ringWrite wordAt wordBytes parts partAmong partOf addressAt pageAt byteAt pageStart pageOf inRun sectorOf firstPage endPage sectorRun sectorCount commands sequences rowAt sequenceAt lookupIn lookupOf begins sequenceIn opened complete decodeOf placeIn placeOf room takes padded pack16 bytes16 pack64 bytes64 bitsOf hasBits sealed unsealedFrom unsealedSet maskOf lockedBytes within placedIn placed runOf sectorsOf inSet writes bufferUsed classOf allowed obeyed startedOn programmedThrough protectOff protectionErased protectionData protectionProgrammed sectorLocked securityData securityProgrammed rowDecided decodedControl control completedBy completed reaching lostBy lost Names changed applied programmed programmedOver transferred differing erased junked eachSector inSectors junkBuffer replied numberOf isIdle statusOf dataOf replyOf bufferWritten written acted sentMemory inTarget completedMemory arrayLost lostMemory freshRegisters freshState freshBy freshOutcome framed sentState sentBy sendOutcome endedState endedBy endOutcome pinnedState pinOutcome cutState cutFits cutBy cutOutcome actedOn isAsking pageSteps runBy pages planBy stepAt isEnd isWait framesMost waitsIn stated framesOf pollsOf slotSize limitOf lengthIn isRecord image patched getVerdict patchVerdict isLeap daysInYear daysInMonth isDate daysOfYears daysOfMonths dayNumber dayOf isTerm periodOf aimOf headSize versionOf dayBytes periodBytes dayIn periodIn isWithin isMisdated flawsIn opcodeOf shapeOf frameByte storedBy loaded registerIn heard courseBy judged readIn takenBy isEnded verdictAnswer weighed toldBy isOver isShort hasOverTwo hasCut badScript lateRefusal earlyRefusal orElse callRefusal rawRefusal outline registersAfter memoryAfter stateAfter openAfter closedAfter stepOpen stepClosed run firstCourse startOpen startClosed ran countBy countOf outFrom answerIn callOut callNext rawSent rawOut rawNext callBy rawBy outOf calledBy rawLeft nextOf runList leftBy boundOf lentTo logOf freshShort freshShort256 log
+unfolding tabulate over splice andOver same ringRead ringWrite wordAt wordBytes parts partAmong partOf addressAt pageAt byteAt pageStart pageOf inRun sectorOf firstPage endPage sectorRun sectorCount commands sequences rowAt sequenceAt lookupIn lookupOf begins sequenceIn opened complete decodeOf placeIn placeOf room takes padded pack16 bytes16 pack64 bytes64 bitsOf hasBits sealed unsealedFrom unsealedSet maskOf lockedBytes within placedIn placed runOf sectorsOf inSet writes bufferUsed classOf allowed obeyed startedOn programmedThrough protectOff protectionErased protectionData protectionProgrammed sectorLocked securityData securityProgrammed rowDecided decodedControl control completedBy completed reaching lostBy lost Names changed applied programmed programmedOver transferred differing erased junked eachSector inSectors junkBuffer replied numberOf isIdle statusOf dataOf replyOf bufferWritten written acted sentMemory inTarget completedMemory arrayLost lostMemory freshRegisters freshState freshBy freshOutcome framed sentState sentBy sendOutcome endedState endedBy endOutcome pinnedState pinOutcome cutState cutFits cutBy cutOutcome actedOn isAsking pageSteps runBy pages planBy stepAt isEnd isWait framesMost waitsIn stated framesOf pollsOf slotSize limitOf lengthIn isRecord image patched getVerdict patchVerdict isLeap daysInYear daysInMonth isDate daysOfYears daysOfMonths dayNumber dayOf isTerm periodOf aimOf headSize versionOf dayBytes periodBytes dayIn periodIn isWithin isMisdated flawsIn opcodeOf shapeOf frameByte storedBy loaded registerIn heard courseBy judged readIn compareIn miscomparing takenBy isEnded verdictAnswer weighed toldBy isOver isShort hasOverTwo hasCut badScript lateRefusal earlyRefusal orElse callRefusal rawRefusal outline registersAfter memoryAfter stateAfter openAfter closedAfter stepOpen stepClosed run firstCourse startOpen startClosed ran countBy countOf outFrom answerIn callOut callNext rawSent rawOut rawNext callBy rawBy outOf calledBy rawLeft nextOf runList leftBy boundOf lentTo logOf freshShort freshShort256 log
 bench =
     record {
       page-5 = refl;
@@ -67,8 +67,13 @@ bench =
       put-frames = refl;
       put-polls = refl;
       patch-frames = refl;
+      patch-polls = refl;
       get-frames = refl;
       wipe-frames = refl;
+      compare-line = refl;
+      compare-next = refl;
+      compare-set = refl;
+      compare-old = refl;
       wipe-lines = refl;
       wipe-polls = refl;
       wipe-answer = refl;

@@ -56,6 +56,10 @@ stored recipe = storedOn freshShort 2112 recipe
 abbrev pub sending : List ℕ → Op
 sending f = straight f (replicate (length f) 0)
 
+-- a 60 of page 0 of a fresh part, whose page and buffer differ, to its end
+abbrev pub compared : List Op
+compared = sending (0x60 ∷ 0x00 ∷ 0x00 ∷ 0x00 ∷ []) ∷ busyEnd ∷ []
+
 -- page 0's first byte becomes F0h by 84 and 83, then 88 with 3Ch in the buffer
 abbrev pub overF0 : List Op
 overF0 =
@@ -115,11 +119,18 @@ pub record Bench : Type 0 where
   pub dates : answers (getOn (date 2096 2 29) ∷ getOn (date 2100 2 29) ∷ getOn (date 1999 12 31) ∷ getOn (date 2200 1 1) ∷ putTerm (date 2027 6 1) (date 2027 5 31) [] ∷ []) freshShort
       ≡ 12 ∷ 14 ∷ 14 ∷ 14 ∷ 14 ∷ []
   -- frames and polls with an empty script
-  pub put-frames : outOf (putFresh (0x41 ∷ [])) freshShort .frames ≡ 27
-  pub put-polls : outOf (putFresh (0x41 ∷ [])) freshShort .polls ≡ 9
-  pub patch-frames : outOf (patch 0 1 0 [] (0x41 ∷ []) [] log) freshShort .frames ≡ 35
+  pub put-frames : outOf (putFresh (0x41 ∷ [])) freshShort .frames ≡ 43
+  pub put-polls : outOf (putFresh (0x41 ∷ [])) freshShort .polls ≡ 17
+  pub patch-frames : outOf (patch 0 1 0 [] (0x41 ∷ []) [] log) freshShort .frames ≡ 51
+  pub patch-polls : outOf (patch 0 1 0 [] (0x41 ∷ []) [] log) freshShort .polls ≡ 17
   pub get-frames : outOf (get 0 1 (date 2000 1 1) [] [] log lentBuffer) freshShort .frames ≡ 9
   pub wipe-frames : outOf wipeTwo freshShort .frames ≡ 5
+  -- a page's steps in a put: 84, 83, a wait, 60 with the page's address, a wait; the second page's 60 names page 1
+  pub compare-line : take 6 (drop 36 (outOf (putFresh (0x41 ∷ [])) freshShort .lines)) ≡ 0 ∷ 4 ∷ 0x60 ∷ 0x00 ∷ 0x00 ∷ 0x00 ∷ []
+  pub compare-next : take 6 (drop 66 (outOf (putFresh (0x41 ∷ [])) freshShort .lines)) ≡ 0 ∷ 4 ∷ 0x60 ∷ 0x00 ∷ 0x02 ∷ 0x00 ∷ []
+  -- a compare bit of 1 before the put, by a 60 of the caller's, does not lead to 16
+  pub compare-set : replyTo status (leftBy compared freshShort) ≡ 0xFF ∷ 0xE4 ∷ []
+  pub compare-old : answers (putFresh (0x41 ∷ []) ∷ []) (leftBy compared freshShort) ≡ 0 ∷ []
   -- the program's example: its lines, its polls, its answer
   pub wipe-lines : outOf wipeTwo freshShort .lines
       ≡ 0 ∷ 2 ∷ 0xD7 ∷ 0x00 ∷ 0xFF ∷ 0xFF ∷ 0 ∷ 20 ∷ 0x32 ∷ 0x00 ∷ 0x00 ∷ 0x00 ∷ 0 ∷ 20 ∷ 0x35 ∷ 0x00 ∷ 0x00 ∷ 0x00
@@ -151,7 +162,7 @@ pub record Bench : Type 0 where
   pub short-buffer-256 : answers (get 0 1 (date 2000 1 1) [] [] log (replicate 2044 0) ∷ []) freshShort256 ≡ 5 ∷ []
   pub blank-256 : answers (get 0 1 (date 2000 1 1) [] [] log (replicate 2045 0) ∷ []) freshShort256 ≡ 12 ∷ []
   -- frames with an empty script: as many, an 84 of 260 bytes, a D2 of 264 at the slot's address, 2,048 times its number
-  pub put-frames-256 : outOf (putFresh (0x41 ∷ [])) freshShort256 .frames ≡ 27
+  pub put-frames-256 : outOf (putFresh (0x41 ∷ [])) freshShort256 .frames ≡ 43
   pub load-256 : take 6 (drop 18 (outOf (putFresh (0x41 ∷ [])) freshShort256 .lines)) ≡ 1 ∷ 4 ∷ 0x84 ∷ 0x00 ∷ 0x00 ∷ 0x00 ∷ []
   pub read-256 : take 6 (drop 6 (outOf (get 2 1 (date 2000 1 1) [] [] log (replicate 2045 0)) freshShort256 .lines)) ≡ 1 ∷ 8 ∷ 0xD2 ∷ 0x00 ∷ 0x10 ∷ 0x00 ∷ []
   pub erase-256 : take 6 (drop 18 (outOf wipeTwo freshShort256 .lines)) ≡ 0 ∷ 4 ∷ 0x50 ∷ 0x00 ∷ 0x10 ∷ 0x00 ∷ []
