@@ -3,7 +3,7 @@
 use Prim.Native.Nat.{ℕ, zero, suc, _+_}
 use mathlib.Core.Path.{_≡_}
 use mathlib.Core.Bool.{false, cond}
-use mathlib.Core.List.{List, [], _++_}
+use mathlib.Core.List.{List, [], _∷_, _++_}
 use mathlib.Core.Logic.{_⊎_}
 use Rattle.geometry.specs.declared.Geometry.{Geometry}
 use Rattle.state.specs.declared.Answer.{Answer}
@@ -13,6 +13,7 @@ use Rattle.slots.specs.Plans.{sectorFor}
 use Rattle.slots.specs.Driver.{Heard, heard, isEnded}
 use Rattle.slots.specs.Calls.{outline}
 use Rattle.slots.specs.Alike.{FromData}
+use Rattle.slots.specs.Exchanges.{Exchange}
 use Rattle.worlds.specs.Turns.{askedOf, stepIn}
 use Rattle.worlds.specs.Step.{stageIn, frameIn, pollIn, tookIn, stagedIn, toldIn}
 
@@ -45,6 +46,13 @@ linked payload replies z =
 unfoldable pub chain : ℕ → List ℕ → (ℕ → List ℕ) → Chain → Chain
 chain zero payload replies z = z
 chain (suc n) payload replies z = chain n payload replies (linked payload replies z)
+
+-- (14.29) the exchanges of these; nothing cuts a call here
+unfoldable pub exchanged : ℕ → List ℕ → (ℕ → List ℕ) → Chain → List Exchange
+exchanged zero payload replies z = []
+exchanged (suc n) payload replies z =
+    cond (isEnded (stageIn (z .driver))) []
+    (record { frame = frameIn (z .driver) payload (z .staged); reply = replies (z .frames); byte = 1 } ∷ exchanged n payload replies (linked payload replies z))
 
 -- ---- two chains
 

@@ -3,7 +3,7 @@
 use Prim.Native.Nat.{ℕ, zero, suc, _+_}
 use mathlib.Core.Path.{_≡_}
 use mathlib.Core.Bool.{Bool, false, cond}
-use mathlib.Core.List.{List, [], _++_}
+use mathlib.Core.List.{List, [], _∷_, _++_}
 use mathlib.Core.Logic.{_⊎_}
 use Rattle.geometry.specs.declared.Geometry.{Geometry}
 use Rattle.state.specs.declared.Answer.{Answer}
@@ -15,6 +15,7 @@ use Rattle.slots.specs.Driver.{Heard, Holding, frameOf, heard, after, takenBy, 
 use Rattle.slots.specs.Refusals.{earlyRefusal}
 use Rattle.slots.specs.Calls.{outline, firstCourse}
 use Rattle.slots.specs.Alike.{FromData}
+use Rattle.slots.specs.Exchanges.{Exchange}
 
 -- (14.25) a driver and what it has sent so far: control state, data, the frames' outlines, how many frames and polls
 pub record Talk : Type 0 where
@@ -49,6 +50,14 @@ talked g a replies t =
 unfoldable pub talk : ℕ → Geometry → Asked → (ℕ → List ℕ) → Talk → Talk
 talk zero g a replies t = t
 talk (suc n) g a replies t = talk n g a replies (talked g a replies t)
+
+-- (14.29) the exchanges of these; nothing cuts a call here
+unfoldable pub exchangesIn : ℕ → Geometry → Asked → (ℕ → List ℕ) → Talk → List Exchange
+exchangesIn zero g a replies t = []
+exchangesIn (suc n) g a replies t =
+    cond (isEnded (t .course .stage)) []
+    (record { frame = frameOf g (a .kind) (t .holding) (stepOf g a (t .course)); reply = replies (t .frames); byte = 1 }
+    ∷ exchangesIn n g a replies (talked g a replies t))
 
 -- (14.26) the replies of two worlds agree in what is heard of each of the next n frames; frame by frame, as the first world has them
 abbrev pub HeardAlike : ℕ → Geometry → Asked → (replies others : ℕ → List ℕ) → Talk → Type 0
