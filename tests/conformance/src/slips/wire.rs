@@ -6,11 +6,13 @@ use at45db081d_model::part::{sector_bits, sector_of};
 use at45db081d_model::slot::{judge_get, judge_patch, Head, HEADER_SIZE, TERM_HEADER_SIZE};
 use at45db081d_model::{answer, Call, Lent, Outcome, Part, Record};
 
+use super::compares::Compares;
 use super::{terms, Faulty, Slip};
 use crate::device::Device;
 
 const LOAD: u8 = 0x84;
 const PROGRAM: u8 = 0x83;
+const COMPARE: u8 = 0x60;
 const READ: u8 = 0xD2;
 const STATUS: u8 = 0xD7;
 const PROTECTION: u8 = 0x32;
@@ -46,6 +48,7 @@ pub struct Wire<'a> {
     reads: usize,
     first_load: Vec<u8>,
     first_read: Vec<u8>,
+    compares: Compares,
     /// Frames still to be dropped.
     dropping: usize,
     cut: bool,
@@ -90,6 +93,7 @@ impl<'a> Wire<'a> {
             reads: 0,
             first_load: Vec::new(),
             first_read: Vec::new(),
+            compares: Compares::default(),
             dropping: 0,
             cut: false,
         }
@@ -141,7 +145,7 @@ impl<'a> Wire<'a> {
 
     fn polls_told(&self) -> u64 {
         match (self.slip, self.kind) {
-            (Slip::PollsMadeUp, Kind::Put | Kind::Patch) if self.loads == 8 => 9,
+            (Slip::PollsMadeUp, Kind::Put | Kind::Patch) if self.loads == 8 => 17,
             _ => self.polls,
         }
     }
@@ -168,20 +172,31 @@ impl<'a> Wire<'a> {
         head.map_or(HEADER_SIZE, |head| head.body) + self.place
     }
 
+    /// Whether the 60 of the last page loaded is dropped, with its wait.
+    fn compares_not(&self) -> bool {
+        match self.slip {
+            Slip::LastPageNotCompared => self.loads == 8,
+            Slip::KeptPagesNotCompared if self.kind == Kind::Patch => {
+                judge_patch(self.part, &self.first_read, self.place + self.len).is_err()
+            }
+            _ => false,
+        }
+    }
+
     /// Decides whether a frame is dropped; an error ends the call.
     fn drops(&mut self, frame: &[u8]) -> Result<bool, u8> {
         let driven = self.kind != Kind::Raw;
         match (self.slip, frame[0]) {
             (Slip::SkipsPageAlreadyThere, LOAD) if driven => {
                 if self.lent.array[self.page(self.loads)] == frame[4..] {
-                    self.dropping = 3;
+                    self.dropping = 5;
                 }
             }
             (Slip::SkipsPageOutsidePatch, LOAD) if self.kind == Kind::Patch => {
                 let first = self.patch_start();
                 let page = self.part.page_range(self.loads as u16);
                 if first >= page.end || first + self.len <= page.start {
-                    self.dropping = 3;
+                    self.dropping = 5;
                 }
             }
             (Slip::GetStopsAtStoredLength, READ) if self.kind == Kind::Get && self.reads > 0 => {
@@ -211,6 +226,7 @@ impl<'a> Wire<'a> {
                 return Err(answer::BUSY);
             }
             (Slip::BusyAtOnce, STATUS) if driven => return Err(answer::BUSY),
+            (_, COMPARE) if driven && self.compares_not() => self.dropping = 2,
             _ => {}
         }
         let drops = self.dropping > 0;
@@ -223,6 +239,7 @@ impl<'a> Wire<'a> {
         let mut changed = frame.to_vec();
         match (self.slip, frame[0], self.kind) {
             (Slip::StoresNothing, PROGRAM, Kind::Put | Kind::Patch) => changed[0] = 0x00,
+            (Slip::ComparedWithBuffer2, COMPARE, Kind::Put | Kind::Patch) => changed[0] = 0x61,
             (Slip::SevenPagesAlike, LOAD, Kind::Put) if self.loads > 0 => {
                 changed.copy_from_slice(&self.first_load);
             }
@@ -243,10 +260,11 @@ impl<'a> Wire<'a> {
     }
 
     /// What the driver hears in place of a reply.
-    fn hear(&self, frame: &[u8], reply: &mut [u8]) {
+    fn hear(&mut self, frame: &[u8], reply: &mut [u8]) {
         if self.kind == Kind::Raw {
             return;
         }
+        self.compares.hear(self.slip, frame, reply);
         let (byte, bits) = sector_bits(sector_of(8 * self.slot as u16));
         match (self.slip, frame[0]) {
             (Slip::ReadyWithCompareBit, STATUS) if reply[1] & 0x40 != 0 => reply[1] &= 0x7F,
@@ -270,6 +288,7 @@ impl<'a> Wire<'a> {
         match (self.slip, frame[0], self.kind) {
             (Slip::LogPadsWithZeros, _, _) => line[padding..].fill(0),
             (Slip::LogKeepsPadding, _, _) => line[padding..].copy_from_slice(&target[padding..]),
+            (Slip::ComparedWithBuffer2, COMPARE, Kind::Put | Kind::Patch) => line[2] = 0x61,
             (Slip::LogShowsTerm, LOAD, Kind::Put) if self.has_term && self.loads == 0 => {
                 line[5] = 1;
             }
