@@ -16,6 +16,12 @@ use conformance::{parts, Rng};
 /// not, 8 pages, after 83 and after 60, each poll of 1, 2 and 3.
 const CASES: u64 = 5 * 4 * 2 * 8 * 2 * (1 + 2 + 3);
 
+/// Pairs of runs, by their seeds.
+const PAIRS: u64 = 20_000;
+
+/// The compare bit of a status.
+const DIFFERS: u8 = 0x40;
+
 /// Says something even when the test passes.
 fn say(line: &str) {
     writeln!(std::io::stdout(), "{line}").expect("standard output");
@@ -89,55 +95,87 @@ fn outline(turn: &Turn) -> (usize, Vec<u8>) {
     }
 }
 
-/// A reply that a driver hears as this one: other compare bits, other bytes where it
-/// does not listen, another page.
+/// A reply of a chip that is mostly ready, with nothing sealed and any page.
+fn reply_to(rng: &mut Rng, frame: &[u8]) -> Vec<u8> {
+    let mut reply = vec![0; frame.len()];
+    match frame[0] {
+        0xD7 if rng.one_in(6) => reply[1] = rng.pick(&[0x24, 0x66]),
+        0xD7 => reply[1] = rng.pick(&[0xA4, 0xA6, 0xA5]) | DIFFERS * u8::from(rng.one_in(12)),
+        0xD2 => {
+            rng.fill(&mut reply);
+            (reply[8], reply[9]) = (rng.pick(&[0, 1, 1, 2]), rng.below(10) as u8);
+        }
+        _ => {}
+    }
+    reply
+}
+
+/// A reply that a driver hears as this one: another compare bit, and other bytes
+/// where it does not listen.
 fn heard_alike(rng: &mut Rng, frame: &[u8], reply: &[u8]) -> Vec<u8> {
     let mut other = reply.to_vec();
     match frame[0] {
         0xD7 => {
             other[0] = rng.byte();
-            other[1] ^= rng.byte() & 0x41;
+            other[1] ^= 0x01 | DIFFERS * u8::from(rng.one_in(12));
         }
         0x32 | 0x35 => rng.fill(&mut other[..4]),
-        _ => rng.fill(&mut other),
+        _ => return reply_to(rng, frame),
     }
     other
+}
+
+/// Two runs of a call whose replies are heard alike; the ends, or what shows.
+fn heard_twice(seed: u64, mut drivers: [Box<dyn Driver>; 2]) -> Result<[Turn; 2], String> {
+    let mut rng = Rng::new(seed);
+    let part: Part = parts::pick(&mut rng, 20);
+    let (kind, slot) = (rng.below(SLOT_KINDS), slot(&mut rng, part));
+    let request = request(&mut rng, part, kind, slot, 4);
+    let [first, second] = &mut drivers;
+    let array_len = part.array_len();
+    let mut turns = [
+        first.start(array_len, &request),
+        second.start(array_len, &request),
+    ];
+    loop {
+        let [one, other] = [&turns[0], &turns[1]].map(outline);
+        if one != other {
+            return Err(format!("{seed}: {request}: {one:02X?} and {other:02X?}"));
+        }
+        let frame = match &turns[0] {
+            Turn::Frame(frame) => frame,
+            Turn::End(_) => return Ok(turns),
+        };
+        let reply = reply_to(&mut rng, frame);
+        let other = heard_alike(&mut rng, frame, &reply);
+        turns = [first.next(&reply), second.next(&other)];
+    }
 }
 
 /// What shows of a driver does not depend on compare bits and on what was read.
 #[test]
 fn compare_bits_do_not_show() {
-    let mut unlike = 0;
-    for seed in 0..20_000 {
-        let mut rng = Rng::new(seed);
-        let part: Part = parts::pick(&mut rng, 20);
-        let (kind, slot) = (rng.below(SLOT_KINDS), slot(&mut rng, part));
-        let limit = rng.pick(&[1, 2, 3]);
-        let mut drivers = [LibraryDriver::new(0x5A), LibraryDriver::new(0xA5)];
-        let request = request(&mut rng, part, kind, slot, limit);
-        let [first, second] = &mut drivers;
-        let array_len = part.array_len();
-        let mut turns = [
-            first.start(array_len, &request),
-            second.start(array_len, &request),
-        ];
-        loop {
-            assert_eq!(outline(&turns[0]), outline(&turns[1]), "{seed}: {request}");
-            let frame = match &turns[0] {
-                Turn::Frame(frame) => frame.clone(),
-                Turn::End(_) => break,
-            };
-            let mut reply = vec![0; frame.len()];
-            if frame[0] == 0xD7 {
-                reply[1] = rng.pick(&[0xA4, 0xA4, 0xA6, 0xE4, 0xE4, 0xA4, 0x24, 0x64]);
-            }
-            let other = heard_alike(&mut rng, &frame, &reply);
-            turns = [first.next(&reply), second.next(&other)];
-        }
-        unlike += u64::from(turns[0] != turns[1]);
+    let (mut unlike, mut told) = (0, 0);
+    for seed in 0..PAIRS {
+        let drivers = [0x5A, 0xA5].map(|stale| Box::new(LibraryDriver::new(stale)) as _);
+        let ends = heard_twice(seed, drivers).unwrap_or_else(|what| panic!("{what}"));
+        unlike += u64::from(ends[0] != ends[1]);
+        let [one, other] = ends.map(|end| end == Turn::End(16));
+        told += u64::from(one != other);
     }
     say(&format!(
-        "compare bits: {unlike} of 20000 pairs ended unlike"
+        "compare bits: {PAIRS} pairs, {unlike} ended unlike, {told} of these with 16 in one"
     ));
-    assert!(unlike >= 1);
+    // 95 in 100 of those that there are.
+    assert!(unlike >= 7_150 && told >= 2_950);
+}
+
+#[test]
+fn compare_bits_that_show_are_noticed() {
+    let slip = DriverSlip::StopsAtFirst;
+    let shown = (0..PAIRS).find_map(|seed| {
+        let drivers = [slip, slip].map(|slip| Box::new(FaultyDriver::new(slip)) as _);
+        heard_twice(seed, drivers).err()
+    });
+    println!("{slip:?}: {}", shown.expect("not noticed"));
 }

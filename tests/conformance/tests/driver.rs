@@ -16,7 +16,7 @@ const CASES: u64 = 40_000;
 
 /// Ends with answers that come at a call's end, at least: 95 in 100 of those that
 /// there are.
-const ENDS: [(usize, u64); 5] = [(0, 1), (12, 1), (13, 1), (15, 1), (16, 1)];
+const ENDS: [(usize, u64); 5] = [(0, 9_900), (12, 2_000), (13, 280), (15, 2_000), (16, 1_360)];
 
 /// Says something even when the test passes.
 fn say(line: &str) {
@@ -41,7 +41,7 @@ fn drivers_yield_the_same_frames() {
         "driver of the library: {CASES} cases, {frames} frames compared in {seconds:.1} s; \
          ends by answer {answers:?}"
     ));
-    assert!(frames >= 313_800);
+    assert!(frames >= 458_400);
     for (answer, least) in ENDS {
         assert!(answers[answer] >= least, "{answer}: {}", answers[answer]);
     }
@@ -169,7 +169,7 @@ fn any_state_gives_frames_of_its_call_and_ends() {
     say(&format!(
         "any state: {going} of 60000 gave a frame, the longest {longest}"
     ));
-    assert!(going >= 11_900 && longest >= 44);
+    assert!(going >= 12_200 && longest >= 64);
 }
 
 /// A flipped bit of the byte that names the call makes no call another.

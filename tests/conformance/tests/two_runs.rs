@@ -73,11 +73,11 @@ fn nothing_of_the_recipes_shows() {
     ));
     // 95 in 100 of what is reached.
     assert_eq!(shown.pairs, PAIRS);
-    assert!(shown.calls() >= 192_800);
-    assert!(shown.frames >= 1_575_300);
-    assert!(shown.unlike_answers >= 23_100);
-    assert!(shown.unlike_terms >= 7_800);
-    assert!(shown.unlike_days >= 33_300);
+    assert!(shown.calls() >= 192_700);
+    assert!(shown.frames >= 2_092_800);
+    assert!(shown.unlike_answers >= 22_900);
+    assert!(shown.unlike_terms >= 7_500);
+    assert!(shown.unlike_days >= 33_100);
     for (shown, least) in shown.parts.iter().zip(&LEAST_BY_PART) {
         assert!(shown >= least, "only {shown} of {least} on a part");
     }

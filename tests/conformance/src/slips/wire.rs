@@ -63,10 +63,9 @@ impl<'a> Wire<'a> {
         call: &Call,
     ) -> Wire<'a> {
         let (slot, poll_limit) = call.target().unwrap_or_default();
-        let (has_term, today) = match call {
-            Call::Put { term, .. } => (term.is_some(), None),
-            Call::Get { today, .. } => (false, today.number()),
-            _ => (false, None),
+        let today = match call {
+            Call::Get { today, .. } => today.number(),
+            _ => None,
         };
         let (kind, place, len) = match call {
             Call::Put { recipe, .. } => (Kind::Put, 0, recipe.len()),
@@ -85,7 +84,7 @@ impl<'a> Wire<'a> {
             poll_limit,
             place,
             len,
-            has_term,
+            has_term: matches!(call, Call::Put { term: Some(_), .. }),
             today: today.unwrap_or(0),
             frames: 0,
             polls: 0,
@@ -172,63 +171,74 @@ impl<'a> Wire<'a> {
         head.map_or(HEADER_SIZE, |head| head.body) + self.place
     }
 
+    /// What a patch comes to, by its first page.
+    fn patch_verdict(&self) -> Result<Head, u8> {
+        judge_patch(self.part, &self.first_read, self.place + self.len)
+    }
+
+    /// An error if the slip ends a patch of this verdict before its first 84.
+    fn ends_at_once(&self) -> Result<(), u8> {
+        let ending = match self.slip {
+            Slip::PatchEndsUnder12 => answer::BLANK,
+            Slip::PatchEndsUnder13 => answer::END,
+            _ => return Ok(()),
+        };
+        match self.patch_verdict() {
+            Err(answer) if answer == ending => Err(answer),
+            _ => Ok(()),
+        }
+    }
+
     /// Whether the 60 of the last page loaded is dropped, with its wait.
     fn compares_not(&self) -> bool {
         match self.slip {
             Slip::LastPageNotCompared => self.loads == 8,
-            Slip::KeptPagesNotCompared if self.kind == Kind::Patch => {
-                judge_patch(self.part, &self.first_read, self.place + self.len).is_err()
-            }
+            Slip::KeptPagesNotCompared if self.kind == Kind::Patch => self.patch_verdict().is_err(),
             _ => false,
+        }
+    }
+
+    /// How many frames the slip drops from this one on.
+    fn dropped_from(&self, frame: &[u8]) -> usize {
+        let driven = self.kind != Kind::Raw;
+        let read_on = self.kind == Kind::Get && self.reads > 0;
+        match (self.slip, frame[0]) {
+            (Slip::SkipsPageAlreadyThere, LOAD) if driven => {
+                let there = self.lent.array[self.page(self.loads)] == frame[4..];
+                5 * usize::from(there)
+            }
+            (Slip::SkipsPageOutsidePatch, LOAD) if self.kind == Kind::Patch => {
+                let first = self.patch_start();
+                let page = self.part.page_range(self.loads as u16);
+                let outside = first >= page.end || first + self.len <= page.start;
+                5 * usize::from(outside)
+            }
+            (Slip::GetStopsAtStoredLength, READ) if read_on => {
+                usize::from(self.reads * self.part.page_size >= self.used())
+            }
+            (Slip::GetStopsOutsideTerm, READ) if read_on => {
+                let verdict = judge_get(self.part, &self.first_read, self.today);
+                usize::from(verdict == Err(answer::TERM))
+            }
+            (_, COMPARE) if driven && self.compares_not() => 2,
+            _ => 0,
         }
     }
 
     /// Decides whether a frame is dropped; an error ends the call.
     fn drops(&mut self, frame: &[u8]) -> Result<bool, u8> {
         let driven = self.kind != Kind::Raw;
-        match (self.slip, frame[0]) {
-            (Slip::SkipsPageAlreadyThere, LOAD) if driven => {
-                if self.lent.array[self.page(self.loads)] == frame[4..] {
-                    self.dropping = 5;
+        match frame[0] {
+            LOAD if self.kind == Kind::Patch && self.loads == 0 => self.ends_at_once()?,
+            STATUS if driven && self.slip == Slip::BusyAtOnce => return Err(answer::BUSY),
+            STATUS if driven && self.slip == Slip::PollLimitPerCall => {
+                if self.polls == self.poll_limit as u64 {
+                    return Err(answer::BUSY);
                 }
             }
-            (Slip::SkipsPageOutsidePatch, LOAD) if self.kind == Kind::Patch => {
-                let first = self.patch_start();
-                let page = self.part.page_range(self.loads as u16);
-                if first >= page.end || first + self.len <= page.start {
-                    self.dropping = 5;
-                }
-            }
-            (Slip::GetStopsAtStoredLength, READ) if self.kind == Kind::Get && self.reads > 0 => {
-                if self.reads * self.part.page_size >= self.used() {
-                    self.dropping = 1;
-                }
-            }
-            (Slip::GetStopsOutsideTerm, READ) if self.kind == Kind::Get && self.reads > 0 => {
-                let verdict = judge_get(self.part, &self.first_read, self.today);
-                if verdict == Err(answer::TERM) {
-                    self.dropping = 1;
-                }
-            }
-            (Slip::PatchEndsUnder12 | Slip::PatchEndsUnder13, LOAD)
-                if self.kind == Kind::Patch && self.loads == 0 =>
-            {
-                let ending = match self.slip {
-                    Slip::PatchEndsUnder12 => answer::BLANK,
-                    _ => answer::END,
-                };
-                match judge_patch(self.part, &self.first_read, self.place + self.len) {
-                    Err(answer) if answer == ending => return Err(answer),
-                    _ => {}
-                }
-            }
-            (Slip::PollLimitPerCall, STATUS) if driven && self.polls == self.poll_limit as u64 => {
-                return Err(answer::BUSY);
-            }
-            (Slip::BusyAtOnce, STATUS) if driven => return Err(answer::BUSY),
-            (_, COMPARE) if driven && self.compares_not() => self.dropping = 2,
             _ => {}
         }
+        self.dropping = self.dropping.max(self.dropped_from(frame));
         let drops = self.dropping > 0;
         self.dropping -= usize::from(drops);
         Ok(drops)
@@ -245,9 +255,9 @@ impl<'a> Wire<'a> {
             }
             (Slip::PatchWritesUnder13, LOAD, Kind::Patch) => {
                 let at = self.patch_start();
-                let late = judge_patch(self.part, &self.first_read, self.place + self.len);
                 let page_size = self.part.page_size;
-                if late == Err(answer::END) && at / page_size == self.loads {
+                let late = self.patch_verdict() == Err(answer::END);
+                if late && at / page_size == self.loads {
                     changed[4 + at % page_size] ^= 0xFF;
                 }
             }
