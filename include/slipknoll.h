@@ -324,7 +324,7 @@ uint8_t slipknoll_cut(uint8_t *record, uint8_t *array, size_t array_len, const u
  *   check   60 with the page's address (4), wait: bit 6 of the status that ends
  *           this wait is 1 if page and buffer 1 differ. Whatever it is, the call
  *           goes on; it answers 16 at its end if it was 1 for any page, and
- *           neither 12 nor 13 is due. On the chip that is held here it never is.
+ *           neither 12 nor 13 is due. On the chip that is held here it is never 1.
  *
  *   put     wait, seal; for each page 84 00 00 00 with its bytes (268 or 260),
  *           83 with the page's address (4), wait, check
