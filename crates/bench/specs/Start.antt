@@ -19,7 +19,7 @@ freshShort256 = freshOutcome (replicate 64 0) (replicate 32768 0) .state
 
 -- a log long enough for any call with poll limit 1
 unfoldable pub log : List ℕ
-log = replicate 210 0
+log = replicate 306 0
 
 -- the answers' numbers of a list of calls and events
 abbrev pub answers : List Op → State → List ℕ

@@ -26,20 +26,21 @@ use Rattle.blocks.proofs.Decoded.{whole-decode}
 use Rattle.slots.specs.Calls.{Out}
 use Rattle.slots.specs.Details.{periodOf}
 use Rattle.slots.specs.Records.{isWithin}
-use Rattle.slots.specs.Lists.{Op, call, raw, straight, pin, busyEnd, cut, put, get, outOf, nextOf, runList, leftBy, boundOf, isRefusal, logOf}
-use Rattle.slots.specs.Alike.{Twins, AlikeLists, Soft, Same, AllSame}
+use Rattle.slots.specs.Lists.{Op, call, raw, straight, pin, busyEnd, cut, put, get, outOf, nextOf, runList, leftBy, boundOf, isRefusal, logOf, NoMiscompare}
+use Rattle.slots.specs.Alike.{Twins, AlikeLists, Soft, FromData, Same, AllSame}
 use Rattle.slots.specs.Quiet.{QuietIn, Refuses, Delivers, Returns}
 use Rattle.slots.proofs.Places.{never}
 use Rattle.slots.proofs.Accepted.{picked}
 use Rattle.slots.proofs.Driven.{other}
 use Rattle.slots.proofs.Bound.{within-bound}
+use Rattle.slots.proofs.Never.{never-miscompares}
 use Rattle.slots.proofs.TwoRuns.{two-runs}
 use Rattle.slots.proofs.Refused.{in-table, refusals}
 use Rattle.slots.proofs.ReadBack.{read-back}
 use Rattle.driver_blocks.specs.Block.{answerAt}
 use Rattle.driver_blocks.proofs.RoundTrip.{answer-back}
 use Rattle.runs.specs.Promises.{keptIn}
-use Rattle.chains.specs.Chains.{Seen, Does, Chain, lastIn, framesIn, pollsIn, SoftNumber, SameSeen, AllSeen, DeliversIn, ReturnsIn, RefusalNumber, Refused}
+use Rattle.chains.specs.Chains.{Seen, Does, Chain, lastIn, framesIn, pollsIn, SoftNumber, SameSeen, AllSeen, NoneMiscompares, DataNumber, DeliversIn, ReturnsIn, RefusalNumber, Refused}
 use Rattle.chains.proofs.Seen.{Shows, shows}
 
 -- ---- demand 3
@@ -50,6 +51,11 @@ soft-number a n e (inl (inl h)) = inl (inl (e ∙ ap numberOf h))
 soft-number a n e (inl (inr h)) = inl (inr (e ∙ ap numberOf h))
 soft-number a n e (inr (inl h)) = inr (inl (e ∙ ap numberOf h))
 soft-number a n e (inr (inr h)) = inr (inr (e ∙ ap numberOf h))
+
+pub data-number : (a : Answer) (n : ℕ) → n ≡ numberOf a → FromData a → DataNumber n
+unfolding numberOf
+data-number a n e (inl h) = inl (soft-number a n e h)
+data-number a n e (inr h) = inr (e ∙ ap numberOf h)
 
 same-seen : {x y : Out} {s t : State} {l k : List ℕ} {z w : Seen} → Shows x s l z → Shows y t k w → Same x y → SameSeen z w
 same-seen {x} {y} {s} {t} {l} {k} {z} {w} a b e =
@@ -85,9 +91,31 @@ all-seen (o ∷ os) (u ∷ us) held xs kept ys (z ∷ zs) (w ∷ ws) c d e =
 
 -- TWO RUNS: two blocks that read as chips alike in registers, arrays of one length, arguments alike: then the written part of each log, frames, polls and
 -- answers agree
-pub two-runs-called : (os us : List Op) (held xs kept ys : List ℕ) (zs ws : List Seen) → Chain held xs os zs → Chain kept ys us ws
+pub two-runs-called : (os us : List Op) (held xs kept ys : List ℕ) (zs ws : List Seen) → length held ≡ 765 → length kept ≡ 765 → Chain held xs os zs → Chain kept ys us ws
     → Twins (heldIn held xs) (heldIn kept ys) → AlikeLists os us (heldIn held xs) (heldIn kept ys) → AllSeen zs ws
-two-runs-called os us held xs kept ys zs ws c d t a = all-seen os us held xs kept ys zs ws c d (two-runs os us (heldIn held xs) (heldIn kept ys) t a)
+two-runs-called os us held xs kept ys zs ws l m c d t a =
+    all-seen os us held xs kept ys zs ws c d (two-runs os us (heldIn held xs) (heldIn kept ys) (whole-decode held l) (whole-decode kept m) t a)
+
+-- ---- 16
+
+miscompare-is : (a : Answer) → numberOf a ≡ 16 → a ≡ Answers.Miscompare
+unfolding answerAt
+miscompare-is a e = sym (answer-back a) ∙ ap answerAt e
+
+none-seen : (os : List Op) (held xs : List ℕ) (zs : List Seen) → Chain held xs os zs → NoMiscompare (runList os (heldIn held xs)) → NoneMiscompares zs
+unfolding runList
+none-seen [] held xs [] c n = tt
+none-seen [] held xs (z ∷ zs) c n = absurd c
+none-seen (o ∷ os) held xs [] c n = absurd c
+none-seen (o ∷ os) held xs (z ∷ zs) c n =
+    let a = shows o held xs z (c .0) in (
+      (λ e. n .0 (miscompare-is (outOf o (heldIn held xs) .answer) (sym (a .number) ∙ e))),
+      none-seen os (z .block) (z .array) zs (c .1) (subst (λ (s : State). NoMiscompare (runList os s)) (sym (a .holds)) (n .1)),
+    )
+
+-- NEVER 16: no call of a list of C functions on a chip that is held answers it
+pub never-called : (os : List Op) (held xs : List ℕ) (zs : List Seen) → length held ≡ 765 → Chain held xs os zs → NoneMiscompares zs
+never-called os held xs zs l c = none-seen os held xs zs c (never-miscompares os (heldIn held xs) (whole-decode held l))
 
 -- ---- demand 2
 
@@ -151,11 +179,11 @@ read-back-called slot limit term script recipe junk log held xs z l w n os zs c 
 -- ---- demand 1
 
 -- every answer is a number of the table, and no call sends more frames than its bound
-pub in-table-called : (o : Op) (held xs : List ℕ) (z : Seen) → Does o held xs z → (z .number ≤ 15) × (framesIn z ≤ boundOf o) × (pollsIn z ≤ framesIn z)
+pub in-table-called : (o : Op) (held xs : List ℕ) (z : Seen) → Does o held xs z → (z .number ≤ 16) × (framesIn z ≤ boundOf o) × (pollsIn z ≤ framesIn z)
 in-table-called o held xs z d =
     let a = shows o held xs z d in
     let w = within-bound o (heldIn held xs) in
-    (subst (λ (n : ℕ). n ≤ 15) (sym (a .number)) (in-table (outOf o (heldIn held xs) .answer)), omega (arith, a .frames, w .frames), omega (arith, a .frames, a .polls, w .polls))
+    (subst (λ (n : ℕ). n ≤ 16) (sym (a .number)) (in-table (outOf o (heldIn held xs) .answer)), omega (arith, a .frames, w .frames), omega (arith, a .frames, a .polls, w .polls))
 
 refusal-is : (a : Answer) (n : ℕ) → n ≡ numberOf a → RefusalNumber n → isRefusal a ≡ true
 refusal-is a n e (inl h) = λ i. (le-leb 1 (numberOf a) (omega (arith, h .0)) i && le-leb (numberOf a) 7 (omega (arith, h .1)) i) || eqb (numberOf a) 14

@@ -5,7 +5,7 @@ use Prim.Native.Nat.{ℕ, zero, suc, _+_, _^_, _≤_, _<_}
 use native.Mathlib.Omega.{arith}
 use mathlib.Core.Path.{_≡_, refl, sym, ap, subst, _∙_}
 use mathlib.Core.Bool.{Bool, true, false, cond}
-use mathlib.Core.List.{List, [], _++_}
+use mathlib.Core.List.{List, [], _∷_, _++_}
 use mathlib.Core.Logic.{_⊎_, inl, inr}
 use lib.ListN.{length, getD}
 use lib.Dec.{eqb}
@@ -16,34 +16,39 @@ use Rattle.geometry.specs.declared.Part.{Part}
 use Rattle.geometry.specs.declared.Part.the-variants.{Known, Unknown}
 use Rattle.geometry.specs.Parts.{partOf}
 use Rattle.state.specs.declared.Answer.{Answer}
+use Rattle.state.specs.declared.Answer.the-variants as Answers
 use Rattle.state.specs.Answers.{numberOf}
 use Rattle.slots.specs.declared.Detail.{Detail}
 use Rattle.slots.specs.declared.Driver.{Driver}
 use Rattle.slots.specs.declared.Stage.{Stage}
 use Rattle.slots.specs.declared.Stage.the-variants.{Going, Ended}
-use Rattle.slots.specs.declared.Told.the-variants.{Answered}
+use Rattle.slots.specs.declared.Told.{Told}
+use Rattle.slots.specs.declared.Told.the-variants.{Running, Answered}
 use Rattle.slots.specs.declared.Verdict.{Verdict}
-use Rattle.slots.specs.Plans.{Asked, stated}
+use Rattle.slots.specs.Plans.{Asked, bound, stated}
 use Rattle.slots.specs.Refusals.{flawsIn}
 use Rattle.slots.specs.Driver.{shapeOf, frameByte, loaded, isEnded, weighed, toldBy}
 use Rattle.slots.specs.Calls.{outline}
-use Rattle.slots.specs.Alike.{Soft}
+use Rattle.slots.specs.Alike.{FromData}
+use Rattle.slots.specs.Exchanges.{Exchange, miscompared, Before16, MiscompareExactly}
+use Rattle.slots.specs.Exchanges as P
 use Rattle.slots.proofs.Places.{never}
 use Rattle.slots.proofs.Accepted.{picked}
 use Rattle.slots.proofs.Driven.{other}
+use Rattle.slots.proofs.Counts.{bounds}
 use Rattle.worlds.specs.Turns.{holdingOf, stepIn}
 use Rattle.worlds.specs.Start.{startDriver}
 use Rattle.worlds.specs.Step.{stageBy, stageIn, frameBy, frameIn, pollIn, tookIn, stagedIn, toldIn}
 use Rattle.worlds.specs.Chains as W
 use Rattle.worlds.proofs.Sane.{ended-off, going-facts}
 use Rattle.worlds.proofs.Shapes.{shape-some}
-use Rattle.worlds.proofs.Chains.{any-world-called, any-state-ends}
-use Rattle.driver_blocks.specs.Block.{toldNumber, decodeDriver, encodeDriver, Fits}
-use Rattle.driver_blocks.proofs.RoundTrip.{decode-encode}
+use Rattle.worlds.proofs.Chains.{any-world-called, any-state-ends, miscompares-called}
+use Rattle.driver_blocks.specs.Block.{answerAt, toldNumber, decodeDriver, encodeDriver, Fits}
+use Rattle.driver_blocks.proofs.RoundTrip.{answer-back, decode-encode}
 use Rattle.driver_blocks.proofs.Fitting.{fits-start, fits-decode, fits-took}
-use Rattle.chains.specs.Chains.{SoftNumber}
-use Rattle.chains.specs.Drivers.{Held, begun, sends, linked, chain, toldOf, Agree, Same}
-use Rattle.chains.proofs.Demands.{soft-number}
+use Rattle.chains.specs.Chains.{DataNumber}
+use Rattle.chains.specs.Drivers.{Held, begun, sends, linked, chain, exchanged, ExactlyTold, toldOf, Agree, Same}
+use Rattle.chains.proofs.Demands.{data-number}
 
 -- ---- a driver has a frame exactly as long as it has not ended
 
@@ -139,18 +144,18 @@ agree-in (suc n) g payload replies others h z r f a = (
 )
 
 told-same : (s t : Stage) (v w : Verdict) → isEnded s ≡ isEnded t
-    → ((a b : Answer) → toldBy s v ≡ Answered a → toldBy t w ≡ Answered b → (a ≡ b) ⊎ (Soft a × Soft b))
-    → (toldNumber (toldBy s v) ≡ toldNumber (toldBy t w)) ⊎ (SoftNumber (toldNumber (toldBy s v)) × SoftNumber (toldNumber (toldBy t w)))
+    → ((a b : Answer) → toldBy s v ≡ Answered a → toldBy t w ≡ Answered b → (a ≡ b) ⊎ (FromData a × FromData b))
+    → (toldNumber (toldBy s v) ≡ toldNumber (toldBy t w)) ⊎ (DataNumber (toldNumber (toldBy s v)) × DataNumber (toldNumber (toldBy t w)))
 unfolding toldBy toldNumber isEnded
 told-same Going Going v w e h = inl refl
 told-same Going (Ended b) v w e h = never e
 told-same (Ended a) Going v w e h = never (sym e)
 told-same (Ended a) (Ended b) v w e h = go (h (weighed a v) (weighed b w) refl refl)
   where
-    go : (weighed a v ≡ weighed b w) ⊎ (Soft (weighed a v) × Soft (weighed b w))
-        → (numberOf (weighed a v) ≡ numberOf (weighed b w)) ⊎ (SoftNumber (numberOf (weighed a v)) × SoftNumber (numberOf (weighed b w)))
+    go : (weighed a v ≡ weighed b w) ⊎ (FromData (weighed a v) × FromData (weighed b w))
+        → (numberOf (weighed a v) ≡ numberOf (weighed b w)) ⊎ (DataNumber (numberOf (weighed a v)) × DataNumber (numberOf (weighed b w)))
     go (inl k) = inl (ap numberOf k)
-    go (inr k) = inr (soft-number (weighed a v) (numberOf (weighed a v)) refl (k .0), soft-number (weighed b w) (numberOf (weighed b w)) refl (k .1))
+    go (inr k) = inr (data-number (weighed a v) (numberOf (weighed a v)) refl (k .0), data-number (weighed b w) (numberOf (weighed b w)) refl (k .1))
 
 same-held : {h k : Held} {y z : W.Chain} → Reads h y → Reads k z → W.SameChain y z → Same h k
 unfolding toldIn
@@ -160,8 +165,8 @@ same-held {h} {k} {y} {z} r t s =
       frames = r .frames ∙ s .frames ∙ sym (t .frames);
       polls = r .polls ∙ s .polls ∙ sym (t .polls);
       answer =
-          subst (λ (d : Driver). (toldNumber (toldIn d) ≡ toldOf k) ⊎ (SoftNumber (toldNumber (toldIn d)) × SoftNumber (toldOf k))) (sym (r .block))
-          (subst (λ (d : Driver). (toldNumber (toldIn (y .driver)) ≡ toldNumber (toldIn d)) ⊎ (SoftNumber (toldNumber (toldIn (y .driver))) × SoftNumber (toldNumber (toldIn d)))) (sym (t .block))
+          subst (λ (d : Driver). (toldNumber (toldIn d) ≡ toldOf k) ⊎ (DataNumber (toldNumber (toldIn d)) × DataNumber (toldOf k))) (sym (r .block))
+          (subst (λ (d : Driver). (toldNumber (toldIn (y .driver)) ≡ toldNumber (toldIn d)) ⊎ (DataNumber (toldNumber (toldIn (y .driver))) × DataNumber (toldNumber (toldIn d)))) (sym (t .block))
           (told-same (stageIn (y .driver)) (stageIn (z .driver)) (y .driver .verdict) (z .driver .verdict) (s .stage) (s .answer)));
     }
 
@@ -189,6 +194,61 @@ any-world-blocks n g array a t there lent room payload other staged bytes replie
     same-held (chain-reads payload replies n (begun (encodeDriver d) staged) (W.begun d staged) rd fd) (chain-reads other others n (begun (encodeDriver e) bytes) (W.begun e bytes) re fe)
     (any-world-called n g array a t there lent room payload other staged bytes replies others p alike
     (agree-in n g payload replies others (begun (encodeDriver d) staged) (W.begun d staged) rd fd h))
+
+-- ---- 16
+
+-- the exchanges over the functions on blocks
+exchanged-reads : (payload : List ℕ) (replies : ℕ → List ℕ) (n : ℕ) (h : Held) (z : W.Chain) → Reads h z → Fits (z .driver)
+    → exchanged n payload replies h ≡ W.exchanged n payload replies z
+unfolding exchanged W.exchanged
+exchanged-reads payload replies zero h z r f = refl
+exchanged-reads payload replies (suc n) h z r f =
+    let rest = exchanged-reads payload replies n (linked payload replies h) (W.linked payload replies z) (link-reads payload replies h z r f) (link-fits payload replies z f) in
+    λ i. cond (ends-alike payload replies r i) [] (record { frame = frameIn (r .block i) payload (r .staged i); reply = replies (r .frames i); byte = 1 } ∷ rest i)
+
+-- 8 to 13
+before-number : (a : Answer) → Before16 a → (8 ≤ numberOf a) × (numberOf a ≤ 13)
+unfolding numberOf
+before-number a P.device = (omega arith, omega arith)
+before-number a P.Before16.busy = (omega arith, omega arith)
+before-number a P.Before16.shut = (omega arith, omega arith)
+before-number a P.Before16.lost = (omega arith, omega arith)
+before-number a P.blank = (omega arith, omega arith)
+before-number a P.beyond = (omega arith, omega arith)
+
+-- a driver that has ended tells an answer
+told-answer : (s : Stage) (v : Verdict) → isEnded s ≡ true → (Q : Told → Type 0) → ((a : Answer) → toldBy s v ≡ Answered a → Q (Answered a)) → Q (toldBy s v)
+unfolding toldBy isEnded
+told-answer Going v e Q f = never e
+told-answer (Ended n) v e Q f = f (weighed n v) refl
+
+exactly-number : (es : List Exchange) (a : Answer) → MiscompareExactly es a → ExactlyTold es (numberOf a)
+unfolding answerAt numberOf
+exactly-number es a m = record { only = λ e. m .only (sym (answer-back a) ∙ ap answerAt e); due = λ e. go (m .due e) }
+  where
+    go : Before16 a ⊎ (a ≡ Answers.Miscompare) → ((8 ≤ numberOf a) × (numberOf a ≤ 13)) ⊎ (numberOf a ≡ 16)
+    go (inl b) = inl (before-number a b)
+    go (inr b) = inr (ap numberOf b)
+
+-- EXACTLY 16, over the driver's C functions: a call on a part, whatever it is told and lent, and any sequence of replies
+pub miscompares-blocks : (g : Geometry) (array : ℕ) (a : Asked) (t : Detail) (lent : ℕ) (payload staged : List ℕ) (replies : ℕ → List ℕ)
+    → partOf array ≡ Known g → array < 2 ^ 64 → a .slot < 2 ^ 64 → a .limit < 2 ^ 64 → t .place < 2 ^ 64
+    → ExactlyTold (exchanged (stated (a .kind) (a .limit)) payload replies (begun (encodeDriver (startDriver array a t (length payload) lent)) staged))
+    (toldOf (chain (stated (a .kind) (a .limit)) payload replies (begun (encodeDriver (startDriver array a t (length payload) lent)) staged)))
+unfolding toldIn toldNumber startDriver
+miscompares-blocks g array a t lent payload staged replies p na ns nl np =
+    let d = startDriver array a t (length payload) lent in
+    let n = stated (a .kind) (a .limit) in
+    let z = W.chain n payload replies (W.begun d staged) in
+    let f = fits-start array a t (length payload) lent na ns nl np in
+    let s = start-reads array a t (length payload) lent staged f in
+    let r = chain-reads payload replies n (begun (encodeDriver d) staged) (W.begun d staged) s f in
+    subst (λ (es : List Exchange). ExactlyTold es (toldOf (chain n payload replies (begun (encodeDriver d) staged)))) (sym (exchanged-reads payload replies n (begun (encodeDriver d) staged) (W.begun d staged) s f))
+    (subst (λ (k : Driver). ExactlyTold (W.exchanged n payload replies (W.begun d staged)) (toldNumber (toldIn k))) (sym (r .block))
+    (told-answer (stageIn (z .driver)) (z .driver .verdict) (any-state-ends d payload staged replies) (λ k. ExactlyTold (W.exchanged n payload replies (W.begun d staged)) (toldNumber k))
+    (λ x e. exactly-number (W.exchanged n payload replies (W.begun d staged)) x
+    (subst (λ (m : ℕ). toldIn (W.chain m payload replies (W.begun d staged) .driver) ≡ Answered x → MiscompareExactly (W.exchanged m payload replies (W.begun d staged)) x) (bounds (a .kind) g (a .slot) (a .limit))
+    (miscompares-called g array a t lent payload staged replies p x) e))))
 
 -- EVERY BLOCK ENDS: any 72 bytes are a state that comes to an end within the bound of its call, whatever comes back
 pub any-block-ends : (block payload staged : List ℕ) (replies : ℕ → List ℕ) → ((k : ℕ) → k < length block → getD block k 0 < 256)

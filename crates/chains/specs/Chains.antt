@@ -77,6 +77,10 @@ writtenIn z = take (6 * framesIn z) (z .log)
 abbrev pub SoftNumber : ℕ → Type 0
 SoftNumber n = ((n ≡ 0) ⊎ (n ≡ 12)) ⊎ ((n ≡ 13) ⊎ (n ≡ 15))
 
+-- (14.28) of the driver's functions 16 too
+abbrev pub DataNumber : ℕ → Type 0
+DataNumber n = SoftNumber n ⊎ (n ≡ 16)
+
 -- (14.24) what is compared of two calls
 pub record SameSeen (y z : Seen) : Type 0 where
   pub written : writtenIn y ≡ writtenIn z
@@ -90,6 +94,11 @@ AllSeen [] [] = Unit {0}
 AllSeen [] (z ∷ zs) = ⊥
 AllSeen (y ∷ ys) [] = ⊥
 AllSeen (y ∷ ys) (z ∷ zs) = SameSeen y z × AllSeen ys zs
+
+-- (14.30) none of a list answers 16
+abbrev pub NoneMiscompares : List Seen → Type 0
+NoneMiscompares [] = Unit {0}
+NoneMiscompares (z ∷ zs) = (z .number ≡ 16 → ⊥) × NoneMiscompares zs
 
 -- ---- demand 2: what a get returns
 

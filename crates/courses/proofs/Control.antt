@@ -1,11 +1,11 @@
 -- What a reply does to the course, as the code has it: `last` says that the next step is the end, and a register's bits are read from the
 -- reply without its bytes being copied.
 -- Assumes nothing.
-use Prim.Native.Nat.{ℕ, _+_, _-_, _<_, _≤_}
+use Prim.Native.Nat.{ℕ, _+_, _-_, _/_, _%_, _<_, _≤_}
 use native.Mathlib.Numerals.{add-one}
 use native.Mathlib.Omega.{arith}
 use mathlib.Core.Path.{_≡_, sym, ap, _∙_}
-use mathlib.Core.Bool.{Bool, cond, not}
+use mathlib.Core.Bool.{Bool, cond, not, _&&_}
 use mathlib.Core.List.{List}
 use lib.Dec.{eqb}
 use lib.ListN.{getD}
@@ -21,7 +21,7 @@ use Rattle.slots.specs.declared.Stage.{Stage}
 use Rattle.slots.specs.declared.Stage.the-variants.{Going, Ended}
 use Rattle.slots.specs.declared.Step.{Step}
 use Rattle.slots.specs.Plans.{isEnd}
-use Rattle.slots.specs.Driver.{registerIn, heard, moved, marking, noted, courseBy}
+use Rattle.slots.specs.Driver.{registerIn, heard, moved, marking, noted, courseBy, compareIn}
 
 -- on to the next step
 pub goes-on : (c : Course) (limit : ℕ) (s : Stage) (last listed guarded : Bool) → s ≡ cond last (Ended Done) Going → (next : Step) → isEnd next ≡ last
@@ -51,3 +51,8 @@ pub by-step : (g : Geometry) {x y : Step} {last : Bool} {r : Course} (c : Course
     → ((next : Step) → isEnd next ≡ last → r ≡ courseBy y next limit c (heard g y sector reply))
     → (next : Step) → isEnd next ≡ last → r ≡ courseBy x next limit c (heard g x sector reply)
 by-step g c limit sector reply e h next l = h next l ∙ ap (λ (z : Step). courseBy z next limit c (heard g z sector reply)) (sym e)
+
+-- the compare bit by a status and what its bit 7 tells
+pub compare-by : (reply : List ℕ) {s : ℕ} {ready : Bool} → s ≡ getD reply 1 255 → eqb (s / 128 % 2) 1 ≡ ready → ready && eqb (s / 64 % 2) 1 ≡ compareIn reply
+unfolding compareIn
+compare-by reply {s} e f = (λ i. sym f i && eqb (s / 64 % 2) 1) ∙ ap (λ (x : ℕ). eqb (x / 128 % 2) 1 && eqb (x / 64 % 2) 1) e

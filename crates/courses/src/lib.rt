@@ -1,7 +1,7 @@
 // The code of the driver's control: what a reply does to the control state.
 // Internal to this repository: a caller here meets each `requires`; no entry point is in this crate.
 ghost use mathlib.Core.Path.{_≡_};
-ghost use mathlib.Core.Bool.{cond, _&&_, _||_};
+ghost use mathlib.Core.Bool.{Bool, cond, _&&_, _||_};
 ghost use Prim.Native.Nat.{_<_, _+_};
 ghost use Rattle.geometry.specs.declared.Geometry.{Geometry};
 ghost use Rattle.geometry.specs.Parts.{registerRoom};
@@ -10,7 +10,7 @@ ghost use Rattle.state.specs.declared.Answer.{Answer};
 ghost use Rattle.slots.specs.declared.Stage.{Stage};
 ghost use Rattle.slots.specs.declared.Step.{Step};
 ghost use Rattle.slots.specs.Plans.{isEnd};
-ghost use Rattle.slots.specs.Driver.{registerIn, heard, statusHeard, registerHeard, ended, moved, noted, marking, courseBy, isEnded};
+ghost use Rattle.slots.specs.Driver.{registerIn, heard, statusHeard, registerHeard, ended, moved, noted, marking, courseBy, isEnded, compareIn};
 use slots::Course;
 use slots::Stage;
 use slots::Step;
@@ -66,7 +66,7 @@ fn go_on(c: Course, last: bool, limit: usize, listed: bool, guarded: bool) -> Co
 // One poll of a wait: the status tells a foreign chip, ready, busy for the last time, or busy.
 fn poll(c: Course, last: bool, limit: usize, status: u8) -> Course
     requires { ⌜ c .place < 1000 ⌝ }
-    ensures { λ r. ⌜ ((next : Step) → isEnd next ≡ last → r ≡ courseBy Step.Wait next limit c (statusHeard status)) ⌝ }
+    ensures { λ r. ⌜ ((x : Bool) (next : Step) → isEnd next ≡ last → r ≡ courseBy (Step.Wait x) next limit c (statusHeard status)) ⌝ }
 {
     if status / 4 % 16 != 9 {
         return end_with(c, Answer::Device);
@@ -81,6 +81,17 @@ fn poll(c: Course, last: bool, limit: usize, status: u8) -> Course
     let mut n = c;
     n.left = left - 1;
     n
+}
+
+// The compare bit that a wait hands up: bit 6 of its last status, the one that tells ready.
+pub fn compare_bit(reply: &[u8]) -> bool
+    ensures { λ r. ⌜ r ≡ compareIn (now (reply .entry)) ⌝ }
+{
+    let status = slices::byte_or(reply, 1, 255);
+    if status / 128 % 2 != 1 {
+        return false;
+    }
+    status / 64 % 2 == 1
 }
 
 // Whether the sector's bits in a reply to 32 or 35 are not all 0.
@@ -132,7 +143,7 @@ pub fn take_course(
     ensures { λ r. ⌜ ((g : Geometry) → Roomed g → (next : Step) → isEnd next ≡ last → r ≡ courseBy x next limit c (heard g x sector (now (reply .entry)))) ⌝ }
 {
     match x {
-        Step::Wait => poll(c, last, limit, slices::byte_or(reply, 1, 255)),
+        Step::Wait { checked: _ } => poll(c, last, limit, slices::byte_or(reply, 1, 255)),
         Step::Protection => {
             let held = has_bits(reply, sector);
             go_on(c, last, limit, held, c.guarded)

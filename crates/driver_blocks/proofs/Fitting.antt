@@ -97,7 +97,7 @@ Short c = (c .place < 256) × (c .left < 2 ^ 64)
 
 after-short : (g : Geometry) (d : Driver) (o : Heard) → Facts g d → Fits d → Short (after g (askedOf d) (d .course) o)
 after-short g d o w h =
-    let i : d .course .place < 35 = place-few (d .kind) g (d .slot) (d .course .place) (w .step) in
+    let i : d .course .place < 51 = place-few (d .kind) g (d .slot) (d .course .place) (w .step) in
     course-cases Short (stepIn g d) (stepAt (planOf g (askedOf d)) (suc (d .course .place))) (d .limit) (d .course) o (w .step)
     (λ _ _. (h .step, h .left)) (λ _ _. (h .step, omega (arith, h .left))) (λ _ _. (omega (arith, i), h .limit))
 

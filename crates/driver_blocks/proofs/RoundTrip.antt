@@ -19,7 +19,7 @@ use Rattle.slots.specs.declared.Period.the-variants.{Always, Days}
 use Rattle.slots.specs.declared.Stage.{Stage}
 use Rattle.slots.specs.declared.Stage.the-variants.{Going, Ended}
 use Rattle.slots.specs.declared.Verdict.{Verdict}
-use Rattle.slots.specs.declared.Verdict.the-variants.{Good, Blank, Beyond, Outside}
+use Rattle.slots.specs.declared.Verdict.the-variants.{Good, Blank, Beyond, Outside, Miscompared}
 use Rattle.slots.specs.declared.Driver.{Driver}
 use Rattle.slots.proofs.Refused.{in-table}
 use Rattle.driver_blocks.specs.Block.{kindOf, verdictOf, answerAt, isKind, isOurs, stageOf, flag, periodAt, kindNumber, verdictNumber, stageNumber, endNumber, flagByte, datedNumber, firstOf, lastOf, decodeCourse, decodeAim, decodeDriver, headBytes, dayWords, encodeDriver, Fits}
@@ -38,6 +38,7 @@ verdict-back Good = refl
 verdict-back Blank = refl
 verdict-back Beyond = refl
 verdict-back Outside = refl
+verdict-back Miscompared = refl
 
 pub answer-back : (a : Answer) → answerAt (numberOf a) ≡ a
 unfolding answerAt numberOf
@@ -57,31 +58,28 @@ answer-back Answers.Blank = refl
 answer-back Answers.End = refl
 answer-back Answers.Dates = refl
 answer-back Answers.Term = refl
+answer-back Answers.Miscompare = refl
 
 -- what is written is ours
-stage-ours : (st : Stage) → (leb (stageNumber st) 1 && leb (endNumber st) 15) ≡ true
+stage-ours : (st : Stage) → (leb (stageNumber st) 1 && leb (endNumber st) 16) ≡ true
 unfolding stageNumber endNumber
 stage-ours Going = refl
-stage-ours (Ended a) = le-leb (numberOf a) 15 (in-table a)
+stage-ours (Ended a) = le-leb (numberOf a) 16 (in-table a)
 
-head-ours : (k : Kind) (v : Verdict) → (isKind (kindNumber k) && leb (verdictNumber v) 3) ≡ true
-unfolding isKind kindNumber verdictNumber
-head-ours Put Good = refl
-head-ours Put Blank = refl
-head-ours Put Beyond = refl
-head-ours Put Outside = refl
-head-ours Patch Good = refl
-head-ours Patch Blank = refl
-head-ours Patch Beyond = refl
-head-ours Patch Outside = refl
-head-ours Get Good = refl
-head-ours Get Blank = refl
-head-ours Get Beyond = refl
-head-ours Get Outside = refl
-head-ours Wipe Good = refl
-head-ours Wipe Blank = refl
-head-ours Wipe Beyond = refl
-head-ours Wipe Outside = refl
+kind-ours : (k : Kind) → isKind (kindNumber k) ≡ true
+unfolding isKind kindNumber
+kind-ours Put = refl
+kind-ours Patch = refl
+kind-ours Get = refl
+kind-ours Wipe = refl
+
+verdict-ours : (v : Verdict) → leb (verdictNumber v) 4 ≡ true
+unfolding verdictNumber
+verdict-ours Good = refl
+verdict-ours Blank = refl
+verdict-ours Beyond = refl
+verdict-ours Outside = refl
+verdict-ours Miscompared = refl
 
 stage-back : (st : Stage) → stageOf true (stageNumber st) (endNumber st) ≡ st
 unfolding stageOf stageNumber endNumber
@@ -101,7 +99,7 @@ period-back (Days m n) first last e f = λ i. Days (e i) (f i)
 -- ---- the state
 ours : (d : Driver) → isOurs (encodeDriver d) ≡ true
 unfolding isOurs encodeDriver headBytes
-ours d = λ i. head-ours (d .kind) (d .verdict) i && stage-ours (d .course .stage) i
+ours d = λ i. (kind-ours (d .kind) i && verdict-ours (d .verdict) i) && stage-ours (d .course .stage) i
 
 pub decode-encode : (d : Driver) → Fits d → decodeDriver (encodeDriver d) ≡ d
 unfolding decodeDriver decodeCourse decodeAim encodeDriver headBytes dayWords wordAt wordBytes

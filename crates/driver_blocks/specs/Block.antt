@@ -23,7 +23,7 @@ use Rattle.slots.specs.declared.Stage.the-variants.{Going, Ended}
 use Rattle.slots.specs.declared.Told.{Told}
 use Rattle.slots.specs.declared.Told.the-variants.{Running, Answered}
 use Rattle.slots.specs.declared.Verdict.{Verdict}
-use Rattle.slots.specs.declared.Verdict.the-variants.{Good, Blank, Beyond, Outside}
+use Rattle.slots.specs.declared.Verdict.the-variants.{Good, Blank, Beyond, Outside, Miscompared}
 
 -- ---- what is written
 
@@ -40,6 +40,7 @@ verdictNumber Good = 0
 verdictNumber Blank = 1
 verdictNumber Beyond = 2
 verdictNumber Outside = 3
+verdictNumber Miscompared = 4
 
 -- (13.14) going, or ended
 unfoldable pub stageNumber : Stage → ℕ
@@ -81,9 +82,9 @@ toldNumber (Answered a) = numberOf a
 unfoldable pub kindOf : ℕ → Kind
 kindOf n = cond (eqb n 0x0F) Put (cond (eqb n 0x33) Patch (cond (eqb n 0xF0) Wipe Get))
 
--- (13.14) the verdict that a byte reads as; every byte over 2 as outside the term
+-- (13.14) the verdict that a byte reads as; every byte over 3 as a page that differs
 unfoldable pub verdictOf : ℕ → Verdict
-verdictOf n = cond (eqb n 0) Good (cond (eqb n 1) Blank (cond (eqb n 2) Beyond Outside))
+verdictOf n = cond (eqb n 0) Good (cond (eqb n 1) Blank (cond (eqb n 2) Beyond (cond (eqb n 3) Outside Miscompared)))
 
 -- (13.14) the answer of a number of the table
 unfoldable pub answerAt : ℕ → Answer
@@ -103,7 +104,8 @@ answerAt n =
     (cond (eqb n 12) Answers.Blank
     (cond (eqb n 13) Answers.End
     (cond (eqb n 14) Answers.Dates
-    Answers.Term))))))))))))))
+    (cond (eqb n 15) Answers.Term
+    Answers.Miscompare)))))))))))))))
 
 -- (13.15) 0 is off, any other byte on
 abbrev pub flag : ℕ → Bool
@@ -121,7 +123,7 @@ isKind n = (eqb n 0x0F || eqb n 0x33) || (eqb n 0x55 || eqb n 0xF0)
 
 -- (13.16) a block's first four bytes are such as a state is written with: a call, a verdict, a stage and an answer
 unfoldable pub isOurs : List ℕ → Bool
-isOurs block = (isKind (getD block 0 0) && leb (getD block 1 0) 3) && (leb (getD block 2 0) 1 && leb (getD block 3 0) 15)
+isOurs block = (isKind (getD block 0 0) && leb (getD block 1 0) 4) && (leb (getD block 2 0) 1 && leb (getD block 3 0) 16)
 
 -- (13.16) going, or ended with an answer; a block that is not ours has ended with 1
 unfoldable pub stageOf : Bool → ℕ → ℕ → Stage

@@ -32,7 +32,8 @@ fn verdict(n: u8) -> Verdict
         0 => Verdict::Good,
         1 => Verdict::Blank,
         2 => Verdict::Beyond,
-        _ => Verdict::Outside,
+        3 => Verdict::Outside,
+        _ => Verdict::Miscompared,
     }
 }
 
@@ -56,7 +57,8 @@ fn answer_at(n: u8) -> Answer
         12 => Answer::Blank,
         13 => Answer::End,
         14 => Answer::Dates,
-        _ => Answer::Term,
+        15 => Answer::Term,
+        _ => Answer::Miscompare,
     }
 }
 
@@ -79,13 +81,13 @@ fn is_ours(block: &[u8; 72]) -> bool
     if !is_kind(block[0]) {
         return false;
     }
-    if 3 < block[1] {
+    if 4 < block[1] {
         return false;
     }
     if 1 < block[2] {
         return false;
     }
-    block[3] <= 15
+    block[3] <= 16
 }
 
 fn stage(ours: bool, n: u8, a: u8) -> Stage

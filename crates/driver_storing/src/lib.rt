@@ -33,6 +33,7 @@ fn verdict_number(v: Verdict) -> u8
         Verdict::Blank => 1,
         Verdict::Beyond => 2,
         Verdict::Outside => 3,
+        Verdict::Miscompared => 4,
     }
 }
 

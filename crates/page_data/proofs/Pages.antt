@@ -4,7 +4,7 @@ use Prim.Native.Nat.{ℕ, zero, suc, _+_, _-_, _*_, _/_, _%_, _<_, _≤_}
 use native.Mathlib.Nat.{mul-le-mul, mul-zero}
 use native.Mathlib.Omega.{arith}
 use mathlib.Core.Path.{_≡_, refl, sym, ap, _∙_}
-use mathlib.Core.Bool.{Bool, cond}
+use mathlib.Core.Bool.{Bool, true, false, cond}
 use mathlib.Core.List.{List, [], _∷_, _++_}
 use lib.Dec.{eqb}
 use mir.Val.{Fits}
@@ -20,7 +20,6 @@ use Rattle.slots.specs.declared.Period.{Period}
 use Rattle.slots.specs.declared.Kind.{Kind}
 use Rattle.slots.specs.declared.Kind.the-variants.{Patch}
 use Rattle.slots.specs.declared.Verdict.{Verdict}
-use Rattle.slots.specs.declared.Verdict.the-variants.{Good, Blank, Beyond, Outside}
 use Rattle.slots.specs.Records.{headSize, versionOf, headOf, versionIn, changed, image, patched}
 use Rattle.slots.specs.Driver.{Holding, storedBy, judged, readIn}
 use Rattle.records.specs.Held.{held, Pages}
@@ -99,40 +98,45 @@ image-later period recipe n start k w h =
     (λ i l. let m : start - k + i ≡ start + i - headSize (versionOf period) = omega (arith, w, head-most period) in ap (λ (j : ℕ). getD recipe j 0) m
     ∙ sym (image-byte period recipe (start + i) (omega (arith, head-most period))))
 
--- ---- a patch: the part of the bytes read that begins at `start` came back as `part`
+-- ---- a patch
 
-module _ (aim : Aim) (payload staged : List ℕ) (start size : ℕ) (fits : start + size ≤ length staged)
+-- whether it changes what it has read, as the code has it
+abbrev pub Changing : Verdict → Bool → Type 0
+Changing v b = (head place : ℕ) (bytes : List ℕ) (old i : ℕ) → cond b (patched head place bytes old i) old ≡ changed v head place bytes old i
+
+-- the part of the bytes read that begins at `start` came back as `part`
+module _ (v : Verdict) (aim : Aim) (payload staged : List ℕ) (start size : ℕ) (fits : start + size ≤ length staged)
     (part : List ℕ) (read : part ≡ take (start + size - start) (drop start staged)) where
   as-read : part ≡ tabulate size (λ i. getD staged (start + i) 0)
   as-read = read ∙ run-part start size staged ∙ sym (tabulate-part size start staged 0 fits)
 
-  -- what an 84 carries, by the verdict
-  abbrev laden : Verdict → List ℕ
-  laden v = tabulate size (λ i. storedBy Patch (held v aim payload staged) (start + i))
+  -- what an 84 carries
+  abbrev laden : List ℕ
+  laden = tabulate size (λ i. storedBy Patch (held v aim payload staged) (start + i))
 
-  -- under 12 and 13 the page stays
-  pub patch-blank : {v : Verdict} → v ≡ Blank → part ≡ laden v
-  unfolding storedBy changed
-  patch-blank e = as-read ∙ ap (λ (v : Verdict). laden v) (sym e)
+  -- a byte of it, by whether the verdict lets the patch change it
+  byte-by : {b x : Bool} → Changing v b → b ≡ x → (i : ℕ)
+      → cond x (patched (headSize (versionIn staged)) (aim .place) payload (getD staged (start + i) 0) (start + i)) (getD staged (start + i) 0)
+      ≡ storedBy Patch (held v aim payload staged) (start + i)
+  unfolding storedBy
+  byte-by h e i =
+      let old = getD staged (start + i) 0 in
+      let k = headSize (versionIn staged) in
+      ap (λ (y : Bool). cond y (patched k (aim .place) payload old (start + i)) old) (sym e) ∙ h k (aim .place) payload old (start + i)
 
-  pub patch-beyond : {v : Verdict} → v ≡ Beyond → part ≡ laden v
-  unfolding storedBy changed
-  patch-beyond e = as-read ∙ ap (λ (v : Verdict). laden v) (sym e)
+  -- the page stays
+  pub patch-kept : {b : Bool} → Changing v b → b ≡ false → part ≡ laden
+  patch-kept h e =
+      as-read ∙ tabulate-same size (λ i. getD staged (start + i) 0) (λ i. storedBy Patch (held v aim payload staged) (start + i)) (λ i l. byte-by h e i)
 
-  pub patch-outside : {v : Verdict} → v ≡ Outside → part ≡ laden v
-  unfolding storedBy changed
-  patch-outside e = as-read ∙ ap (λ (v : Verdict). laden v) (sym e)
-
-  -- else the patch is laid over it
-  pub patch-good : {v : Verdict} (head : ℕ) (ys : List ℕ) → v ≡ Good → head ≡ headSize (versionIn staged)
-      → ys ≡ tabulate (length part) (λ i. patched head (aim .place) payload (getD part i 0) (start + i)) → ys ≡ laden v
-  unfolding storedBy changed
-  patch-good head ys e w q =
+  -- or the patch is laid over it
+  pub patch-laid : {b : Bool} (head : ℕ) (ys : List ℕ) → Changing v b → b ≡ true → head ≡ headSize (versionIn staged)
+      → ys ≡ tabulate (length part) (λ i. patched head (aim .place) payload (getD part i 0) (start + i)) → ys ≡ laden
+  patch-laid head ys h e w q =
       q ∙ ap (λ (n : ℕ). tabulate n (λ i. patched head (aim .place) payload (getD part i 0) (start + i))) long
       ∙ tabulate-same size (λ i. patched head (aim .place) payload (getD part i 0) (start + i))
-      (λ i. patched (headSize (versionIn staged)) (aim .place) payload (getD staged (start + i) 0) (start + i))
-      (λ i l j. patched (w j) (aim .place) payload (byte i l j) (start + i))
-      ∙ ap (λ (v : Verdict). laden v) (sym e)
+      (λ i. storedBy Patch (held v aim payload staged) (start + i))
+      (λ i l. (λ j. patched (w j) (aim .place) payload (byte i l j) (start + i)) ∙ byte-by h e i)
     where
       long : length part ≡ size
       long = ap length as-read ∙ length-tabulate size (λ i. getD staged (start + i) 0)

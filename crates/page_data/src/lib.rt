@@ -2,10 +2,12 @@
 // Internal to this repository: a caller here meets each `requires`; no entry point is in this crate.
 ghost use mathlib.Core.Path.{_≡_};
 ghost use Prim.Native.Nat.{ℕ, _+_, _-_, _*_, _/_, _%_, _≤_, _<_};
+ghost use mathlib.Core.Bool.{cond};
+ghost use mathlib.Core.List.{List};
 ghost use lib.ListN.{length, getD, take};
 ghost use Rattle.geometry.specs.Parts.{slotRoom};
 ghost use Rattle.slices.specs.Lists.{tabulate};
-ghost use Rattle.slots.specs.Records.{headSize, versionOf, headOf, image, patched};
+ghost use Rattle.slots.specs.Records.{headSize, versionOf, headOf, image, patched, changed};
 ghost use Rattle.slots.specs.Driver.{storedBy, readIn};
 ghost use Rattle.records.specs.Held.{held, Pages};
 use geometry::Geometry;
@@ -133,6 +135,19 @@ fn lay_patch(head: usize, place: usize, bytes: &[u8], start: usize, part: &mut [
     slices::copy(&mut part[to..e], &bytes[from..f]);
 }
 
+// Whether a patch changes what it has read, by the verdict so far.
+fn is_changing(v: Verdict) -> bool
+    ensures { λ r. ⌜ ((head place : ℕ) (bytes : List ℕ) (old i : ℕ) → cond r (patched head place bytes old i) old ≡ changed v head place bytes old i) ⌝ }
+{
+    match v {
+        Verdict::Good => true,
+        Verdict::Blank => false,
+        Verdict::Beyond => false,
+        Verdict::Outside => false,
+        Verdict::Miscompared => true,
+    }
+}
+
 // The page as a patch changes it; under 12 or 13 as it was read.
 fn load_patched(
     verdict: Verdict,
@@ -147,12 +162,10 @@ fn load_patched(
 {
     let e = start + part.len();
     slices::copy(part, &staged[start..e]);
-    match verdict {
-        Verdict::Good => lay_patch(records::body_start(staged), aim.place, payload, start, part),
-        Verdict::Blank => {}
-        Verdict::Beyond => {}
-        Verdict::Outside => {}
+    if !is_changing(verdict) {
+        return;
     }
+    lay_patch(records::body_start(staged), aim.place, payload, start, part);
 }
 
 // The page that an 84 carries.

@@ -8,7 +8,7 @@ ghost use lib.ListN.{length};
 ghost use lib.Dec.{eqb, ltb};
 ghost use Rattle.slots.specs.declared.Verdict.{Verdict};
 ghost use Rattle.slots.specs.Records.{headSize, limitOf, versionOf, versionIn, lengthIn, dayIn, periodIn, isRecord, isWithin, getVerdict, patchVerdict};
-ghost use Rattle.slots.specs.Driver.{judged};
+ghost use Rattle.slots.specs.Driver.{judged, miscomparing};
 ghost use Rattle.records.specs.Held.{held, Pages};
 use geometry::Geometry;
 use slots::Aim;
@@ -182,5 +182,18 @@ pub fn judge(g: Geometry, kind: Kind, aim: Aim, payload: &[u8], bytes: &[u8]) ->
         Kind::Patch => judge_patch(g, aim.place, payload.len(), bytes),
         Kind::Get => judge_get(g, aim.today, bytes),
         Kind::Wipe => Verdict::Good,
+    }
+}
+
+// The verdict once a page differs from what was programmed: 16, but 12, 13 and 15 stand.
+pub fn miscompare(v: Verdict) -> Verdict
+    ensures { λ r. ⌜ r ≡ miscomparing v ⌝ }
+{
+    match v {
+        Verdict::Good => Verdict::Miscompared,
+        Verdict::Blank => Verdict::Blank,
+        Verdict::Beyond => Verdict::Beyond,
+        Verdict::Outside => Verdict::Outside,
+        Verdict::Miscompared => Verdict::Miscompared,
     }
 }

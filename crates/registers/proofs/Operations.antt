@@ -151,3 +151,6 @@ module _ (g : Geometry) (page : ℕ) where
 
   pub writes-block : (block : ℕ) → writes g (EraseBlock block) page ≡ eqb (page / 8) block
   writes-block block = target-block g page (EraseBlock block) block refl
+
+  pub writes-compare : (b : Buffer) (p : ℕ) → writes g (Compare b p) page ≡ false
+  writes-compare b p = target-nothing g page (Compare b p) refl

@@ -39,7 +39,7 @@ rest-more l k a n h e =
     let m : n ≡ a + (n - a) = omega arith in
     ap (λ (j : ℕ). drop j l) m ∙ sym (drop-drop (n - a) a l) ∙ ap (drop (n - a)) e ∙ drop-drop (n - a) a k ∙ ap (λ (j : ℕ). drop j k) (sym m)
 
-bound-small : (k : Kind) (limit : ℕ) → limit ≤ 1000 → stated k limit ≤ 9026
+bound-small : (k : Kind) (limit : ℕ) → limit ≤ 1000 → stated k limit ≤ 17034
 unfolding stated
 bound-small Put limit h = omega arith
 bound-small Patch limit h = omega arith

@@ -88,7 +88,7 @@ lined log f n h =
 
 poll-one : (x : Step) → cond (isWait x) 1 0 ≤ 1
 unfolding isWait
-poll-one Wait = omega arith
+poll-one (Wait c) = omega arith
 poll-one Protection = omega arith
 poll-one Lockdown = omega arith
 poll-one (Read p) = omega arith

@@ -51,8 +51,8 @@ pub record Going (g : Geometry) (t : State) (s : Session) (log : List ℕ) : Typ
   pub sound : Sound g (s .driver)
   pub going : isEnded (s .driver .course .stage) ≡ false
   pub room : 6 * s .frames + 6 ≤ length log
-  pub frames : s .frames ≤ 10000
-  pub polls : s .polls ≤ 10000
+  pub frames : s .frames ≤ 20000
+  pub polls : s .polls ≤ 20000
 
 pub record Turned (g : Geometry) (t : State) (s : Session) (payload staged script log : List ℕ) (u : State) (r : Session) (bytes lines : List ℕ) : Type 0 where
   pub shown : stepOpen g (requestOf s script) (openOf t s log) (closedOf t s payload staged) ≡ openOf u r lines

@@ -3,7 +3,7 @@
 -- Assumes nothing.
 use Prim.Native.Nat.{ℕ, zero, suc, _+_, _-_, _/_, _%_}
 use mathlib.Core.Path.{_≡_, refl, sym, ap, subst, _∙_}
-use mathlib.Core.Bool.{Bool, true, false, cond}
+use mathlib.Core.Bool.{Bool, true, false, cond, _&&_}
 use mathlib.Core.List.{List, [], _∷_}
 use lib.ListN.{length, getD}
 use lib.Dec.{eqb, lit<, lit≤}
@@ -98,7 +98,7 @@ frame-same g k h l x e = plain-same (shapeOf g x) (loaded g k h x) (loaded g k l
 control-blind : (g : Geometry) (r : Registers) (k : Kind) (h l : Holding) (x : Step)
     → control g r (frameOf g k h x) .registers ≡ control g r (frameOf g k l x) .registers
 unfolding shapeOf
-control-blind g r k h l Wait = ap (λ (f : List ℕ). control g r f .registers) (frame-same g k h l Wait refl)
+control-blind g r k h l (Wait c) = ap (λ (f : List ℕ). control g r f .registers) (frame-same g k h l (Wait c) refl)
 control-blind g r k h l Protection = ap (λ (f : List ℕ). control g r f .registers) (frame-same g k h l Protection refl)
 control-blind g r k h l Lockdown = ap (λ (f : List ℕ). control g r f .registers) (frame-same g k h l Lockdown refl)
 control-blind g r k h l (Read p) = ap (λ (f : List ℕ). control g r f .registers) (frame-same g k h l (Read p) refl)
@@ -108,29 +108,36 @@ control-blind g r k h l End = ap (λ (f : List ℕ). control g r f .registers) (
 
 -- ---- what is heard
 
--- of a status: not the compare bit, nor bit 0
-heard-bits : (b i d c : Bool) → statusHeard (cond i 0x80 0 + cond d 0x40 0 + 0x24 + cond c 0x02 0 + cond b 0x01 0)
-    ≡ record { density = true; ready = i; guarded = c; held = false }
-heard-bits true true true true = refl
-heard-bits true true true false = refl
-heard-bits true true false true = refl
-heard-bits true true false false = refl
-heard-bits true false true true = refl
-heard-bits true false true false = refl
-heard-bits true false false true = refl
-heard-bits true false false false = refl
-heard-bits false true true true = refl
-heard-bits false true true false = refl
-heard-bits false true false true = refl
-heard-bits false true false false = refl
-heard-bits false false true true = refl
-heard-bits false false true false = refl
-heard-bits false false false true = refl
-heard-bits false false false false = refl
+-- of a status control hears neither the compare bit nor bit 0; the data are handed the compare bit of one that tells ready
+abbrev bitsOf : Bool → Bool → Bool → Bool → ℕ
+bitsOf b i d c = cond i 0x80 0 + cond d 0x40 0 + 0x24 + cond c 0x02 0 + cond b 0x01 0
+
+status-bits : (b i d c : Bool) → (statusHeard (bitsOf b i d c) ≡ record { density = true; ready = i; guarded = c; held = false })
+    × ((eqb (bitsOf b i d c / 128 % 2) 1 && eqb (bitsOf b i d c / 64 % 2) 1) ≡ (i && d))
+status-bits true true true true = (refl, refl)
+status-bits true true true false = (refl, refl)
+status-bits true true false true = (refl, refl)
+status-bits true true false false = (refl, refl)
+status-bits true false true true = (refl, refl)
+status-bits true false true false = (refl, refl)
+status-bits true false false true = (refl, refl)
+status-bits true false false false = (refl, refl)
+status-bits false true true true = (refl, refl)
+status-bits false true true false = (refl, refl)
+status-bits false true false true = (refl, refl)
+status-bits false true false false = (refl, refl)
+status-bits false false true true = (refl, refl)
+status-bits false false true false = (refl, refl)
+status-bits false false false true = (refl, refl)
+status-bits false false false false = (refl, refl)
 
 pub status-heard : (g : Geometry) (i d c : Bool) → statusHeard (statusOf g i d c) ≡ record { density = true; ready = i; guarded = c; held = false }
 unfolding statusOf
-status-heard g i d c = heard-bits (g .binary) i d c
+status-heard g i d c = status-bits (g .binary) i d c .0
+
+pub status-compare : (g : Geometry) (i d c : Bool) → (eqb (statusOf g i d c / 128 % 2) 1 && eqb (statusOf g i d c / 64 % 2) 1) ≡ (i && d)
+unfolding statusOf
+status-compare g i d c = status-bits (g .binary) i d c .1
 
 poll-blind : (g : Geometry) (r : Registers) (m o : Memory)
     → statusHeard (getD (replyOf g r m (0xD7 ∷ 0 ∷ [])) 1 255) ≡ statusHeard (getD (replyOf g r o (0xD7 ∷ 0 ∷ [])) 1 255)
@@ -164,7 +171,7 @@ lockdown-blind g r m o t = reply-blind g r m o (0x35 ∷ 0 ∷ 0 ∷ 0 ∷ t) _ 
 hear-blind : (g : Geometry) (r : Registers) (k : Kind) (h l : Holding) (m o : Memory) (x : Step) (sector : ℕ)
     → heard g x sector (replyOf g r m (frameOf g k h x)) ≡ heard g x sector (replyOf g r o (frameOf g k l x))
 unfolding shapeOf frameByte tabulate heard
-hear-blind g r k h l m o Wait sector = poll-blind g r m o
+hear-blind g r k h l m o (Wait c) sector = poll-blind g r m o
 hear-blind g r k h l m o Protection sector =
     ap (heard g Protection sector)
     (ap (replyOf g r m) (frame-same g k h l Protection refl ∙ protection-form g k l) ∙ protection-blind g r m o (filler g k l Protection) ∙ ap (replyOf g r o) (sym (protection-form g k l)))

@@ -29,8 +29,8 @@ most-pages n (suc m) k c f e = most-append n (f k) (pages m (suc k) f) ∙ (λ i
 
 -- a page's frames
 unfoldable pageMost : Kind → ℕ → ℕ
-pageMost Put B = B + 2
-pageMost Patch B = B + 3
+pageMost Put B = 2 * B + 3
+pageMost Patch B = 2 * B + 4
 pageMost Get B = 1
 pageMost Wipe B = B + 1
 
@@ -97,19 +97,19 @@ waits k g slot = from k (waits-most (planBy k g slot)) (bounds k g slot 1) (boun
     from Get e f h = omega arith
     from Wipe e f h = omega arith
 
--- a place with a step lies in the plan, which has at most 35
+-- a place with a step lies in the plan, which has at most 51
 step-inside : (xs : List Step) (i : ℕ) → isEnd (stepAt xs i) ≡ false → i < length xs
 unfolding stepAt isEnd
 step-inside [] i e = never (sym e)
 step-inside (x ∷ xs) zero e = omega arith
 step-inside (x ∷ xs) (suc i) e = let r = step-inside xs i e in omega arith
 
-few-steps : (k : Kind) → framesOf k ≤ 35
+few-steps : (k : Kind) → framesOf k ≤ 51
 unfolding framesOf
 few-steps Put = omega arith
 few-steps Patch = omega arith
 few-steps Get = omega arith
 few-steps Wipe = omega arith
 
-pub place-few : (k : Kind) (g : Geometry) (slot i : ℕ) → isEnd (stepAt (planBy k g slot) i) ≡ false → i < 35
+pub place-few : (k : Kind) (g : Geometry) (slot i : ℕ) → isEnd (stepAt (planBy k g slot) i) ≡ false → i < 51
 place-few k g slot i e = omega (arith, step-inside (planBy k g slot) i e, steps k g slot, few-steps k)

@@ -7,7 +7,7 @@ use mathlib.Core.Path.{_≡_, refl, sym, ap, subst, _∙_}
 use mathlib.Core.Bool.{Bool, true, false, cond, not, _&&_, _||_}
 use mathlib.Core.List.{List, [], _∷_}
 use mathlib.Core.Logic.{_⊎_, inl, inr}
-use lib.ListN.{length}
+use lib.ListN.{length, getD}
 use lib.Dec.{eqb, leb}
 use borrow.Author.Tests.{leb-true, leb-false, eqb-true, eqb-false}
 use Rattle.slices.specs.Lists.{tabulate}
@@ -16,11 +16,12 @@ use Rattle.state.specs.declared.Answer.{Answer}
 use Rattle.state.specs.declared.Answer.the-variants as Answers
 use Rattle.state.specs.Answers.{numberOf}
 use Rattle.slots.specs.declared.Course.{Course}
+use Rattle.slots.specs.declared.Kind.{Kind}
 use Rattle.slots.specs.declared.Stage.the-variants.{Going, Ended}
 use Rattle.slots.specs.declared.Step.{Step}
 use Rattle.slots.specs.declared.Step.the-variants.{Wait, Protection, Lockdown, Read, Load, Send, End}
 use Rattle.slots.specs.Plans.{Asked, planOf, sectorFor, stepAt, isEnd, isWait}
-use Rattle.slots.specs.Driver.{Holding, shapeOf, frameByte, frameOf, heard, ended, moved, noted, marking, fewer, courseBy, takenBy, stepOf, isEnded}
+use Rattle.slots.specs.Driver.{Holding, shapeOf, frameByte, frameOf, heard, ended, moved, noted, marking, fewer, courseBy, compareIn, marred, takenBy, stepOf, isEnded}
 use Rattle.slots.specs.Exchanges.{Exchange, statusIn, guardedIn, Polled, FoundBusy, Turn, goes, stops, Polls, lost, foreign, ready, busy, again, Result, finished, stopped, isPlain, heldIn, Follows, done, waited, halted, cut, listed, shut, free, plain}
 use Rattle.slots.proofs.Places.{never, restAt, rest-step, rest-none, plan-proper}
 use Rattle.slots.proofs.Accepted.{picked}
@@ -55,6 +56,12 @@ pub busy-polls : (b : ℕ) (es : List Exchange) → 1 ≤ b → length es ≡ b 
 busy-polls b [] h l u = absurd (omega arith)
 busy-polls b (e ∷ []) h l u = let k : b ≤ 1 = omega arith in busy (u .0) k
 busy-polls b (e ∷ (f ∷ es)) h l u = let k : 1 < b = omega arith in again (u .0) k (busy-polls (b - 1) (f ∷ es) (omega arith) (omega arith) (u .1))
+
+-- a status that does not tell ready leaves the data, checked or not
+pub busy-keeps : (c : Bool) (g : Geometry) (k : Kind) (h : Holding) (reply : List ℕ) → eqb (getD reply 1 255 / 128 % 2) 1 ≡ false → takenBy (Wait c) g k h reply ≡ h
+unfolding takenBy compareIn
+busy-keeps true g k h reply e = λ i. cond (e i && eqb (getD reply 1 255 / 64 % 2) 1) (marred h) h
+busy-keeps false g k h reply e = refl
 
 -- ---- a machine that drives a plan: the calls on the chip, or the driver alone with any replies
 
@@ -104,8 +111,8 @@ module _ (g : Geometry) (a : Asked) (M : Machine g a) where
       (ap (runOn M n) z ∙ ended-stands n s e .0, picked (isEnded (M .course s .stage)) [] _ e)
 
   -- one exchange more in a wait
-  more : {b k : ℕ} {xs : List Step} {l d : Bool} {h : Holding} {e : Exchange} {es : List Exchange} {t : Result}
-      → FoundBusy e → 1 < b → Follows g a (b - 1) (Wait ∷ xs) l d h es k t → Follows g a b (Wait ∷ xs) l d h (e ∷ es) (suc k) t
+  more : {b k : ℕ} {xs : List Step} {l d x : Bool} {h : Holding} {e : Exchange} {es : List Exchange} {t : Result}
+      → FoundBusy e → 1 < b → Follows g a (b - 1) (Wait x ∷ xs) l d h es k t → Follows g a b (Wait x ∷ xs) l d h (e ∷ es) (suc k) t
   unfolding isWait isPlain
   more {b} {k} {e = e} f l (waited {k = j} {es = es} w u m) = waited (again {e = e} f l w) u (count k (length es) j m)
     where
@@ -245,18 +252,18 @@ module _ (g : Geometry) (a : Asked) (M : Machine g a) where
         go true z = cut-led x f w z
         go false z = onward-led x k f w refl (d z) (λ m t u. plain y (f .frame, eqb-false (x₁ .byte) 2 z) u)
 
-    wait-led : F Wait → Led₁
-    unfolding isWait shapeOf frameByte tabulate heard courseBy takenBy isEnded
-    wait-led f = cut? (eqb (x₁ .byte) 2) refl
+    wait-led : (x : Bool) → F (Wait x) → Led₁
+    unfolding isWait shapeOf frameByte tabulate heard courseBy isEnded
+    wait-led x f = cut? (eqb (x₁ .byte) 2) refl
       where
-        left? : FoundBusy x₁ → (b : Bool) → leb (k .left) 1 ≡ b → M .course (M .step s) ≡ cond b (ended Answers.Busy k) (fewer k) → Led₁
-        left? u true l d =
+        left? : FoundBusy x₁ → eqb (statusIn x₁ / 128 % 2) 1 ≡ false → (b : Bool) → leb (k .left) 1 ≡ b → M .course (M .step s) ≡ cond b (ended Answers.Busy k) (fewer k) → Led₁
+        left? u v true l d =
             stop-lead n s live Answers.Busy 1 (ap (λ (c : Course). c .stage) d) (f .polls) (placed f (halted (busy u (leb-true (k .left) 1 l))))
-        left? u false l d =
-            go-lead n s live (λ m. suc m) (one-more Wait f refl)
+        left? u v false l d =
+            go-lead n s live (λ m. suc m) (one-more (Wait x) f refl)
             (λ m t y. placed f (more u (leb-false (k .left) 1 l)
             (subst (λ (xs : List Step). Follows g a (k .left - 1) xs (k .listed) (k .guarded) (M .holding s) (exchangesOn M n (M .step s)) m t) (f .rest) y)))
-            (next-led (fewer k) (M .holding s) d (f .holding) (inl live))
+            (next-led (fewer k) (M .holding s) d (f .holding ∙ busy-keeps x g (a .kind) (M .holding s) (x₁ .reply) v) (inl live))
 
         heard? : Polled x₁ → (d r : Bool) → eqb (statusIn x₁ / 4 % 16) 9 ≡ d → eqb (statusIn x₁ / 128 % 2) 1 ≡ r
             → M .course (M .step s) ≡ cond (not d) (ended Answers.Device k) (cond r (moved step₁ (a .limit) (marking (guardedIn x₁) k)) (cond (leb (k .left) 1) (ended Answers.Busy k) (fewer k)))
@@ -264,11 +271,11 @@ module _ (g : Geometry) (a : Asked) (M : Machine g a) where
         heard? z false r u w d =
             stop-lead n s live Answers.Device 1 (ap (λ (c : Course). c .stage) d) (f .polls) (placed f (halted (foreign z (eqb-false (statusIn x₁ / 4 % 16) 9 u))))
         heard? z true true u w d =
-            go-lead n s live (λ m. suc m) (one-more Wait f refl)
+            go-lead n s live (λ m. suc m) (one-more (Wait x) f refl)
             (λ m t y. placed f (waited (ready z (eqb-true (statusIn x₁ / 4 % 16) 9 u) (eqb-true (statusIn x₁ / 128 % 2) 1 w)) y (omega arith)))
-            (next-led (moved step₁ (a .limit) (marking (guardedIn x₁) k)) (M .holding s) d (f .holding) (moved-fine (a .limit) (marking (guardedIn x₁) k)))
+            (next-led (moved step₁ (a .limit) (marking (guardedIn x₁) k)) (takenBy (Wait x) g (a .kind) (M .holding s) (x₁ .reply)) d (f .holding) (moved-fine (a .limit) (marking (guardedIn x₁) k)))
         heard? z true false u w d =
-            left? (z, eqb-true (statusIn x₁ / 4 % 16) 9 u, eqb-false (statusIn x₁ / 128 % 2) 1 w) (leb (k .left) 1) refl d
+            left? (z, eqb-true (statusIn x₁ / 4 % 16) 9 u, eqb-false (statusIn x₁ / 128 % 2) 1 w) w (leb (k .left) 1) refl d
 
         cut? : (y : Bool) → eqb (x₁ .byte) 2 ≡ y → Led₁
         cut? true z =
@@ -277,7 +284,7 @@ module _ (g : Geometry) (a : Asked) (M : Machine g a) where
 
     step-led : (x : Step) → F x → Led₁
     unfolding isWait isPlain isEnd heard courseBy takenBy
-    step-led Wait f = wait-led f
+    step-led (Wait c) f = wait-led c f
     step-led Protection f = go (eqb (x₁ .byte) 2) refl
       where
         go : (b : Bool) → eqb (x₁ .byte) 2 ≡ b → Led₁

@@ -1,4 +1,4 @@
--- A call programs and erases in its own slot alone, and a get nowhere: of its frames only 83 and 50 start anything, they name pages of the call's own slot,
+-- A call programs and erases in its own slot alone, and a get nowhere: of its frames only 83 and 50 start anything that writes, they name pages of the call's own slot,
 -- and a get sends neither. So every other page keeps its bytes, whatever the chip and the script; and read-back holds through calls elsewhere.
 -- Assumes nothing.
 use Prim.Native.Nat.{ℕ, zero, suc, _+_, _*_, _/_, _%_, _<_, _≤_}
@@ -21,13 +21,13 @@ use Rattle.geometry.proofs.Addresses.{address-bytes, page-address}
 use Rattle.commands.specs.declared.Buffer.the-variants.{One}
 use Rattle.commands.specs.declared.Decoded.{Decoded}
 use Rattle.commands.specs.Decode.{decodeOf}
-use Rattle.commands.proofs.Frames.{decode-program, decode-erase}
+use Rattle.commands.proofs.Frames.{decode-program, decode-erase, decode-compare}
 use Rattle.registers.specs.declared.Operation.{Operation}
-use Rattle.registers.specs.declared.Operation.the-variants.{Idle, Program, EraseBlock}
+use Rattle.registers.specs.declared.Operation.the-variants.{Idle, Program, EraseBlock, Compare}
 use Rattle.registers.specs.declared.Registers.{Registers}
 use Rattle.registers.specs.Operations.{writes}
 use Rattle.registers.specs.Protection.{sealed}
-use Rattle.registers.proofs.Operations.{writes-program, writes-block}
+use Rattle.registers.proofs.Operations.{writes-program, writes-block, writes-compare}
 use Rattle.registers.proofs.Places.{placed-known}
 use Rattle.control.specs.declared.Decision.{Decision}
 use Rattle.control.specs.Control.{control, started, startedOn, ignored, rowOf, rowDecided}
@@ -68,7 +68,7 @@ use Rattle.slots.specs.Details.{periodOf}
 
 -- a command names a page of the slot
 unfoldable inSlot : ℕ → Step → Bool
-inSlot slot Wait = true
+inSlot slot (Wait c) = true
 inSlot slot Protection = true
 inSlot slot Lockdown = true
 inSlot slot (Read p) = true
@@ -78,7 +78,7 @@ inSlot slot End = true
 
 -- no command
 unfoldable isStill : Step → Bool
-isStill Wait = true
+isStill (Wait c) = true
 isStill Protection = true
 isStill Lockdown = true
 isStill (Read p) = true
@@ -106,8 +106,8 @@ opening-in slot false = refl
 
 page-in : (k : Kind) (slot p : ℕ) → eqb (p / 8) slot ≡ true → every (inSlot slot) (pageSteps k p) ≡ true
 unfolding every inSlot pageSteps
-page-in Put slot p e = λ i. e i && true
-page-in Patch slot p e = λ i. e i && true
+page-in Put slot p e = λ i. e i && (e i && true)
+page-in Patch slot p e = λ i. e i && (e i && true)
 page-in Get slot p e = refl
 page-in Wipe slot p e = λ i. e i && true
 
@@ -145,23 +145,27 @@ module _ (g : Geometry) (first end : ℕ) where
       go false i = idle-spares g first end Idle refl
 
   -- a frame whose row starts an operation starts that operation or none
-  starts : (r : Registers) (f : List ℕ) (d : Decoded) (page : ℕ) (o : Operation) → decodeOf f ≡ d → rowOf g r f (d .lead) (d .effect) ≡ startedOn g r page o
-      → Spares g first end o → Spares g first end (startedBy g r f)
-  unfolding startedBy startedOn
-  starts r f d page o e h u = go (isIdle (r .operation)) refl
+  starts : (r : Registers) (f : List ℕ) (d : Decoded) (x : Decision) → decodeOf f ≡ d → rowOf g r f (d .lead) (d .effect) ≡ x
+      → (r .operation ≡ Idle → Spares g first end (x .registers .operation)) → Spares g first end (startedBy g r f)
+  unfolding startedBy
+  starts r f d x e h u = go (isIdle (r .operation)) refl
     where
-      row : r .operation ≡ Idle → Spares g first end (startedOn g r page o .registers .operation)
-      row i =
-          cases (λ (c : Decision). Spares g first end (c .registers .operation)) (sealed g r (sectorOf g page)) {x = ignored r} {y = started r o}
-          (idle-spares g first end (r .operation) i) u
-
       go : (b : Bool) → isIdle (r .operation) ≡ b → Spares g first end (cond b (control g r f .registers .operation) Idle)
       go true i =
           let z = idle-is (r .operation) i in
           control-cases g r f (λ c. Spares g first end (c .registers .operation)) (idle-spares g first end (r .operation) z)
           (λ _. subst (λ (c : Decoded). Spares g first end (rowOf g r f (c .lead) (c .effect) .registers .operation)) (sym e)
-          (subst (λ (c : Decision). Spares g first end (c .registers .operation)) (sym h) (row z)))
+          (subst (λ (c : Decision). Spares g first end (c .registers .operation)) (sym h) (u z)))
       go false i = idle-spares g first end Idle refl
+
+  -- a program or erase, unless its sector is sealed
+  starts-on : (r : Registers) (f : List ℕ) (d : Decoded) (page : ℕ) (o : Operation) → decodeOf f ≡ d → rowOf g r f (d .lead) (d .effect) ≡ startedOn g r page o
+      → Spares g first end o → Spares g first end (startedBy g r f)
+  unfolding startedOn
+  starts-on r f d page o e h u =
+      starts r f d (startedOn g r page o) e h
+      (λ i. cases (λ (c : Decision). Spares g first end (c .registers .operation)) (sealed g r (sectorOf g page)) {x = ignored r} {y = started r o}
+      (idle-spares g first end (r .operation) i) u)
 
   module _ (n : ℕ) (part : partOf n ≡ Known g) (r : Registers) (k : Kind) (h : Holding) where
     -- the page that an 83 or a 50 names
@@ -175,19 +179,24 @@ module _ (g : Geometry) (first end : ℕ) where
         let a = g .field * p in
         let f : List ℕ = 0x83 ∷ a / 65536 % 256 ∷ a / 256 % 256 ∷ a % 256 ∷ [] in
         let e = named 0x83 p l in
-        starts r f _ (pageAt g (addressAt f 1)) (Program One (pageAt g (addressAt f 1))) (decode-program (a / 65536 % 256) (a / 256 % 256) (a % 256) []) refl
+        starts-on r f _ (pageAt g (addressAt f 1)) (Program One (pageAt g (addressAt f 1))) (decode-program (a / 65536 % 256) (a / 256 % 256) (a % 256) []) refl
         (λ q i j. writes-program g q One (pageAt g (addressAt f 1)) ∙ ne-eqb q (pageAt g (addressAt f 1)) (λ z. far q i j (ap (λ (x : ℕ). x / 8) (z ∙ e))))
     send-spares C.Erase p l far =
         let a = g .field * p in
         let f : List ℕ = 0x50 ∷ a / 65536 % 256 ∷ a / 256 % 256 ∷ a % 256 ∷ [] in
         let e = named 0x50 p l in
-        starts r f _ (pageAt g (addressAt f 1)) (EraseBlock (pageAt g (addressAt f 1) / 8)) (decode-erase (a / 65536 % 256) (a / 256 % 256) (a % 256) []) refl
+        starts-on r f _ (pageAt g (addressAt f 1)) (EraseBlock (pageAt g (addressAt f 1) / 8)) (decode-erase (a / 65536 % 256) (a / 256 % 256) (a % 256) []) refl
         (λ q i j. writes-block g q (pageAt g (addressAt f 1) / 8) ∙ ne-eqb (q / 8) (pageAt g (addressAt f 1) / 8) (λ z. far q i j (z ∙ ap (λ (x : ℕ). x / 8) e)))
+    send-spares C.Compare p l far =
+        let a = g .field * p in
+        let f : List ℕ = 0x60 ∷ a / 65536 % 256 ∷ a / 256 % 256 ∷ a % 256 ∷ [] in
+        starts r f _ (started r (Compare One (pageAt g (addressAt f 1)))) (decode-compare (a / 65536 % 256) (a / 256 % 256) (a % 256) []) refl
+        (λ _ q i j. writes-compare g q One (pageAt g (addressAt f 1)))
 
     -- any other step starts nothing
     still-spares : (x : Step) → isEnd x ≡ false → isStill x ≡ true → Spares g first end (startedBy g r (frameOf g k h x))
     unfolding shapeOf frameByte tabulate isEnd isStill
-    still-spares Wait o e = still r (0xD7 ∷ 0 ∷ []) (status-keeps g r (0 ∷ []))
+    still-spares (Wait c) o e = still r (0xD7 ∷ 0 ∷ []) (status-keeps g r (0 ∷ []))
     still-spares Protection o e = still r (frameOf g k h Protection) (protection-registers g r k h)
     still-spares Lockdown o e = still r (frameOf g k h Lockdown) (lockdown-registers g r k h)
     still-spares (Read p) o e = still r (frameOf g k h (Read p)) (read-keeps g r k h p)
@@ -198,7 +207,7 @@ module _ (g : Geometry) (first end : ℕ) where
     step-spares : (slot : ℕ) → 8 * slot + 8 ≤ g .pages → ((q : ℕ) → first ≤ q → q < end → q / 8 ≡ slot → ⊥) → (x : Step) → isEnd x ≡ false → inSlot slot x ≡ true
         → Spares g first end (startedBy g r (frameOf g k h x))
     unfolding inSlot isStill isEnd
-    step-spares slot fits far Wait o e = still-spares Wait refl refl
+    step-spares slot fits far (Wait c) o e = still-spares (Wait c) refl refl
     step-spares slot fits far Protection o e = still-spares Protection refl refl
     step-spares slot fits far Lockdown o e = still-spares Lockdown refl refl
     step-spares slot fits far (Read p) o e = still-spares (Read p) refl refl

@@ -26,9 +26,9 @@ use Rattle.slots.proofs.Planned.{frames-as-planned}
 
 -- ---- frames that are no polls
 
-long : (g : Geometry) (x : Step) → isWait x ≡ false → isEnd x ≡ false → 3 ≤ shapeOf g x .length
+pub long : (g : Geometry) (x : Step) → isWait x ≡ false → isEnd x ≡ false → 3 ≤ shapeOf g x .length
 unfolding shapeOf isWait isEnd
-long g Wait w e = never (sym w)
+long g (Wait c) w e = never (sym w)
 long g Protection w e = omega arith
 long g Lockdown w e = omega arith
 long g (Read p) w e = omega arith
@@ -40,9 +40,9 @@ no-poll : (g : Geometry) (k : Kind) (h : Holding) (x : Step) → isWait x ≡ fa
 no-poll g k h x w e q =
     omega (arith, long g x w e, length-tabulate (shapeOf g x .length) (frameByte (shapeOf g x) (loaded g k h x)), ap length q)
 
-plain-no-wait : (x : Step) → isPlain x ≡ true → (isWait x ≡ false) × (isEnd x ≡ false)
+pub plain-no-wait : (x : Step) → isPlain x ≡ true → (isWait x ≡ false) × (isEnd x ≡ false)
 unfolding isPlain isWait isEnd
-plain-no-wait Wait e = never e
+plain-no-wait (Wait c) e = never e
 plain-no-wait Protection e = never e
 plain-no-wait Lockdown e = never e
 plain-no-wait (Read p) e = (refl, refl)

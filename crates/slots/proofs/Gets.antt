@@ -60,7 +60,7 @@ module _ (g : Geometry) (slot today : ℕ) (b : ℕ → ℕ) where
 
   -- a wait, then D2 for the pages in order
   data Lawful : Know → List Step → Type 0 where
-    opens : {xs : List Step} → Lawful (reading first) xs → Lawful cold (Wait ∷ xs)
+    opens : {xs : List Step} → Lawful (reading first) xs → Lawful cold (Wait false ∷ xs)
     reads : {p : ℕ} {xs : List Step} → first ≤ p → p < end → Lawful (reading (suc p)) xs → Lawful (reading p) (Read p ∷ xs)
     finish : Lawful (reading end) []
 
@@ -129,7 +129,7 @@ module _ (g : Geometry) (slot today : ℕ) (b : ℕ → ℕ) where
     turned : {x : Step} {k : Know} (S : ℕ) → isEnd x ≡ false → restAt plan (c .place) ≡ x ∷ restAt plan (suc (c .place)) → Lawful k (x ∷ restAt plan (suc (c .place)))
         → Holds k (c .listed) (c .guarded) r m h → Turned facts g Get S limit plan c r m h x
     unfolding heard courseBy takenBy
-    turned S some o (opens l) v = wait-next facts g Get S limit plan c r m h cold (reading first) live o (opens l) v l (λ y. (v .0, y, v .1))
+    turned S some o (opens l) v = wait-next facts g Get S limit plan c r m h false cold (reading first) live o (opens l) v l (λ y. (v .0, y, v .1)) refl
     turned S some o (reads {p} i j l) v =
         let k = v .0 in
         let page = tabulate (g .size) (λ i. getD (replyOf g r m (frameOf g Get h (Read p))) (8 + i) 255) in

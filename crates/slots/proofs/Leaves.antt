@@ -43,7 +43,7 @@ use Rattle.slots.specs.Leaves.{slotByte, verdictFor, leftIn, Leaves}
 use Rattle.slots.proofs.Steady.{array-steady, ran-keeps}
 use Rattle.slots.proofs.Accepted.{accepted}
 use Rattle.slots.proofs.Listed.{EndsWell, ends-well}
-use Rattle.slots.proofs.Kept.{idle-spares}
+use Rattle.slots.proofs.Kept.{idle-spares, end-kept}
 use Rattle.slots.proofs.Stores.{Writer, Wrote, Lawful, cold, call-stores}
 use Rattle.slots.proofs.Written.{putWriter, put-lawful, patchWriter, patch-lawful, wipeWriter, wipe-lawful}
 use Rattle.slots.proofs.Gets.{call-reads}
@@ -227,7 +227,7 @@ module _ (g : Geometry) (slot limit : ℕ) (detail : Detail) (payload junk log l
   leaves-by Patch u e =
       let one : 1 ≤ g .size = omega (arith, sizes .some) in
       let place = detail .place in
-      let w = stored Patch u e (patchWriter g slot place payload old one) (patch-lawful g slot place payload old one (fits Patch u e) (few Patch u e)) (slot-kept g slot s k (u .ready .0) (fits Patch u e))
+      let w = stored Patch u e (patchWriter g slot place payload old one) (patch-lawful g slot place payload old one (fits Patch u e) (few Patch u e)) (end-kept (slot-kept g slot s k (u .ready .0) (fits Patch u e)) .bytes)
       (record { payload = refl; places = refl; verdict = λ f. absurd (f refl); version = λ f. absurd (f refl); room = omega (arith, sizes .most, length-replicate {A = ℕ} slotRoom 0) }) in
       record {
         answer = answer-is Patch u e ∙ ap verdictAnswer (w .fresh .verdict (λ f. absurd (omega (arith, f))));

@@ -5,8 +5,6 @@ pub mod Accepted
 pub mod Counts
 pub mod Bound
 pub mod Blind
-pub mod TwoRuns
-pub mod SameJunk
 pub mod Refused
 pub mod Driven
 pub mod Planned
@@ -14,6 +12,7 @@ pub mod Sent
 pub mod Exactly
 pub mod Listed
 pub mod Verdicts
+pub mod Miscompare
 pub mod Kept
 pub mod Track
 pub mod Stores
@@ -24,3 +23,6 @@ pub mod Gets
 pub mod ReadBack
 pub mod Elsewhere
 pub mod Leaves
+pub mod Never
+pub mod TwoRuns
+pub mod SameJunk

@@ -96,7 +96,7 @@ module _ (g : Geometry) (full : Roomed g) (r : Registers) (y : Ready r) (n : Len
     -- where 10 is tested the sector is not sealed, by what was noted before
     abbrev Sound : Bool → Bool → List Step → Type 0
     Sound l d [] = Unit {0}
-    Sound l d (Wait ∷ xs) = Sound l (guarded r) xs
+    Sound l d (Wait c ∷ xs) = Sound l (guarded r) xs
     Sound l d (Protection ∷ xs) = Sound (hasBits g (r .protection) S) d xs
     Sound l d (Lockdown ∷ xs) = ((hasBits g (r .lockdown) S || (l && d)) ≡ false) × Sound l d xs
     Sound l d (Read p ∷ xs) = Sound l d xs
@@ -107,7 +107,7 @@ module _ (g : Geometry) (full : Roomed g) (r : Registers) (y : Ready r) (n : Len
     sound-free : (l d : Bool) (xs : List Step) → every isFree xs ≡ true → Sound l d xs
     unfolding every isFree
     sound-free l d [] e = tt
-    sound-free l d (Wait ∷ xs) e = sound-free l (guarded r) xs e
+    sound-free l d (Wait c ∷ xs) e = sound-free l (guarded r) xs e
     sound-free l d (Protection ∷ xs) e = sound-free (hasBits g (r .protection) S) d xs e
     sound-free l d (Lockdown ∷ xs) e = never e
     sound-free l d (Read p ∷ xs) e = sound-free l d xs e
@@ -124,7 +124,7 @@ module _ (g : Geometry) (full : Roomed g) (r : Registers) (y : Ready r) (n : Len
 
     plain-sound : (x : Step) (xs : List Step) (l d : Bool) → isPlain x ≡ true → Sound l d (x ∷ xs) → Sound l d xs
     unfolding isPlain
-    plain-sound Wait xs l d e u = never e
+    plain-sound (Wait c) xs l d e u = never e
     plain-sound Protection xs l d e u = never e
     plain-sound Lockdown xs l d e u = never e
     plain-sound (Read p) xs l d e u = u
@@ -134,7 +134,7 @@ module _ (g : Geometry) (full : Roomed g) (r : Registers) (y : Ready r) (n : Len
 
     plain-wait : (x : Step) → isPlain x ≡ true → isWait x ≡ false
     unfolding isPlain isWait
-    plain-wait Wait e = never e
+    plain-wait (Wait c) e = never e
     plain-wait Protection e = refl
     plain-wait Lockdown e = refl
     plain-wait (Read p) e = refl
@@ -185,7 +185,7 @@ module _ (g : Geometry) (full : Roomed g) (r : Registers) (y : Ready r) (n : Len
   -- once its busy end has come, a step's frame has left the registers
   returns : (k : Kind) (h : Holding) (x : Step) → isEnd x ≡ false → completed g (control g r (frameOf g k h x) .registers) ≡ r
   unfolding shapeOf frameByte tabulate isEnd
-  returns k h Wait e = ap (completed g) (status-keeps g r (0 ∷ [])) ∙ completed-idle g r (y .0)
+  returns k h (Wait c) e = ap (completed g) (status-keeps g r (0 ∷ [])) ∙ completed-idle g r (y .0)
   returns k h Protection e = ap (completed g) (protection-registers g r k h) ∙ completed-idle g r (y .0)
   returns k h Lockdown e = ap (completed g) (lockdown-registers g r k h) ∙ completed-idle g r (y .0)
   returns k h (Read p) e = ap (completed g) (read-keeps g r k h p) ∙ completed-idle g r (y .0)

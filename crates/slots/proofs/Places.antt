@@ -118,7 +118,7 @@ Stops a = (7 < numberOf a) × (numberOf a < 12)
 pub course-ways : (Q : Course → Type 0) (x next : Step) (limit : ℕ) (c : Course) (o : Heard) → (isEnd x ≡ true → Q c) → ((a : Answer) → Stops a → Q (ended a c))
     → (isWait x ≡ true → 1 < c .left → Q (fewer c)) → ((l d : Bool) → Q (onward next limit l d c)) → Q (courseBy x next limit c o)
 unfolding courseBy isEnd isWait numberOf
-course-ways Q Wait next limit c o e u v w =
+course-ways Q (Wait x) next limit c o e u v w =
     cases Q (not (o .density)) (u Answers.Device (lit< tt, lit< tt))
     (cases Q (o .ready) (w (c .listed) (o .guarded))
     (known Q (leb (c .left) _) (λ _. u Answers.Busy (lit< tt, lit< tt)) (λ h. v refl (omega (arith, leb-false (c .left) _ h)))))

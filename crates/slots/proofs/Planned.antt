@@ -208,7 +208,7 @@ polls-halts (P.again f l w) = polls-halts w
 
 -- a step after which 10 is not tested
 unfoldable pub isFree : Step → Bool
-isFree Wait = true
+isFree (Wait c) = true
 isFree Protection = true
 isFree Lockdown = false
 isFree (Read p) = true

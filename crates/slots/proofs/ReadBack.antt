@@ -30,7 +30,7 @@ use Rattle.slots.specs.declared.Kind.the-variants.{Put, Patch, Get}
 use Rattle.slots.specs.declared.Stage.{Stage}
 use Rattle.slots.specs.declared.Stage.the-variants.{Going, Ended}
 use Rattle.slots.specs.declared.Verdict.{Verdict}
-use Rattle.slots.specs.declared.Verdict.the-variants.{Good, Blank, Beyond, Outside}
+use Rattle.slots.specs.declared.Verdict.the-variants.{Good, Blank, Beyond, Outside, Miscompared}
 use Rattle.state.specs.Outcomes.{partIn, cutState}
 use Rattle.state.specs.Whole.{Whole}
 use Rattle.slots.specs.Plans.{bound, isAsking, pageSteps, planBy, Asked}
@@ -49,7 +49,7 @@ use Rattle.slots.proofs.Refused.{refused-call}
 use Rattle.slots.proofs.Driven.{Ends}
 use Rattle.slots.proofs.Planned.{comes, onChip, isFree, Halts, ResultHalts, free-halts}
 use Rattle.slots.proofs.Planned as H
-use Rattle.slots.proofs.Kept.{idle-spares, list-kept}
+use Rattle.slots.proofs.Kept.{idle-spares, end-kept, list-kept}
 use Rattle.slots.proofs.Stores.{Writer, Wrote, call-stores}
 use Rattle.slots.proofs.Written.{putWriter, put-lawful, patchWriter, patch-lawful}
 use Rattle.slots.proofs.Gets.{call-reads}
@@ -83,6 +83,7 @@ zero-done Answers.Blank e = never e
 zero-done Answers.End e = never e
 zero-done Answers.Dates e = never e
 zero-done Answers.Term e = never e
+zero-done Answers.Miscompare e = never e
 
 good-is : (v : Verdict) → verdictAnswer v ≡ Answers.Done → v ≡ Good
 unfolding verdictAnswer
@@ -90,6 +91,7 @@ good-is Good e = refl
 good-is Blank e = let z : _≡_ {A = ℕ} 0 1 = cc in absurd (omega arith)
 good-is Beyond e = let z : _≡_ {A = ℕ} 0 1 = cc in absurd (omega arith)
 good-is Outside e = let z : _≡_ {A = ℕ} 0 1 = cc in absurd (omega arith)
+good-is Miscompared e = let z : _≡_ {A = ℕ} 0 1 = cc in absurd (omega arith)
 
 -- 0 is the plan's end, and a good verdict
 pub answer-done : (t : Stage) (v : Verdict) → answerIn (toldBy t v) ≡ Answers.Done → (t ≡ Ended Answers.Done) × (v ≡ Good)
@@ -217,7 +219,7 @@ late-refuses g n lg least sc junk =
     let Q : Answer → Type 0 = λ a. eqb (numberOf a) 0 ≡ false → Refuses a in
     cases Q (ltb lg least) (λ _. log) (cases Q (badScript g n sc junk) (λ _. script) (λ (e : true ≡ false). never (sym e)))
 
-refusal-refuses : (g : Geometry) (n : ℕ) (v : Request) → eqb (numberOf (refusalOf g n v)) 0 ≡ false → Refuses (refusalOf g n v)
+pub refusal-refuses : (g : Geometry) (n : ℕ) (v : Request) → eqb (numberOf (refusalOf g n v)) 0 ≡ false → Refuses (refusalOf g n v)
 unfolding callRefusal orElse
 refusal-refuses g n v = go (eqb (numberOf (earlyRefusal g (v .asked) (v .flaws))) 0) refl
   where
@@ -349,7 +351,7 @@ patch-holds sl lim place sc bytes junk lg period recipe s w u d =
     let old = image period recipe in
     let one : 1 ≤ g .size = omega (arith, some) in
     let W = patchWriter g sl place bytes old one in
-    let k = call-stores g v W x s (u .kept .part) (whole-room g n s z w) e (a .fits) few (patch-lawful g sl place bytes old one (a .fits) few) (u .kept)
+    let k = call-stores g v W x s (u .kept .part) (whole-room g n s z w) e (a .fits) few (patch-lawful g sl place bytes old one (a .fits) few) (end-kept (u .kept) .bytes)
     (record { payload = refl; places = refl; verdict = λ f. absurd (f refl); version = λ f. absurd (f refl); room = omega (arith, z .most, length-replicate {A = ℕ} slotRoom 0) }) (done-stage g v x s h .0) in
     let good : patchVerdict g (place + length bytes) (pageIn g old 0) ≡ Good = sym (k .fresh .verdict (λ f. absurd (omega (arith, f)))) ∙ done-stage g v x s h .1 in
     let within : place + length bytes ≤ length recipe =

@@ -21,7 +21,7 @@ use Rattle.slots.specs.declared.Kind.{Kind}
 use Rattle.slots.specs.declared.Stage.{Stage}
 use Rattle.slots.specs.declared.Stage.the-variants.{Going, Ended}
 use Rattle.slots.specs.declared.Verdict.{Verdict}
-use Rattle.slots.specs.declared.Verdict.the-variants.{Good, Blank, Beyond, Outside}
+use Rattle.slots.specs.declared.Verdict.the-variants.{Good, Blank, Beyond, Outside, Miscompared}
 use Rattle.state.specs.Memory.{State}
 use Rattle.slots.specs.Plans.{planOf, stepAt, isEnd, bound}
 use Rattle.slots.specs.Driver.{isEnded, verdictAnswer, weighed, toldBy}
@@ -34,7 +34,7 @@ use Rattle.slots.proofs.Accepted.{run-ended}
 use native.Mathlib.Omega.{arith}
 
 -- every answer is a number of the table
-pub in-table : (a : Answer) → numberOf a ≤ 15
+pub in-table : (a : Answer) → numberOf a ≤ 16
 unfolding numberOf
 in-table Answers.Done = lit≤ tt
 in-table Answers.Part = lit≤ tt
@@ -52,6 +52,7 @@ in-table Answers.Blank = lit≤ tt
 in-table Answers.End = lit≤ tt
 in-table Answers.Dates = lit≤ tt
 in-table Answers.Term = lit≤ tt
+in-table Answers.Miscompare = lit≤ tt
 
 -- ---- a refused call
 
@@ -157,6 +158,7 @@ verdict-late Good = refl
 verdict-late Blank = refl
 verdict-late Beyond = refl
 verdict-late Outside = refl
+verdict-late Miscompared = refl
 
 answer-late : (t : Stage) (v : Verdict) → Late t → isRefusal (answerIn (toldBy t v)) ≡ false
 unfolding answerIn toldBy weighed numberOf

@@ -18,7 +18,8 @@ use Rattle.control.specs.Control.{control}
 use Rattle.control.specs.PowerLoss.{reaching}
 use Rattle.state.specs.Answers.{numberOf}
 use Rattle.slots.specs.declared.Kind.the-variants.{Put}
-use Rattle.state.specs.Memory.{State}
+use Rattle.state.specs.Memory.{State, chipIn}
+use Rattle.state.specs.Whole.{Whole}
 use Rattle.state.specs.Outcomes.{partIn, cutFits}
 use Rattle.slots.specs.Records.{slotSize, limitOf, headSize, versionOf}
 use Rattle.slots.specs.Refusals.{isOver, isMisdated}
@@ -83,8 +84,8 @@ alike-lists (o ∷ os) (u ∷ us) s t h a =
     let z = alike o u s t h (a .0) (a .1) (a .2) (a .3) in
     (z, alike-lists os us (nextOf o s) (nextOf u t) (next-twins o u s t h z) (a .4))
 
-pub two-runs-same-junk : (os us : List Op) (s t : State) → Twins s t → SameJunk os us → AllSame (runList os s) (runList us t)
-two-runs-same-junk os us s t h a = two-runs os us s t h (alike-lists os us s t h a)
+pub two-runs-same-junk : (os us : List Op) (s t : State) → Whole (chipIn s) → Whole (chipIn t) → Twins s t → SameJunk os us → AllSame (runList os s) (runList us t)
+two-runs-same-junk os us s t w z h a = two-runs os us s t w z h (alike-lists os us s t h a)
 
 -- ---- an example
 
@@ -100,11 +101,11 @@ spring = Between (record { year = 2027; month = 3; day = 1 }) (record { year = 2
 
 -- a recipe of 1 byte without a term, and one of 2,000 bytes for the spring of 2027, put by alike calls on any two chips that are alike: the same outlines,
 -- counts and answers
-pub example : (log log' : List ℕ) → length log ≡ length log' → (s t : State) → Twins s t
+pub example : (log log' : List ℕ) → length log ≡ length log' → (s t : State) → Whole (chipIn s) → Whole (chipIn t) → Twins s t
     → AllSame (runList (put 3 1 Unlimited [] (7 ∷ []) [] log ∷ busyEnd ∷ []) s) (runList (put 3 1 spring [] (replicate 2000 9) [] log' ∷ busyEnd ∷ []) t)
 unfolding oversize misdated isOver isMisdated isTerm isDate dayOf dayNumber daysOfYears daysOfMonths daysInYear daysInMonth isLeap periodOf versionOf junkIn limitOf slotSize headSize
-example log log' l s t h =
-    two-runs-same-junk _ _ s t h (
+example log log' l s t w z h =
+    two-runs-same-junk _ _ s t w z h (
       calls (asking Put 3 1) [] refl l refl,
       both-fit,
       refl,

@@ -3,7 +3,7 @@
 -- Assumes nothing.
 use Prim.Native.Nat.{ℕ, zero, suc, _+_, _-_, _*_, _/_, _%_, _≤_, _<_}
 use mathlib.Core.Path.{_≡_, refl, sym, ap, subst, _∙_}
-use mathlib.Core.Bool.{Bool, true, false, cond, not}
+use mathlib.Core.Bool.{Bool, true, false, cond, not, _&&_}
 use mathlib.Core.List.{List, [], _∷_}
 use mathlib.Core.Logic.{_⊎_, inl, inr}
 use native.Mathlib.Nat.{mul-lt-mul-of-pos-left}
@@ -36,7 +36,7 @@ use Rattle.commands.specs.declared.Decoded.{Decoded}
 use Rattle.commands.specs.declared.Effect.{Effect}
 use Rattle.commands.specs.declared.Effect.the-variants as E
 use Rattle.commands.specs.Decode.{decodeOf}
-use Rattle.commands.proofs.Frames.{decode-program, decode-erase}
+use Rattle.commands.proofs.Frames.{decode-program, decode-erase, decode-compare}
 use Rattle.registers.specs.declared.Operation.{Operation}
 use Rattle.registers.specs.declared.Operation.the-variants as O
 use Rattle.control.specs.declared.Decision.{Decision}
@@ -55,8 +55,8 @@ use Rattle.slots.specs.declared.Command.{Command}
 use Rattle.slots.specs.declared.Command.the-variants as C
 use Rattle.slots.specs.declared.Step.{Step}
 use Rattle.slots.specs.declared.Step.the-variants.{Wait, Protection, Lockdown, Read, Load, Send}
-use Rattle.slots.specs.Driver.{Heard, Shape, Holding, opcodeOf, shapeOf, frameByte, loaded, frameOf, statusHeard, registerIn, ended, moved, marking, fewer, courseBy}
-use Rattle.slots.proofs.Blind.{status-heard, filler, protection-form, lockdown-form}
+use Rattle.slots.specs.Driver.{Heard, Shape, Holding, opcodeOf, shapeOf, frameByte, loaded, frameOf, statusHeard, registerIn, ended, moved, marking, fewer, courseBy, compareIn}
+use Rattle.slots.proofs.Blind.{status-heard, status-compare, filler, protection-form, lockdown-form}
 use Rattle.slots.proofs.Parts.{cases}
 
 -- ---- addresses
@@ -135,6 +135,7 @@ page-told g r m k h p y e l =
 unfoldable pub operationOf : Command → ℕ → Operation
 operationOf C.Program p = O.Program One p
 operationOf C.Erase p = O.EraseBlock (p / 8)
+operationOf C.Compare p = O.Compare One p
 
 -- on an idle, awake chip it starts its operation, or is ignored where the sector is sealed
 abbrev pub Starts : Geometry → Registers → ℕ → Command → Decision → Type 0
@@ -163,6 +164,8 @@ module _ (g : Geometry) (r : Registers) (k : Kind) (h : Holding) (p : ℕ) (y : 
   send-starts C.Erase =
       subst (λ (d : Decision). Starts g r (named C.Erase) C.Erase d) (sym (by-row (frameOf g k h (Send C.Erase p)) 4 E.EraseBlock (decode-erase _ _ _ [])))
       (starts-on g r (named C.Erase) (O.EraseBlock (named C.Erase / 8)))
+  send-starts C.Compare =
+      subst (λ (d : Decision). Starts g r (named C.Compare) C.Compare d) (sym (by-row (frameOf g k h (Send C.Compare p)) 4 (E.Compare One) (decode-compare _ _ _ []))) (inl refl)
 
   -- the page is named by its address
   pub send-named : (n : ℕ) (c : Command) → partOf n ≡ Known g → Sized g n → p < g .pages → named c ≡ p
@@ -186,6 +189,7 @@ module _ (g : Geometry) (r : Registers) (k : Kind) (h : Holding) (p : ℕ) (y : 
       back : (c : Command) (q : ℕ) → completed g (withOperation r (operationOf c q)) ≡ withOperation r O.Idle
       back C.Program q = refl
       back C.Erase q = refl
+      back C.Compare q = refl
 
       go : Starts g r (named c) c (control g r (frameOf g k h (Send c p))) → completed g (control g r (frameOf g k h (Send c p)) .registers) ≡ r
       go (inl e) = ap (λ (d : Decision). completed g (d .registers)) e ∙ back c (named c) ∙ λ i. withOperation r (sym (y .0) i)
@@ -198,14 +202,14 @@ abbrev pub pollHeard : Geometry → Registers → Memory → Heard
 pollHeard g r m = statusHeard (getD (replyOf g r m (0xD7 ∷ 0 ∷ [])) 1 255)
 
 -- a poll of a wait: 8, 9, once more, or ready, and then the chip is idle and awake
-pub waits : (Q : Course → Type 0) (next : Step) (limit : ℕ) (c : Course) (g : Geometry) (r : Registers) (m : Memory)
+pub waits : (Q : Course → Type 0) (x : Bool) (next : Step) (limit : ℕ) (c : Course) (g : Geometry) (r : Registers) (m : Memory)
     → Q (ended Answers.Device c) → Q (ended Answers.Busy c) → Q (fewer c) → (Ready r → Q (moved next limit (marking (guarded r) c)))
-    → Q (courseBy Wait next limit c (pollHeard g r m))
+    → Q (courseBy (Wait x) next limit c (pollHeard g r m))
 unfolding courseBy
-waits Q next limit c g r m eight nine again ready = deep (r .deep) refl
+waits Q x next limit c g r m eight nine again ready = deep (r .deep) refl
   where
     heard : Heard → Type 0
-    heard o = Q (courseBy Wait next limit c o)
+    heard o = Q (courseBy (Wait x) next limit c o)
 
     awake : (b : Bool) → isIdle (r .operation) ≡ b → r .deep ≡ false → heard (record { density = true; ready = b; guarded = guarded r; held = false })
     awake true e d = ready (idle-is (r .operation) e, d)
@@ -216,6 +220,13 @@ waits Q next limit c g r m eight nine again ready = deep (r .deep) refl
     deep false e =
         subst heard (sym (ap statusHeard (status-byte g r m (0 ∷ []) 1 255 e (lit≤ tt) (lit< tt)) ∙ status-heard g (isIdle (r .operation)) (m .compare) (guarded r)))
         (awake (isIdle (r .operation)) refl e)
+
+-- the compare bit that a poll of an awake chip hands up: none while it is busy
+pub poll-compare : (g : Geometry) (r : Registers) (m : Memory) → r .deep ≡ false → compareIn (replyOf g r m (0xD7 ∷ 0 ∷ [])) ≡ (isIdle (r .operation) && m .compare)
+unfolding compareIn
+poll-compare g r m e =
+    (λ i. eqb (status-byte g r m (0 ∷ []) 1 255 e (lit≤ tt) (lit< tt) i / 128 % 2) 1 && eqb (status-byte g r m (0 ∷ []) 1 255 e (lit≤ tt) (lit< tt) i / 64 % 2) 1)
+    ∙ status-compare g (isIdle (r .operation)) (m .compare) (guarded r)
 
 -- ---- 32 and 35
 

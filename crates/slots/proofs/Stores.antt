@@ -1,5 +1,6 @@
 -- A put, patch or wipe that comes to its end has written its slot: after a ready status the chip is idle and awake, a sector that the driver takes for
--- open is open, so each 84 and 83, or the 50, is obeyed; and the next ready status tells that it has ended.
+-- open is open, so each 84 and 83, or the 50, is obeyed; and the next ready status tells that it has ended. The 60 then finds page and buffer
+-- alike, so that the wait after it hands up no compare bit.
 -- Assumes nothing.
 use Prim.Native.Nat.{ℕ, zero, suc, _+_, _-_, _*_, _/_, _%_, _<_, _≤_}
 use native.Mathlib.Omega.{arith}
@@ -35,7 +36,7 @@ use Rattle.state.specs.Memory.{Memory, State}
 use Rattle.state.specs.Frames.{isIdle, replyOf, sentMemory}
 use Rattle.state.specs.Completion.{completedMemory}
 use Rattle.state.proofs.Lengths.{sent-array}
-use Rattle.state.proofs.Loads.{protection-memory, lockdown-memory, load-first, program-page, program-other, erase-block-array}
+use Rattle.state.proofs.Loads.{protection-memory, lockdown-memory, load-first, program-page, program-other, program-rest, compare-same, compare-rest, erase-block-array}
 use Rattle.slots.specs.declared.Course.{Course}
 use Rattle.slots.specs.declared.Kind.{Kind}
 use Rattle.slots.specs.declared.Command.the-variants as C
@@ -44,26 +45,26 @@ use Rattle.slots.specs.declared.Step.{Step}
 use Rattle.slots.specs.declared.Step.the-variants.{Wait, Protection, Lockdown, Read, Load, Send}
 use Rattle.state.specs.Outcomes.{partIn}
 use Rattle.slots.specs.Plans.{pages, planOf, bound, stepAt, isEnd}
-use Rattle.slots.specs.Driver.{Holding, shapeOf, frameByte, frameOf, storedBy, loaded, registerIn, heard, moved, noted, courseBy, readIn, takenBy, isEnded}
+use Rattle.slots.specs.Driver.{Holding, shapeOf, frameByte, frameOf, storedBy, loaded, registerIn, heard, moved, noted, courseBy, readIn, marred, takenBy, isEnded}
 use Rattle.slots.specs.Calls.{Request, Secret, Open, Closed, firstCourse, refusalOf, startOpen, startClosed, ran}
 use Rattle.slots.specs.Quiet.{pageIn}
 use Rattle.slots.proofs.Places.{never, known, restAt, rest-zero, rest-first}
 use Rattle.slots.proofs.Blind.{load-registers, filler, protection-form, lockdown-form, protection-registers, lockdown-registers}
 use Rattle.slots.proofs.Bound.{begin-ok}
-use Rattle.slots.proofs.Sent.{read-keeps, read-memory, load-form, page-told, operationOf, protection-free, lockdown-free}
+use Rattle.slots.proofs.Sent.{read-keeps, read-memory, load-form, page-told, operationOf, poll-compare, protection-free, lockdown-free}
 use Rattle.slots.proofs.Steady.{Steady, array-steady, buffer-steady, both-steady}
 use Rattle.slots.proofs.Track.{Facts, Next, Turned, idle-stays, stop, carry, wait-next, sent-next, run-tracked}
 
 -- ---- sealed or not
 
+and-none : (b : Bool) → (b && false) ≡ false
+and-none true = refl
+and-none false = refl
+
 free : (g : Geometry) (r : Registers) (s : ℕ) → hasBits g (r .lockdown) s ≡ false → (hasBits g (r .protection) s ≡ false) ⊎ (guarded r ≡ false) → sealed g r s ≡ false
 unfolding sealed
 free g r s e (inl f) = λ i. e i || (f i && guarded r)
 free g r s e (inr f) = (λ i. e i || (hasBits g (r .protection) s && f i)) ∙ and-none (hasBits g (r .protection) s)
-  where
-    and-none : (b : Bool) → (b && false) ≡ false
-    and-none true = refl
-    and-none false = refl
 
 neither : (a b c : Bool) → (a || (b && c)) ≡ false → (a ≡ false) × ((b ≡ false) ⊎ (c ≡ false))
 neither true b c e = never (sym e)
@@ -110,6 +111,8 @@ pub data Know : Type 0 where
   filled : (p : ℕ) → Know
   buffered : (p : ℕ) → Know
   wrote : (p : ℕ) → Know
+  written : (p : ℕ) → Know
+  compared : (p : ℕ) → Know
   erased : Know
 
 module _ (g : Geometry) (K : Kind) (slot : ℕ) (W : Writer g K slot) (fits : 8 * slot + 8 ≤ g .pages) (few : Sized g (g .pages * g .size)) where
@@ -130,17 +133,19 @@ module _ (g : Geometry) (K : Kind) (slot : ℕ) (W : Writer g K slot) (fits : 8 
 
   -- plans that write their pages in order, or erase them at once
   pub data Lawful : Know → List Step → Type 0 where
-    opens : {xs : List Step} → Lawful opened xs → Lawful cold (Wait ∷ xs)
+    opens : {xs : List Step} → Lawful opened xs → Lawful cold (Wait false ∷ xs)
     lists : {xs : List Step} → Lawful asked xs → Lawful opened (Protection ∷ xs)
     frees : {xs : List Step} → Lawful (fresh first) xs → Lawful asked (Lockdown ∷ xs)
     reads : {p : ℕ} {xs : List Step} → W .Loads → In p → Lawful (filled p) xs → Lawful (fresh p) (Read p ∷ xs)
     loads : {p : ℕ} {xs : List Step} → W .Loads → In p → Lawful (buffered p) xs → Lawful (filled p) (Load p ∷ xs)
     puts : {p : ℕ} {xs : List Step} → W .Loads → In p → ((h : Holding) → W .Fresh p h → W .Filled p h) → Lawful (buffered p) xs → Lawful (fresh p) (Load p ∷ xs)
     programs : {p : ℕ} {xs : List Step} → In p → Lawful (wrote p) xs → Lawful (buffered p) (Send C.Program p ∷ xs)
-    waited : {p : ℕ} {xs : List Step} → Lawful (fresh (suc p)) xs → Lawful (wrote p) (Wait ∷ xs)
+    waited : {p : ℕ} {xs : List Step} → Lawful (written p) xs → Lawful (wrote p) (Wait false ∷ xs)
+    compares : {p : ℕ} {xs : List Step} → In p → Lawful (compared p) xs → Lawful (written p) (Send C.Compare p ∷ xs)
+    checks : {p : ℕ} {xs : List Step} → Lawful (fresh (suc p)) xs → Lawful (compared p) (Wait true ∷ xs)
     erases : {xs : List Step} → ((i : ℕ) → W .bytes i ≡ 255) → ((h : Holding) → W .Fresh first h → W .Fresh end h) → Lawful erased xs
         → Lawful (fresh first) (Send C.Erase first ∷ xs)
-    blanks : {xs : List Step} → Lawful (fresh end) xs → Lawful erased (Wait ∷ xs)
+    blanks : {xs : List Step} → Lawful (fresh end) xs → Lawful erased (Wait false ∷ xs)
     finish : Lawful (fresh end) []
 
   -- the pages before n are written, those from n on as they were
@@ -165,7 +170,11 @@ module _ (g : Geometry) (K : Kind) (slot : ℕ) (W : Writer g K slot) (fits : 8 
   Holds (buffered p) l d r m h = Ready r × Unsealed r × Stored p m × Left p m × W .Fresh (suc p) h × Loaded p m
   Holds (wrote p) l d r m h =
       In p × (r .deep ≡ false) × Unsealed r × Left (suc p) m × W .Fresh (suc p) h
-      × (((r .operation ≡ O.Idle) × Stored (suc p) m) ⊎ ((r .operation ≡ O.Program One p) × Stored p m × Loaded p m))
+      × Loaded p m × (((r .operation ≡ O.Idle) × Stored (suc p) m) ⊎ ((r .operation ≡ O.Program One p) × Stored p m))
+  Holds (written p) l d r m h = Ready r × Unsealed r × Stored (suc p) m × Left (suc p) m × W .Fresh (suc p) h × Loaded p m
+  Holds (compared p) l d r m h =
+      In p × (r .deep ≡ false) × Unsealed r × Stored (suc p) m × Left (suc p) m × W .Fresh (suc p) h × Loaded p m
+      × (((r .operation ≡ O.Idle) × (m .compare ≡ false)) ⊎ (r .operation ≡ O.Compare One p))
   Holds erased l d r m h =
       (r .deep ≡ false) × Unsealed r × W .Fresh end h × (((r .operation ≡ O.Idle) × Stored end m) ⊎ ((r .operation ≡ O.EraseBlock slot) × ((i : ℕ) → W .bytes i ≡ 255)))
 
@@ -205,10 +214,17 @@ module _ (g : Geometry) (K : Kind) (slot : ℕ) (W : Writer g K slot) (fits : 8 
   stays (fresh p) l d r m h b u = idle-stays g r m (λ t n. Holds (fresh p) l d t n h) (u .0 .0) u
   stays (filled p) l d r m h b u = idle-stays g r m (λ t n. Holds (filled p) l d t n h) (u .0 .0) u
   stays (buffered p) l d r m h b u = idle-stays g r m (λ t n. Holds (buffered p) l d t n h) (u .0 .0) u
-  stays (wrote p) l d r m h b (i, a, s, w, f, inl e) = idle-stays g r m (λ t n. Holds (wrote p) l d t n h) (e .0) (i, a, s, w, f, inl e)
-  stays (wrote p) l d r m h b (i, a, s, w, f, inr e) =
+  stays (wrote p) l d r m h b (i, a, s, w, f, o, inl e) = idle-stays g r m (λ t n. Holds (wrote p) l d t n h) (e .0) (i, a, s, w, f, o, inl e)
+  stays (wrote p) l d r m h b (i, a, s, w, f, o, inr e) =
       subst (λ (x : Operation). Holds (wrote p) l d (withOperation (completedBy g x r) O.Idle) (completedMemory g x m) h) (sym (e .0))
-      (i, a, s, done-left p m i b w, f, inl (refl, done-stored p m i b (e .1) (e .2)))
+      (i, a, s, done-left p m i b w, f, ap (take (g .size)) (program-rest g One p m .0) ∙ o, inl (refl, done-stored p m i b (e .1) o))
+  stays (written p) l d r m h b u = idle-stays g r m (λ t n. Holds (written p) l d t n h) (u .0 .0) u
+  stays (compared p) l d r m h b (i, a, s, t, w, f, o, inl e) = idle-stays g r m (λ t n. Holds (compared p) l d t n h) (e .0) (i, a, s, t, w, f, o, inl e)
+  stays (compared p) l d r m h b (i, a, s, t, w, f, o, inr e) =
+      let same : pageOf g p (m .array) ≡ take (g .size) (m .buffer1) = t p (i .0) (omega arith) ∙ sym o in
+      subst (λ (x : Operation). Holds (compared p) l d (withOperation (completedBy g x r) O.Idle) (completedMemory g x m) h) (sym e)
+      (i, a, s, (λ q x y. ap (pageOf g q) (compare-rest g One p m .0) ∙ t q x y), (λ q x y. subst (λ (z : List ℕ). W .Was q (pageOf g q z)) (sym (compare-rest g One p m .0)) (w q x y)), f,
+      ap (take (g .size)) (compare-rest g One p m .1) ∙ o, inl (refl, compare-same g One p m same))
   stays erased l d r m h b (a, s, f, inl e) = idle-stays g r m (λ t n. Holds erased l d t n h) (e .0) (a, s, f, inl e)
   stays erased l d r m h b (a, s, f, inr e) =
       subst (λ (x : Operation). Holds erased l d (withOperation (completedBy g x r) O.Idle) (completedMemory g x m) h) (sym (e .0))
@@ -250,7 +266,7 @@ module _ (g : Geometry) (K : Kind) (slot : ℕ) (W : Writer g K slot) (fits : 8 
             ∙ tabulate-same (g .size) (loaded g K h (Load p)) (λ i. W .bytes (g .size * (p % 8) + i)) (W .loads o p h (i .0) (i .1) f)
 
     -- the chip is idle, so what was under way has ended
-    ended-program : (p : ℕ) → ((((r .operation ≡ O.Idle) × Stored (suc p) m) ⊎ ((r .operation ≡ O.Program One p) × Stored p m × Loaded p m))) → Ready r → Stored (suc p) m
+    ended-program : (p : ℕ) → ((((r .operation ≡ O.Idle) × Stored (suc p) m) ⊎ ((r .operation ≡ O.Program One p) × Stored p m))) → Ready r → Stored (suc p) m
     unfolding isIdle
     ended-program p (inl e) y = e .1
     ended-program p (inr e) y = let z : O.Program One p ≡ O.Idle = sym (e .0) ∙ y .0 in never (λ i. isIdle (z i))
@@ -259,6 +275,15 @@ module _ (g : Geometry) (K : Kind) (slot : ℕ) (W : Writer g K slot) (fits : 8 
     unfolding isIdle
     ended-erase (inl e) y = e .1
     ended-erase (inr e) y = let z : O.EraseBlock slot ≡ O.Idle = sym (e .0) ∙ y .0 in never (λ i. isIdle (z i))
+
+    -- the wait after a 60 hands up no compare bit: the chip is busy, or found page and buffer alike
+    compare-told : (p : ℕ) → r .deep ≡ false → ((r .operation ≡ O.Idle) × (m .compare ≡ false)) ⊎ (r .operation ≡ O.Compare One p) → takenBy (Wait true) g K h (replied (Wait true)) ≡ h
+    unfolding takenBy shapeOf frameByte tabulate isIdle
+    compare-told p a o = λ i. cond ((poll-compare g r m a ∙ none o) i) (marred h) h
+      where
+        none : ((r .operation ≡ O.Idle) × (m .compare ≡ false)) ⊎ (r .operation ≡ O.Compare One p) → (isIdle (r .operation) && m .compare) ≡ false
+        none (inl e) = (λ i. isIdle (r .operation) && e .1 i) ∙ and-none (isIdle (r .operation))
+        none (inr e) = λ i. isIdle (e i) && m .compare
 
     -- the sector that the replies tell open
     open-told : (l d : Bool) → Ready r → d ≡ guarded r → (l ≡ false → hasBits g (r .protection) S ≡ false) → (hasBits g (registerIn g (replied Lockdown)) S || (l && d)) ≡ false → sealed g r S ≡ false
@@ -273,7 +298,7 @@ module _ (g : Geometry) (K : Kind) (slot : ℕ) (W : Writer g K slot) (fits : 8 
 
     pub turned : {x : Step} {k : Know} → isEnd x ≡ false → restAt plan (c .place) ≡ x ∷ rest → Lawful k (x ∷ rest) → Holds k (c .listed) (c .guarded) r m h → Goes x
     unfolding shapeOf frameByte tabulate heard courseBy takenBy operationOf isEnd numberOf sealed
-    turned some e (opens l) v = wait-next facts g K S limit plan c r m h cold opened live e (opens l) v l (λ y. (y, refl, W .rests r m y (v .0), v .1))
+    turned some e (opens l) v = wait-next facts g K S limit plan c r m h false cold opened live e (opens l) v l (λ y. (y, refl, W .rests r m y (v .0), v .1)) refl
     turned some e (lists l) v =
         carry facts g K S limit plan c r m h Protection (moved next limit (noted (hasBits g (registerIn g (replied Protection)) S) c)) h (protection-registers g r K h) (ap (λ (f : List ℕ). sentMemory g r f m) (protection-form g K h) ∙ protection-memory g r m 0 0 0 (filler g K h Protection))
         (λ _. (asked, (v .0, v .1, protection-free g r m K h S served (few .short) (v .0), v .2, v .3), l))
@@ -291,16 +316,22 @@ module _ (g : Geometry) (K : Kind) (slot : ℕ) (W : Writer g K slot) (fits : 8 
     turned some e (programs {p} i l) v =
         let n = slot-inside g slot few fits p (i .0) (i .1) in
         sent-next facts g K S limit plan c r m h C.Program p (wrote p) (b .0) (v .0) (n .0) (ap (sealed g r) (n .1) ∙ v .1)
-        (i, v .0 .1, v .1, (λ q a u. v .3 q (omega arith) u), v .4, inr (refl, v .2, v .5)) l
+        (i, v .0 .1, v .1, (λ q a u. v .3 q (omega arith) u), v .4, v .5, inr (refl, v .2)) l
     turned some e (waited {p} l) v =
-        wait-next facts g K S limit plan c r m h (wrote p) (fresh (suc p)) live e (waited l) v l (λ y. (y, v .2, ended-program p (v .5) y, v .3, v .4))
+        wait-next facts g K S limit plan c r m h false (wrote p) (written p) live e (waited l) v l (λ y. (y, v .2, ended-program p (v .6) y, v .3, v .4, v .5)) refl
+    turned some e (compares {p} i l) v =
+        let n = slot-inside g slot few fits p (i .0) (i .1) in
+        sent-next facts g K S limit plan c r m h C.Compare p (compared p) (b .0) (v .0) (n .0) (ap (sealed g r) (n .1) ∙ v .1)
+        (i, v .0 .1, v .1, v .2, v .3, v .4, v .5, inr refl) l
+    turned some e (checks {p} l) v =
+        wait-next facts g K S limit plan c r m h true (compared p) (fresh (suc p)) live e (checks l) v l (λ y. (y, v .2, v .3, v .4, v .5)) (compare-told p (v .1) (v .7))
     turned some e (erases f w l) v =
         let n = slot-inside g slot few fits (8 * slot) (omega arith) (omega arith) in
         let k : 8 * slot / 8 ≡ slot = omega arith in
         sent-next facts g K S limit plan c r m h C.Erase (8 * slot) erased (b .0) (v .0) (n .0) (v .1)
         (v .0 .1, v .1, w h (v .4), inr (ap (λ (x : ℕ). O.EraseBlock x) k, f)) l
     turned some e (blanks l) v =
-        wait-next facts g K S limit plan c r m h erased (fresh end) live e (blanks l) v l (λ y. (y, v .1, ended-erase (v .3) y, (λ q a u. absurd (omega arith)), v .2))
+        wait-next facts g K S limit plan c r m h false erased (fresh end) live e (blanks l) v l (λ y. (y, v .1, ended-erase (v .3) y, (λ q a u. absurd (omega arith)), v .2)) refl
 
   -- ---- the end
 
@@ -315,6 +346,8 @@ module _ (g : Geometry) (K : Kind) (slot : ℕ) (W : Writer g K slot) (fits : 8 
   at-finish l d r m h (puts o i f z) e u = never e
   at-finish l d r m h (programs i z) e u = never e
   at-finish l d r m h (waited z) e u = never e
+  at-finish l d r m h (compares i z) e u = never e
+  at-finish l d r m h (checks z) e u = never e
   at-finish l d r m h (erases f w z) e u = never e
   at-finish l d r m h (blanks z) e u = never e
 

@@ -97,14 +97,16 @@ module _ (T : Facts) (g : Geometry) (K : Kind) (S limit : ℕ) (plan : List Step
       → Next T plan d (control g r (frameOf g K h x) .registers) (sentMemory g r (frameOf g K h x) m) k
   carry x d k e f u = subst (λ (t : Registers). Next T plan d t (sentMemory g r (frameOf g K h x) m) k) (sym e) (subst (λ (n : Memory). Next T plan d r n k) (sym f) u)
 
-  -- a wait: the same is known while it lasts, and more once the chip is ready
-  pub wait-next : (k k' : T .Know) → isEnded (c .stage) ≡ false → restAt plan (c .place) ≡ Wait ∷ rest → T .Lawful k (Wait ∷ rest)
-      → T .Holds k (c .listed) (c .guarded) r m h → T .Lawful k' rest → (Ready r → T .Holds k' (c .listed) (guarded r) r m h) → Turned Wait
-  unfolding shapeOf frameByte tabulate heard numberOf takenBy
-  wait-next k k' live e l u l' u' =
-      carry Wait (courseBy Wait next limit c (pollHeard g r m)) h (status-keeps g r (0 ∷ [])) (status-memory g r m (0 ∷ []))
-      (waits (λ d. Next T plan d r m h) next limit c g r m (stop Answers.Device r m h (lit< tt, lit< tt)) (stop Answers.Busy r m h (lit< tt, lit< tt))
-      (λ _. (k, u, subst (T .Lawful k) (sym e) l)) (λ y _. (k', u' y, l')))
+  -- a wait that leaves the data: the same is known while it lasts, and more once the chip is ready
+  pub wait-next : (x : Bool) (k k' : T .Know) → isEnded (c .stage) ≡ false → restAt plan (c .place) ≡ Wait x ∷ rest → T .Lawful k (Wait x ∷ rest)
+      → T .Holds k (c .listed) (c .guarded) r m h → T .Lawful k' rest → (Ready r → T .Holds k' (c .listed) (guarded r) r m h)
+      → takenBy (Wait x) g K h (replied (Wait x)) ≡ h → Turned (Wait x)
+  unfolding shapeOf frameByte tabulate heard numberOf
+  wait-next x k k' live e l u l' u' same =
+      subst (λ (d : Holding). Next T plan (after (Wait x)) (control g r (frameOf g K h (Wait x)) .registers) (sentMemory g r (frameOf g K h (Wait x)) m) d) (sym same)
+      (carry (Wait x) (courseBy (Wait x) next limit c (pollHeard g r m)) h (status-keeps g r (0 ∷ [])) (status-memory g r m (0 ∷ []))
+      (waits (λ d. Next T plan d r m h) x next limit c g r m (stop Answers.Device r m h (lit< tt, lit< tt)) (stop Answers.Busy r m h (lit< tt, lit< tt))
+      (λ _. (k, u, subst (T .Lawful k) (sym e) l)) (λ y _. (k', u' y, l'))))
 
   -- a frame that starts its operation
   pub starting : (o : Command) (p : ℕ) → partOf (length (m .array)) ≡ Known g → Ready r → p < g .pages → sealed g r (sectorOf g p) ≡ false

@@ -1,6 +1,6 @@
 -- Demand 3: two runs of alike lists on alike chips leave the same outlines, counts and answers. Each call's open half is blind to its
 -- closed half (Blind), so alike inputs leave alike registers; the junk that reaches a register is alike, so a cut does too; and the
--- list follows by induction.
+-- list follows by induction. Of the answers control leaves 16 open too, and that never comes (Never).
 -- Assumes nothing.
 use Prim.Native.Nat.{ℕ}
 use mathlib.Core.Path.{_≡_, refl, sym, ap, subst, _∙_}
@@ -25,30 +25,34 @@ use Rattle.state.specs.Outcomes.{framed, Left, partIn, sentState, endedState, p
 use Rattle.slots.specs.declared.Stage.{Stage}
 use Rattle.slots.specs.declared.Stage.the-variants.{Going, Ended}
 use Rattle.slots.specs.declared.Verdict.{Verdict}
-use Rattle.slots.specs.declared.Verdict.the-variants.{Good, Blank, Beyond, Outside}
-use Rattle.state.specs.Memory.{State}
+use Rattle.slots.specs.declared.Verdict.the-variants.{Good, Blank, Beyond, Outside, Miscompared}
+use Rattle.state.specs.Memory.{State, chipIn}
+use Rattle.state.specs.Whole.{Whole}
 use Rattle.slots.specs.Plans.{Asked, bound}
 use Rattle.slots.specs.Driver.{verdictAnswer, weighed, toldBy}
 use Rattle.slots.specs.Refusals.{isOver, isShort, rawRefusal, flawsIn, isMisdated}
 use Rattle.slots.specs.Calls.{Out, Request, Secret, Open, refused, scripted, registersAfter, stateAfter, run, startOpen, startClosed, ran, reached, answerIn, answerAt, outFrom, callOut, callNext, rawSent, rawOut, rawNext}
 use Rattle.slots.specs.Lists.{Op, asks, secret, met, callBy, rawBy, outOf, calledBy, rawLeft, nextOf, runList}
-use Rattle.slots.specs.Alike.{Twins, Given, calls, raws, straights, pins, ends, cuts, oversize, callJunk, rawJunk, cutJunk, junkBy, junkOf, Alike, AlikeLists, Soft, Same, AllSame, misdated}
+use Rattle.slots.specs.Alike.{Twins, Given, calls, raws, straights, pins, ends, cuts, oversize, callJunk, rawJunk, cutJunk, junkBy, junkOf, Alike, AlikeLists, Soft, FromData, Same, AllSame, misdated}
 use Rattle.slots.proofs.Parts.{outAt, out-at, nextAt, next-at}
 use Rattle.slots.proofs.Blind.{run-blind}
-use Rattle.slots.proofs.Steady.{array-steady, op-keeps}
+use Rattle.slots.proofs.Steady.{array-steady, op-keeps, whole-op}
+use Rattle.slots.proofs.Never.{No16, op-never}
 use Rattle.slots.specs.declared.Detail.{Detail}
 
 -- ---- answers
 
+-- as far as control goes: equal, or both by the data
 abbrev pub Agree : Answer → Answer → Type 0
-Agree a b = (a ≡ b) ⊎ (Soft a × Soft b)
+Agree a b = (a ≡ b) ⊎ (FromData a × FromData b)
 
-soft : (v : Verdict) → Soft (verdictAnswer v)
+from-data : (v : Verdict) → FromData (verdictAnswer v)
 unfolding verdictAnswer
-soft Good = inl (inl refl)
-soft Blank = inl (inr refl)
-soft Beyond = inr (inl refl)
-soft Outside = inr (inr refl)
+from-data Good = inl (inl (inl refl))
+from-data Blank = inl (inl (inr refl))
+from-data Beyond = inl (inr (inl refl))
+from-data Outside = inl (inr (inr refl))
+from-data Miscompared = inr refl
 
 -- of two verdicts on one end
 pub weighed-agree : (n : Answer) (v w : Verdict) → Agree (weighed n v) (weighed n w)
@@ -56,13 +60,29 @@ unfolding weighed
 weighed-agree n v w = go (eqb (numberOf n) 0)
   where
     go : (b : Bool) → Agree (cond b (verdictAnswer v) n) (cond b (verdictAnswer w) n)
-    go true = inr (soft v, soft w)
+    go true = inr (from-data v, from-data w)
     go false = inl refl
 
 answer-agree : (t : Stage) (v w : Verdict) → Agree (answerIn (toldBy t v)) (answerIn (toldBy t w))
 unfolding toldBy answerIn
 answer-agree Going v w = inl refl
 answer-agree (Ended n) v w = weighed-agree n v w
+
+-- where neither is 16
+settled : (a b : Answer) → No16 a → No16 b → Agree a b → (a ≡ b) ⊎ (Soft a × Soft b)
+settled a b u w (inl e) = inl e
+settled a b u w (inr f) = inr (soft a u (f .0), soft b w (f .1))
+  where
+    soft : (a : Answer) → No16 a → FromData a → Soft a
+    soft a u (inl e) = e
+    soft a u (inr e) = absurd (u e)
+
+-- what is the same of two outcomes as far as control goes
+pub record Near (x y : Out) : Type 0 where
+  pub lines : x .lines ≡ y .lines
+  pub frames : x .frames ≡ y .frames
+  pub polls : x .polls ≡ y .polls
+  pub answer : Agree (x .answer) (y .answer)
 
 -- ---- put, patch, get, wipe
 
@@ -72,7 +92,7 @@ ran-blind g {v} {w} e x y s t h =
     run-blind (bound g (v .asked)) g v (startOpen g (length (s .memory .array)) v (s .registers)) (startClosed x (s .memory)) (startClosed y (t .memory))
     ∙ λ i. run (bound g (e i .asked)) g (e i) (startOpen g (h .size i) (e i) (h .registers i)) (startClosed y (t .memory)) .0
 
-call-same : (g : Geometry) {v w : Request} (e : v ≡ w) (x y : Secret) (s t : State) → Twins s t → Same (callOut g v x s) (callOut g w y t)
+call-same : (g : Geometry) {v w : Request} (e : v ≡ w) (x y : Secret) (s t : State) → Twins s t → Near (callOut g v x s) (callOut g w y t)
 unfolding callOut outFrom
 call-same g {v} {w} e x y s t h =
     let b : ran g v x s .0 ≡ ran g w y t .0 = ran-blind g e x y s t h in
@@ -104,12 +124,12 @@ call-registers g {v} {w} e x y s t h j =
 -- ---- raw
 
 -- two outcomes picked by one test
-pick-same : (b : Bool) {x y z w : Out} → Same x y → Same z w → Same (cond b x z) (cond b y w)
+pick-same : (b : Bool) {x y z w : Out} → Near x y → Near z w → Near (cond b x z) (cond b y w)
 pick-same true u v = u
 pick-same false u v = v
 
 -- an outcome compares by its lines, counts and answer alone
-refl-same : {x y : Out} → x .lines ≡ y .lines → x .frames ≡ y .frames → x .polls ≡ y .polls → x .answer ≡ y .answer → Same x y
+refl-same : {x y : Out} → x .lines ≡ y .lines → x .frames ≡ y .frames → x .polls ≡ y .polls → x .answer ≡ y .answer → Near x y
 refl-same l f p a = record { lines = l; frames = f; polls = p; answer = inl a }
 
 module _ (g : Geometry) (f script j k l m a b : List ℕ) (s t : State) (ej : length j ≡ length k) (el : length l ≡ length m) (ea : length a ≡ length b) (h : Twins s t) where
@@ -117,10 +137,10 @@ module _ (g : Geometry) (f script j k l m a b : List ℕ) (s t : State) (ej : le
   pub raw-refusal : rawRefusal g (length (s .memory .array)) f (length a) (length l) script (length j) ≡ rawRefusal g (length (t .memory .array)) f (length b) (length m) script (length k)
   raw-refusal = λ i. rawRefusal g (h .size i) f (ea i) (el i) script (ej i)
 
-  raw-same : Same (rawOut g f script (length l) (length j) a s) (rawOut g f script (length m) (length k) b t)
+  raw-same : Near (rawOut g f script (length l) (length j) a s) (rawOut g f script (length m) (length k) b t)
   unfolding rawOut rawSent
   raw-same =
-      subst (λ (z : Answer). Same (rawOut g f script (length l) (length j) a s) (cond (eqb (numberOf z) 0) (rawSent g script f t) (refused z b))) raw-refusal
+      subst (λ (z : Answer). Near (rawOut g f script (length l) (length j) a s) (cond (eqb (numberOf z) 0) (rawSent g script f t) (refused z b))) raw-refusal
       (pick-same (eqb (numberOf (rawRefusal g (length (s .memory .array)) f (length a) (length l) script (length j))) 0) (refl-same refl refl refl refl) (refl-same refl refl refl refl))
 
 -- the registers after a raw frame: by whether it is sent, its script byte and the junk that reaches a register
@@ -145,7 +165,7 @@ pick-answer true x y = refl
 pick-answer false x y = refl
 
 -- an event compares by its answer
-met-same : (x y : Left) → x .answer ≡ y .answer → Same (met x) (met y)
+met-same : (x y : Left) → x .answer ≡ y .answer → Near (met x) (met y)
 met-same x y e = refl-same refl refl refl e
 
 -- 5 is alike on a known part, and 14
@@ -159,7 +179,7 @@ unfolding flawsIn
 request-same g a script p q x y j k l m c d e f ej el ex = λ i. record { asked = a; script = script; log = el i; junk = ej i; flaws = record { size = e i || isShort (a .kind) g (ex i); dates = f i } }
 
 module _ (s t : State) (h : Twins s t) where
-  out-same : (p : Part) {o u : Op} → Given o u → Flawed p o u → Same (outAt p o s) (outAt p u t)
+  out-same : (p : Part) {o u : Op} → Given o u → Flawed p o u → Near (outAt p o s) (outAt p u t)
   unfolding outAt callBy rawBy oversize misdated sentBy endedBy pinOutcome cutBy
   out-same (Known g) (calls a script {p} {q} {a = x} {b = y} {j} {k} {l} {m} {x = c} {y = d} ej el ex) e =
       call-same g (request-same g a script p q x y j k l m c d (e .0 g refl) (e .1) ej el ex) (secret x p j c) (secret y q k d) s t h
@@ -217,11 +237,19 @@ module _ (s t : State) (h : Twins s t) where
 pub part-same : (s t : State) → Twins s t → partIn s ≡ partIn t
 part-same s t h = λ i. placed (h .size i) (h .registers i .operation)
 
-op-same : (o u : Op) (s t : State) → Twins s t → Alike o u s t → Same (outOf o s) (outOf u t)
-op-same o u s t h a =
-    subst (λ (x : Out). Same x (outOf u t)) (sym (out-at o s))
-    (subst (λ (y : Out). Same (outAt (partIn s) o s) y) (sym (out-at u t))
-    (subst (λ (p : Part). Same (outAt (partIn s) o s) (outAt p u t)) (part-same s t h) (out-same s t h (partIn s) (a .given) (a .size, a .dates))))
+-- control is the same in both, and no answer is 16
+op-same : (o u : Op) (s t : State) → Whole (chipIn s) → Whole (chipIn t) → Twins s t → Alike o u s t → Same (outOf o s) (outOf u t)
+op-same o u s t w z h a =
+    let n : Near (outOf o s) (outOf u t) =
+    subst (λ (x : Out). Near x (outOf u t)) (sym (out-at o s))
+    (subst (λ (y : Out). Near (outAt (partIn s) o s) y) (sym (out-at u t))
+    (subst (λ (p : Part). Near (outAt (partIn s) o s) (outAt p u t)) (part-same s t h) (out-same s t h (partIn s) (a .given) (a .size, a .dates)))) in
+    record {
+      lines = n .lines;
+      frames = n .frames;
+      polls = n .polls;
+      answer = settled (outOf o s .answer) (outOf u t .answer) (op-never o s w) (op-never u t z) (n .answer);
+    }
 
 pub next-twins : (o u : Op) (s t : State) → Twins s t → Alike o u s t → Twins (nextOf o s) (nextOf u t)
 unfolding junkOf
@@ -240,10 +268,10 @@ next-twins o u s t h a =
     }
 
 -- DEMAND 3
-pub two-runs : (os us : List Op) (s t : State) → Twins s t → AlikeLists os us s t → AllSame (runList os s) (runList us t)
+pub two-runs : (os us : List Op) (s t : State) → Whole (chipIn s) → Whole (chipIn t) → Twins s t → AlikeLists os us s t → AllSame (runList os s) (runList us t)
 unfolding runList
-two-runs [] [] s t h a = tt
-two-runs [] (u ∷ us) s t h a = a
-two-runs (o ∷ os) [] s t h a = a
-two-runs (o ∷ os) (u ∷ us) s t h a =
-    (op-same o u s t h (a .0), two-runs os us (nextOf o s) (nextOf u t) (next-twins o u s t h (a .0)) (a .1))
+two-runs [] [] s t w z h a = tt
+two-runs [] (u ∷ us) s t w z h a = a
+two-runs (o ∷ os) [] s t w z h a = a
+two-runs (o ∷ os) (u ∷ us) s t w z h a =
+    (op-same o u s t w z h (a .0), two-runs os us (nextOf o s) (nextOf u t) (whole-op o s w) (whole-op u t z) (next-twins o u s t h (a .0)) (a .1))

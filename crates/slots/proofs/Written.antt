@@ -13,8 +13,13 @@ use lib.Dec.{eqb}
 use borrow.Author.Tests.{eqb-true, eqb-false}
 use Rattle.slices.specs.Lists.{tabulate, splice}
 use Rattle.slices.proofs.Laws.{length-tabulate, getD-tabulate, length-splice, splice-before, splice-at}
-use Rattle.geometry.specs.Parts.{Sized}
+use Rattle.geometry.specs.Parts.{Sized, pageOf}
 use Rattle.geometry.specs.declared.Geometry.{Geometry}
+use Rattle.control.specs.Completion.{completed}
+use Rattle.control.proofs.Ends.{completed-operation}
+use Rattle.state.specs.Memory.{Memory}
+use Rattle.state.specs.Completion.{completedMemory}
+use Rattle.state.proofs.Loads.{idle-memory}
 use Rattle.slots.specs.declared.Kind.the-variants.{Put, Patch, Wipe}
 use Rattle.slots.specs.declared.Period.{Period}
 use Rattle.slots.specs.declared.Verdict.{Verdict}
@@ -22,10 +27,9 @@ use Rattle.slots.specs.declared.Verdict.the-variants.{Good}
 use Rattle.slots.specs.Plans.{isAsking, pageSteps, runBy, pages, planBy}
 use Rattle.slots.specs.Records.{headSize, versionIn, image, changed, patchVerdict}
 use Rattle.slots.specs.Driver.{Holding, storedBy, judged, readIn}
-use Rattle.slots.specs.Quiet.{pageIn, Kept}
+use Rattle.slots.specs.Quiet.{pageIn}
 use Rattle.slots.proofs.Parts.{cases}
-use Rattle.slots.proofs.Kept.{end-kept}
-use Rattle.slots.proofs.Stores.{Writer, cold, Lawful, opens, lists, frees, reads, loads, puts, programs, waited, erases, blanks, finish, pages-lawful}
+use Rattle.slots.proofs.Stores.{Writer, cold, Lawful, opens, lists, frees, reads, loads, puts, programs, waited, compares, checks, erases, blanks, finish, pages-lawful}
 
 -- ---- put
 
@@ -50,7 +54,7 @@ pub put-lawful : (g : Geometry) (slot : ℕ) (period : Period) (recipe : List �
     → Lawful g Put slot (putWriter g slot period recipe) fits few cold (planBy Put g slot)
 unfolding planBy isAsking runBy pageSteps putWriter
 put-lawful g slot period recipe fits few =
-    opens (lists (frees (pages-lawful g Put slot (putWriter g slot period recipe) fits few (pageSteps Put) (λ p xs i l. puts tt i (λ h u. u) (programs i (waited l))) 8 (8 * slot) (omega arith) refl)))
+    opens (lists (frees (pages-lawful g Put slot (putWriter g slot period recipe) fits few (pageSteps Put) (λ p xs i l. puts tt i (λ h u. u) (programs i (waited (compares i (checks l))))) 8 (8 * slot) (omega arith) refl)))
 
 -- ---- wipe
 
@@ -146,11 +150,11 @@ module _ (g : Geometry) (slot place : ℕ) (bytes : List ℕ) (old : ℕ → ℕ
         Loads = Unit {0};
         bytes = λ i. changed verdictOn (headSize (old 0)) place bytes (old i) i;
         Was = λ p page. page ≡ pageIn g old p;
-        Opens = λ r m. Kept g (8 * slot) (8 * slot + 8) (pageIn g old) r m;
+        Opens = λ r m. (p : ℕ) → 8 * slot ≤ p → p < 8 * slot + 8 → pageOf g p (completedMemory g (r .operation) m .array) ≡ pageIn g old p;
         Fresh = Before;
         Filled = Read;
-        ends = λ r m u. end-kept u;
-        rests = λ r m y u p l k. u .bytes p l k;
+        ends = λ r m u p l k. ap (λ (n : Memory). pageOf g p (n .array)) (idle-memory g (completed g r .operation) (completedMemory g (r .operation) m) (completed-operation g r)) ∙ u p l k;
+        rests = λ r m y u p l k. ap (λ (n : Memory). pageOf g p (n .array)) (sym (idle-memory g (r .operation) m (y .0))) ∙ u p l k;
         reads = λ _. read-page;
         loads = λ _ p h l k u i j. λ x. changed (u .verdict x) (headSize (u .version x)) (u .places x) (u .payload x) (u .here i j x) (g .size * (p % 8) + i);
         next = λ p h u. record { payload = u .payload; places = u .places; verdict = λ _. u .verdict; version = λ _. u .version; room = u .room };
@@ -159,4 +163,4 @@ module _ (g : Geometry) (slot place : ℕ) (bytes : List ℕ) (old : ℕ → ℕ
   pub patch-lawful : (fits : 8 * slot + 8 ≤ g .pages) (few : Sized g (g .pages * g .size)) → Lawful g Patch slot patchWriter fits few cold (planBy Patch g slot)
   unfolding planBy isAsking runBy pageSteps patchWriter
   patch-lawful fits few =
-      opens (lists (frees (pages-lawful g Patch slot patchWriter fits few (pageSteps Patch) (λ p xs i l. reads tt i (loads tt i (programs i (waited l)))) 8 (8 * slot) (omega arith) refl)))
+      opens (lists (frees (pages-lawful g Patch slot patchWriter fits few (pageSteps Patch) (λ p xs i l. reads tt i (loads tt i (programs i (waited (compares i (checks l)))))) 8 (8 * slot) (omega arith) refl)))

@@ -109,6 +109,10 @@ AlikeLists (o ∷ os) (u ∷ us) s t = Alike o u s t × AlikeLists os us (nextOf
 abbrev pub Soft : Answer → Type 0
 Soft a = ((a ≡ Answers.Done) ⊎ (a ≡ Answers.Blank)) ⊎ ((a ≡ Answers.End) ⊎ (a ≡ Answers.Term))
 
+-- (14.26) of a driver in front of anything that answers 16 may stand for them too: it goes by a bit that is not heard
+abbrev pub FromData : Answer → Type 0
+FromData a = Soft a ⊎ (a ≡ Answers.Miscompare)
+
 -- (14.22) what is compared of two outcomes
 pub record Same (x y : Out) : Type 0 where
   pub lines : x .lines ≡ y .lines

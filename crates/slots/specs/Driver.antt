@@ -18,7 +18,7 @@ use Rattle.slots.specs.declared.Course.{Course}
 use Rattle.slots.specs.declared.Kind.{Kind}
 use Rattle.slots.specs.declared.Kind.the-variants.{Put, Patch, Get, Wipe}
 use Rattle.slots.specs.declared.Command.{Command}
-use Rattle.slots.specs.declared.Command.the-variants.{Program, Erase}
+use Rattle.slots.specs.declared.Command.the-variants.{Program, Erase, Compare}
 use Rattle.slots.specs.declared.Step.{Step}
 use Rattle.slots.specs.declared.Step.the-variants.{Wait, Protection, Lockdown, Read, Load, Send, End}
 use Rattle.slots.specs.declared.Stage.{Stage}
@@ -26,11 +26,11 @@ use Rattle.slots.specs.declared.Stage.the-variants.{Going, Ended}
 use Rattle.slots.specs.declared.Told.{Told}
 use Rattle.slots.specs.declared.Told.the-variants.{Running, Answered}
 use Rattle.slots.specs.declared.Verdict.{Verdict}
-use Rattle.slots.specs.declared.Verdict.the-variants.{Good, Blank, Beyond, Outside}
+use Rattle.slots.specs.declared.Verdict.the-variants.{Good, Blank, Beyond, Outside, Miscompared}
 use Rattle.slots.specs.Records.{headSize, versionIn, image, changed, getVerdict, patchVerdict}
 use Rattle.slots.specs.Plans.{Asked, planOf, stepAt, isEnd}
 
--- Aid: the data: the recipe or the patch's bytes, what the call aims at, the slot's bytes read so far, and the verdict on them
+-- Aid: the data: the recipe or the patch's bytes, what the call aims at, the slot's bytes read so far, and the verdict so far
 pub record Holding : Type 0 where
   pub payload : List ℕ
   pub aim : Aim
@@ -57,10 +57,11 @@ addressed opcode n length loads =
 unfoldable pub opcodeOf : Command → ℕ
 opcodeOf Program = 0x83
 opcodeOf Erase = 0x50
+opcodeOf Compare = 0x60
 
 -- (10.7) a step's frame but for its data
 unfoldable pub shapeOf : Geometry → Step → Shape
-shapeOf g Wait = addressed 0xD7 0 2 false
+shapeOf g (Wait c) = addressed 0xD7 0 2 false
 shapeOf g Protection = addressed 0x32 0 (4 + g .register) false
 shapeOf g Lockdown = addressed 0x35 0 (4 + g .register) false
 shapeOf g (Read p) = addressed 0xD2 (g .field * p) (8 + g .size) false
@@ -87,7 +88,7 @@ storedBy Wipe h i = 0
 
 -- (10.10) the data of an 84: page p is page p mod 8 of its slot
 unfoldable pub loaded : Geometry → Kind → Holding → Step → ℕ → ℕ
-loaded g k h Wait i = 0
+loaded g k h (Wait c) i = 0
 loaded g k h Protection i = 0
 loaded g k h Lockdown i = 0
 loaded g k h (Read p) i = 0
@@ -123,7 +124,7 @@ registerIn g reply = tabulate (g .register) (λ j. getD reply (4 + j) 255)
 
 -- (10.11) what is heard of the reply to a step: a status that is missing counts as FFh
 unfoldable pub heard : Geometry → Step → ℕ → List ℕ → Heard
-heard g Wait sector reply = statusHeard (getD reply 1 255)
+heard g (Wait c) sector reply = statusHeard (getD reply 1 255)
 heard g Protection sector reply = registerHeard (hasBits g (registerIn g reply) sector)
 heard g Lockdown sector reply = registerHeard (hasBits g (registerIn g reply) sector)
 heard g (Read p) sector reply = registerHeard false
@@ -160,7 +161,7 @@ fewer c = record { place = c .place; left = c .left - 1; stage = c .stage; liste
 -- (10.16) 32 notes, 35 tests: 10 where the sector is sealed by both replies and the status before them
 -- (10.17) all else goes on
 unfoldable pub courseBy : Step → Step → ℕ → Course → Heard → Course
-courseBy Wait next limit c o =
+courseBy (Wait x) next limit c o =
     cond (not (o .density)) (ended Answers.Device c)
     (cond (o .ready) (moved next limit (marking (o .guarded) c)) (cond (leb (c .left) 1) (ended Answers.Busy c) (fewer c)))
 courseBy Protection next limit c o = moved next limit (noted (o .held) c)
@@ -198,10 +199,27 @@ readIn g k p h bytes =
       verdict = cond (eqb (p % 8) 0) (judged g k h bytes) (h .verdict);
     }
 
+-- (10.31) the compare bit that a wait hands up: bit 6 of its last status, the one that tells ready
+unfoldable pub compareIn : List ℕ → Bool
+compareIn reply = eqb (getD reply 1 255 / 128 % 2) 1 && eqb (getD reply 1 255 / 64 % 2) 1
+
+-- (10.32) a page that differs is 16, but 12 and 13 come before it
+unfoldable pub miscomparing : Verdict → Verdict
+miscomparing Good = Miscompared
+miscomparing Blank = Blank
+miscomparing Beyond = Beyond
+miscomparing Outside = Outside
+miscomparing Miscompared = Miscompared
+
+-- (10.32) the data with it
+abbrev pub marred : Holding → Holding
+marred h = record { payload = h .payload; aim = h .aim; staged = h .staged; verdict = miscomparing (h .verdict) }
+
 -- (10.11) what is missing of a page counts as FFh
 -- (10.19) the data after a step's reply: those of a page read follow its eight bytes of lead
+-- (10.32) of a wait they take the compare bit, if it is checked
 unfoldable pub takenBy : Step → Geometry → Kind → Holding → List ℕ → Holding
-takenBy Wait g k h reply = h
+takenBy (Wait c) g k h reply = cond (c && compareIn reply) (marred h) h
 takenBy Protection g k h reply = h
 takenBy Lockdown g k h reply = h
 takenBy (Read p) g k h reply = readIn g k p h (tabulate (g .size) (λ i. getD reply (8 + i) 255))
@@ -222,6 +240,7 @@ verdictAnswer Good = Answers.Done
 verdictAnswer Blank = Answers.Blank
 verdictAnswer Beyond = Answers.End
 verdictAnswer Outside = Answers.Term
+verdictAnswer Miscompared = Answers.Miscompare
 
 -- (10.21) the answer 0 is weighed by the verdict, any other stands
 unfoldable pub weighed : Answer → Verdict → Answer

@@ -99,14 +99,14 @@ pub data Result : Type 0 where
   finished : (h : Holding) → Result
   stopped : (a : Answer) → Result
 
--- its answer: at the plan's end 0, 12, 13 or 15 by the data
+-- its answer: at the plan's end 0, 12, 13, 15 or 16 by the data
 abbrev pub answerFor : Result → Answer
 answerFor (finished h) = verdictAnswer (h .verdict)
 answerFor (stopped a) = a
 
 -- the steps that send one frame, whose reply control does not go by
 unfoldable pub isPlain : Step → Bool
-isPlain Wait = false
+isPlain (Wait c) = false
 isPlain Protection = false
 isPlain Lockdown = false
 isPlain (Read p) = true
@@ -127,10 +127,11 @@ module _ (g : Geometry) (a : Asked) where
   -- data; the exchanges, how many of them are polls, and the end
   pub data Follows : ℕ → List Step → Bool → Bool → Holding → List Exchange → ℕ → Result → Type 0 where
     done : {b : ℕ} {l d : Bool} {h : Holding} → Follows b [] l d h [] 0 (finished h)
-    waited : {b k m : ℕ} {xs : List Step} {l d : Bool} {h : Holding} {e : Exchange} {es fs : List Exchange} {t : Result}
-        → Polls b es (goes e) → Follows (a .limit) xs l (guardedIn e) h fs k t → m ≡ length es + k → Follows b (Wait ∷ xs) l d h (es ++ fs) m t
-    halted : {b : ℕ} {xs : List Step} {l d : Bool} {h : Holding} {es : List Exchange} {n : Answer}
-        → Polls b es (stops n) → Follows b (Wait ∷ xs) l d h es (length es) (stopped n)
+    waited : {b k m : ℕ} {xs : List Step} {l d c : Bool} {h : Holding} {e : Exchange} {es fs : List Exchange} {t : Result}
+        → Polls b es (goes e) → Follows (a .limit) xs l (guardedIn e) (takenBy (Wait c) g (a .kind) h (e .reply)) fs k t → m ≡ length es + k
+        → Follows b (Wait c ∷ xs) l d h (es ++ fs) m t
+    halted : {b : ℕ} {xs : List Step} {l d c : Bool} {h : Holding} {es : List Exchange} {n : Answer}
+        → Polls b es (stops n) → Follows b (Wait c ∷ xs) l d h es (length es) (stopped n)
     cut : {b : ℕ} {x : Step} {xs : List Step} {l d : Bool} {h : Holding} {e : Exchange}
         → isWait x ≡ false → e .frame ≡ frameOf g (a .kind) h x → e .byte ≡ 2 → Follows b (x ∷ xs) l d h (e ∷ []) 0 (stopped Answers.Cut)
     listed : {b k : ℕ} {xs : List Step} {l d : Bool} {h : Holding} {e : Exchange} {es : List Exchange} {t : Result}
@@ -189,6 +190,35 @@ pub data GetJudges (g : Geometry) (bytes : List ℕ) (today : ℕ) : Verdict →
   none : (Begins g bytes → ⊥) → GetJudges g bytes today Blank
   outside : Begins g bytes → getD bytes 0 0 ≡ 2 → (today < dayIn bytes 3) ⊎ (dayIn bytes 7 < today) → GetJudges g bytes today Outside
   inside : Begins g bytes → (getD bytes 0 0 ≡ 2 → (dayIn bytes 3 ≤ today) × (today ≤ dayIn bytes 7)) → GetJudges g bytes today Good
+
+-- ---- 16
+
+-- Aid: the first byte of an exchange's frame
+abbrev pub opcodeIn : Exchange → ℕ
+opcodeIn e = getD (e .frame) 0 255
+
+-- (14.29) of a call's exchanges: a wait after a 60 ended on a status with bit 6 set. A status that does not tell ready ends no wait; `due`: the last frame that
+-- was no status is a 60, and no wait has ended since
+unfoldable pub miscompared : (due : Bool) → List Exchange → Bool
+miscompared due [] = false
+miscompared due (e ∷ es) =
+    cond (eqb (opcodeIn e) 0xD7)
+    (cond (eqb (statusIn e / 128 % 2) 1) ((due && eqb (statusIn e / 64 % 2) 1) || miscompared false es) (miscompared due es))
+    (miscompared (eqb (opcodeIn e) 0x60) es)
+
+-- (14.29) the answers that come before 16: 8 to 13
+pub data Before16 : Answer → Type 0 where
+  device : Before16 Answers.Device
+  busy : Before16 Answers.Busy
+  shut : Before16 Answers.Sealed
+  lost : Before16 Answers.Cut
+  blank : Before16 Answers.Blank
+  beyond : Before16 Answers.End
+
+-- (14.29) the answer is 16 exactly if none of these is, and a wait after a 60 ended so
+pub record MiscompareExactly (es : List Exchange) (a : Answer) : Type 0 where
+  pub only : a ≡ Answers.Miscompare → miscompared false es ≡ true
+  pub due : miscompared false es ≡ true → Before16 a ⊎ (a ≡ Answers.Miscompare)
 
 -- ---- a call that nothing disturbs
 

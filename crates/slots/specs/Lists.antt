@@ -129,6 +129,11 @@ unfoldable pub leftBy : List Op → State → State
 leftBy [] s = s
 leftBy (o ∷ os) s = leftBy os (nextOf o s)
 
+-- (14.30) none of them answers 16
+abbrev pub NoMiscompare : List Out → Type 0
+NoMiscompare [] = Unit {0}
+NoMiscompare (o ∷ os) = (o .answer ≡ Answers.Miscompare → ⊥) × NoMiscompare os
+
 -- ---- how many frames each may send
 
 -- (14.3) the bound of each: events, and a frame sent straight, are no calls, and their frames are not counted

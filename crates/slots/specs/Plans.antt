@@ -10,7 +10,7 @@ use Rattle.geometry.specs.Parts.{run}
 use Rattle.geometry.specs.Sectors.{sectorOf}
 use Rattle.slots.specs.declared.Kind.{Kind}
 use Rattle.slots.specs.declared.Kind.the-variants.{Put, Patch, Get, Wipe}
-use Rattle.slots.specs.declared.Command.the-variants.{Program, Erase}
+use Rattle.slots.specs.declared.Command.the-variants.{Program, Erase, Compare}
 use Rattle.slots.specs.declared.Step.{Step}
 use Rattle.slots.specs.declared.Step.the-variants.{Wait, Protection, Lockdown, Read, Load, Send, End}
 
@@ -24,8 +24,8 @@ pub record Asked : Type 0 where
 
 -- (10.3) a wait; and for a call that writes, both registers
 abbrev pub opening : Bool → List Step
-opening true = Wait ∷ Protection ∷ Lockdown ∷ []
-opening false = Wait ∷ []
+opening true = Wait false ∷ Protection ∷ Lockdown ∷ []
+opening false = Wait false ∷ []
 
 -- (10.3) the calls that write
 unfoldable pub isAsking : Kind → Bool
@@ -34,16 +34,20 @@ isAsking Patch = true
 isAsking Get = false
 isAsking Wipe = true
 
+-- (10.4) the page compared with what was programmed: the wait after a 60 is checked
+abbrev pub checkPage : ℕ → List Step
+checkPage p = Send Compare p ∷ Wait true ∷ []
+
 -- (10.4) of a put; a patch has them too
 abbrev pub putPage : ℕ → List Step
-putPage p = Load p ∷ Send Program p ∷ Wait ∷ []
+putPage p = Load p ∷ Send Program p ∷ Wait false ∷ checkPage p
 
 -- (10.4) the steps of a page
 unfoldable pub pageSteps : Kind → ℕ → List Step
 pageSteps Put p = putPage p
 pageSteps Patch p = Read p ∷ putPage p
 pageSteps Get p = Read p ∷ []
-pageSteps Wipe p = Send Erase p ∷ Wait ∷ []
+pageSteps Wipe p = Send Erase p ∷ Wait false ∷ []
 
 -- (10.5) the pages: the slot's eight, or its first
 unfoldable pub runBy : Kind → Geometry → ℕ → Run
@@ -79,7 +83,7 @@ stepAt (x ∷ xs) (suc i) = stepAt xs i
 
 -- (10.6) it is the end
 unfoldable pub isEnd : Step → Bool
-isEnd Wait = false
+isEnd (Wait c) = false
 isEnd Protection = false
 isEnd Lockdown = false
 isEnd (Read p) = false
@@ -89,7 +93,7 @@ isEnd End = true
 
 -- (11.7) the step whose frames are polls
 unfoldable pub isWait : Step → Bool
-isWait Wait = true
+isWait (Wait c) = true
 isWait Protection = false
 isWait Lockdown = false
 isWait (Read p) = false
@@ -115,21 +119,21 @@ waitsIn (x ∷ xs) = cond (isWait x) 1 0 + waitsIn xs
 
 -- (10.29) the bounds in numbers, by call and B
 unfoldable pub stated : Kind → ℕ → ℕ
-stated Put B = 9 * B + 18
-stated Patch B = 9 * B + 26
+stated Put B = 17 * B + 26
+stated Patch B = 17 * B + 34
 stated Get B = B + 8
 stated Wipe B = 2 * B + 3
 
 -- (10.30) frames of a call that nothing disturbs
 unfoldable pub framesOf : Kind → ℕ
-framesOf Put = 27
-framesOf Patch = 35
+framesOf Put = 43
+framesOf Patch = 51
 framesOf Get = 9
 framesOf Wipe = 5
 
 -- (10.30) and its polls
 unfoldable pub pollsOf : Kind → ℕ
-pollsOf Put = 9
-pollsOf Patch = 9
+pollsOf Put = 17
+pollsOf Patch = 17
 pollsOf Get = 1
 pollsOf Wipe = 2

@@ -9,7 +9,7 @@ use Rattle.geometry.specs.declared.Geometry.{Geometry}
 use Rattle.slots.specs.declared.Period.{Period}
 use Rattle.slots.specs.declared.Period.the-variants.{Always, Days}
 use Rattle.slots.specs.declared.Verdict.{Verdict}
-use Rattle.slots.specs.declared.Verdict.the-variants.{Good, Blank, Beyond, Outside}
+use Rattle.slots.specs.declared.Verdict.the-variants.{Good, Blank, Beyond, Outside, Miscompared}
 
 -- (9.1) a slot's bytes: eight pages
 unfoldable pub slotSize : Geometry → ℕ
@@ -81,12 +81,13 @@ unfoldable pub patched : ℕ → ℕ → List ℕ → ℕ → ℕ → ℕ
 patched head place bytes old i =
     cond (leb (head + place) i && ltb i (head + place + length bytes)) (getD bytes (i - (head + place)) 0) old
 
--- (9.8) the same by the verdict on the slot's first page: under 12 or 13 as it was
+-- (9.8) the same by the verdict so far: under 12 or 13 as it was; a page that differs keeps no other from being changed
 unfoldable pub changed : Verdict → ℕ → ℕ → List ℕ → ℕ → ℕ → ℕ
 changed Good head place bytes old i = patched head place bytes old i
 changed Blank head place bytes old i = old
 changed Beyond head place bytes old i = old
 changed Outside head place bytes old i = old
+changed Miscompared head place bytes old i = patched head place bytes old i
 
 -- ---- verdicts
 

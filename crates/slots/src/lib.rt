@@ -11,16 +11,17 @@ pub enum Kind {
     Wipe,
 }
 
-// The commands that name a page in four bytes: 83, 50.
+// The commands that name a page in four bytes: 83, 50, 60.
 pub enum Command {
     Program,
     Erase,
+    Compare,
 }
 
 // A step of a plan: a wait (D7), 32, 35, a page read (D2), a page loaded (84), a command that names a page; or the plan's end. Pages are
-// pages of the part.
+// pages of the part. A wait is checked if it comes after a 60: the compare bit of its last status counts.
 pub enum Step {
-    Wait,
+    Wait { checked: bool },
     Protection,
     Lockdown,
     Read { page: usize },
@@ -51,12 +52,14 @@ pub struct Course {
     pub guarded: bool,
 }
 
-// What page 0 of a slot told get or patch: a record, 12 (blank), 13 (the patch ends beyond it), or 15 (the get is outside its term).
+// What a call has found for its answer at the plan's end: nothing against it; 12 (blank), 13 (the patch ends beyond the record) or 15 (the
+// get is outside its term), by the slot's first page; or 16 (a page that differs from what was programmed).
 pub enum Verdict {
     Good,
     Blank,
     Beyond,
     Outside,
+    Miscompared,
 }
 
 // What a call is told beside slot, poll limit and bytes: a patch's place, a put's term, a get's date of today. What does not concern
@@ -87,7 +90,7 @@ pub struct Flaws {
 }
 
 // The slot driver's state: the length of the chip's array, which says the part; the slot and the poll limit; the call, and what it aims at; the
-// verdict on the slot's first page; and the control state.
+// verdict so far; and the control state.
 pub struct Driver {
     pub array: usize,
     pub slot: usize,

@@ -2,14 +2,14 @@
 -- busy end makes a page of the buffer, and D7, 32, 35, D2, 83 and 50 leave the memory as it is; a busy end of an idle chip changes nothing.
 -- Assumes nothing.
 use mathlib.Core.Path.{_≡_, refl, sym, ap, subst, _∙_}
-use mathlib.Core.Bool.{Bool, true, false, cond}
+use mathlib.Core.Bool.{Bool, true, false, cond, not}
 use mathlib.Core.List.{List, [], _∷_}
 use Prim.Native.Nat.{ℕ, _*_, _/_, _%_, _<_, _≤_}
 use native.Mathlib.Nat.{zero-mod}
 use native.Mathlib.Omega.{arith}
 use lib.ListN.{length, take, drop}
-use Rattle.slices.specs.Lists.{over, ringWrite}
-use Rattle.slices.proofs.Laws.{splice-zero, splice-part}
+use Rattle.slices.specs.Lists.{over, ringWrite, same}
+use Rattle.slices.proofs.Laws.{splice-zero, splice-part, same-refl}
 use Rattle.slices.proofs.Rings.{ringWrite-splice, ringWrite-whole}
 use Rattle.geometry.specs.declared.Geometry.{Geometry}
 use Rattle.geometry.specs.declared.Part.the-variants.{Known}
@@ -23,7 +23,7 @@ use Rattle.commands.specs.declared.Effect.the-variants as E
 use Rattle.commands.specs.Decode.{decodeOf}
 use Rattle.commands.proofs.Frames.{decode-status, decode-protection, decode-lockdown, decode-program, decode-erase, decode-page}
 use Rattle.registers.specs.declared.Operation.{Operation}
-use Rattle.registers.specs.declared.Operation.the-variants.{Idle, Program, EraseBlock}
+use Rattle.registers.specs.declared.Operation.the-variants.{Idle, Program, Compare, EraseBlock}
 use Rattle.registers.specs.declared.Registers.{Registers}
 use Rattle.registers.specs.Operations.{bufferUsed, runOf, sectorsOf}
 use Rattle.registers.specs.Protection.{sealed}
@@ -34,7 +34,7 @@ use Rattle.control.specs.Starts.{Ready}
 use Rattle.control.proofs.Rows.{control-cases}
 use Rattle.control.proofs.Frames.{load-obeyed}
 use Rattle.control.proofs.Ends.{completed-idle}
-use Rattle.memory.specs.Pages.{programmed, erased}
+use Rattle.memory.specs.Pages.{programmed, differing, erased}
 use Rattle.memory.proofs.Pages.{programmed-page, programmed-other}
 use Rattle.memory.proofs.Sectors.{inSectors-none}
 use Rattle.state.specs.declared.Answer.the-variants as Answers
@@ -165,6 +165,18 @@ pub program-rest : (g : Geometry) (b : Buffer) (page : ℕ) (m : Memory)
     → (completedMemory g (Program b page) m .buffer1 ≡ m .buffer1) × (completedMemory g (Program b page) m .buffer2 ≡ m .buffer2) × (completedMemory g (Program b page) m .compare ≡ m .compare)
 unfolding completedMemory
 program-rest g b page m = (refl, refl, refl)
+
+-- 60/61: the compare bit is 0 where page and buffer are the same, and nothing else changes
+pub compare-same : (g : Geometry) (b : Buffer) (page : ℕ) (m : Memory) → pageOf g page (m .array) ≡ take (g .size) (bufferIn b m)
+    → completedMemory g (Compare b page) m .compare ≡ false
+unfolding completedMemory bufferUsed differing
+compare-same g b page m e =
+    ap (λ (l : List ℕ). not (same (take (g .size) (bufferIn b m)) l)) e ∙ ap not (same-refl (take (g .size) (bufferIn b m)))
+
+pub compare-rest : (g : Geometry) (b : Buffer) (page : ℕ) (m : Memory)
+    → (completedMemory g (Compare b page) m .array ≡ m .array) × (completedMemory g (Compare b page) m .buffer1 ≡ m .buffer1)
+unfolding completedMemory
+compare-rest g b page m = (refl, refl)
 
 -- 50: the block's pages are FFh
 pub erase-block-array : (g : Geometry) (block : ℕ) (m : Memory) → completedMemory g (EraseBlock block) m .array ≡ erased g (run (8 * block) 8) (m .array)

@@ -2,7 +2,7 @@
 -- Assumes nothing.
 use Prim.Native.Nat.{ℕ}
 use Rattle.state.specs.declared.Answer.{Answer}
-use Rattle.state.specs.declared.Answer.the-variants.{Done, Part, Frame, Slot, Limit, Size, Log, Script, Device, Busy, Sealed, Cut, Blank, End, Dates, Term}
+use Rattle.state.specs.declared.Answer.the-variants.{Done, Part, Frame, Slot, Limit, Size, Log, Script, Device, Busy, Sealed, Cut, Blank, End, Dates, Term, Miscompare}
 
 -- (12.1) each answer's number
 -- (14.1) there is no other answer
@@ -23,3 +23,4 @@ numberOf Blank = 12
 numberOf End = 13
 numberOf Dates = 14
 numberOf Term = 15
+numberOf Miscompare = 16

@@ -27,6 +27,7 @@ pub enum Answer {
     End,
     Dates,
     Term,
+    Miscompare,
 }
 
 // The chip record: the registers, and of the memory the two buffers and the compare bit.
@@ -64,6 +65,7 @@ pub fn number(a: Answer) -> u8
         Answer::End => 13,
         Answer::Dates => 14,
         Answer::Term => 15,
+        Answer::Miscompare => 16,
     }
 }
 

@@ -129,6 +129,14 @@ unfolding stepAt
 at-one x zero e = absurd (e refl)
 at-one x (suc j) e = refl
 
+-- a step, two, and the rest
+pub at-programmed : (x y z : Step) (xs : List Step) (j : ℕ) → (j ≡ 0 → ⊥) → j < 3 → stepAt (y ∷ z ∷ []) (j - 1) ≡ stepAt (x ∷ y ∷ z ∷ xs) j
+at-programmed x y z xs j e l =
+    sym (at-left (y ∷ z ∷ []) xs (j - 1) (omega arith)) ∙ at-later x (y ∷ z ∷ xs) j e
+
+pub at-compared : (x y z : Step) (xs : List Step) (j : ℕ) → 3 ≤ j → stepAt xs (j - 3) ≡ stepAt (x ∷ y ∷ z ∷ xs) j
+at-compared x y z xs j l = sym (at-right (x ∷ y ∷ z ∷ []) xs j (j - 3) (omega arith))
+
 -- two steps, then the end
 pub at-two : (x y : Step) (j : ℕ) → (j ≡ 0 → ⊥) → (j ≡ 1 → ⊥) → End ≡ stepAt (x ∷ y ∷ []) j
 unfolding stepAt
@@ -138,16 +146,16 @@ at-two x y (suc (suc j)) e f = refl
 
 -- ---- the opening, with or without 32 and 35
 
-pub opens-first : (i : ℕ) → i ≡ 0 → (b : Bool) → i < length (opening b) → Wait ≡ stepAt (opening b) i
-opens-first i e true l = at-first Wait (Protection ∷ Lockdown ∷ []) i e
-opens-first i e false l = at-first Wait [] i e
+pub opens-first : (i : ℕ) → i ≡ 0 → (b : Bool) → i < length (opening b) → Wait false ≡ stepAt (opening b) i
+opens-first i e true l = at-first (Wait false) (Protection ∷ Lockdown ∷ []) i e
+opens-first i e false l = at-first (Wait false) [] i e
 
 pub opens-second : (i : ℕ) → i ≡ 1 → (b : Bool) → i < length (opening b) → Protection ≡ stepAt (opening b) i
-opens-second i e true l = at-second Wait Protection (Lockdown ∷ []) i e
+opens-second i e true l = at-second (Wait false) Protection (Lockdown ∷ []) i e
 opens-second i e false l = absurd (omega arith)
 
 pub opens-third : (i : ℕ) → (i ≡ 0 → ⊥) → (i ≡ 1 → ⊥) → (b : Bool) → i < length (opening b) → Lockdown ≡ stepAt (opening b) i
-opens-third i e f true l = at-third Wait Protection Lockdown [] i (omega arith)
+opens-third i e f true l = at-third (Wait false) Protection Lockdown [] i (omega arith)
 opens-third i e f false l = absurd (omega arith)
 
 -- ---- a call's steps for a page, by the call

@@ -32,7 +32,7 @@ last-from {n} k i e g slot =
 -- a step whose tag is not the end's
 pub not-end : (x : Step) → OneOf (0 ∷ 1 ∷ 2 ∷ 3 ∷ 4 ∷ 5 ∷ []) (tagOf the-type x) → false ≡ isEnd x
 unfolding isEnd
-not-end Wait h = refl
+not-end (Wait c) h = refl
 not-end Protection h = refl
 not-end Lockdown h = refl
 not-end (Read p) h = refl

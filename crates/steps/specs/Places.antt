@@ -8,8 +8,8 @@ use Rattle.slots.specs.declared.Step.the-variants.{Wait, Protection, Lockdown, 
 
 -- how many steps a page takes
 unfoldable pub perPage : Kind → ℕ
-perPage Put = 3
-perPage Patch = 4
+perPage Put = 5
+perPage Patch = 6
 perPage Get = 1
 perPage Wipe = 2
 
@@ -22,7 +22,7 @@ pageCount Wipe = 1
 
 -- the page that a step names; 0 where it names none
 unfoldable pub pageBy : Step → ℕ
-pageBy Wait = 0
+pageBy (Wait c) = 0
 pageBy Protection = 0
 pageBy Lockdown = 0
 pageBy (Read p) = p

@@ -14,8 +14,8 @@ use slots::Kind;
 use slots::Step;
 
 // A command that names a page, and its wait.
-fn sent_step(command: Command, page: usize, j: usize) -> Step
-    ensures { λ r. ⌜ (r ≡ stepAt (Send command page ∷ Wait ∷ []) j) × (pageBy r ≤ page) ⌝ }
+fn sent_step(command: Command, page: usize, checked: bool, j: usize) -> Step
+    ensures { λ r. ⌜ (r ≡ stepAt (Send command page ∷ Wait checked ∷ []) j) × (pageBy r ≤ page) ⌝ }
 {
     if j == 0 {
         return Step::Send {
@@ -24,20 +24,24 @@ fn sent_step(command: Command, page: usize, j: usize) -> Step
         };
     }
     if j == 1 {
-        return Step::Wait;
+        return Step::Wait { checked: checked };
     }
     Step::End
 }
 
-// A page loaded and programmed.
+// A page loaded, programmed and compared.
 fn put_step(page: usize, j: usize) -> Step
     ensures { λ r. ⌜ (r ≡ stepAt (putPage page) j) × (pageBy r ≤ page) ⌝ }
 {
     if j == 0 {
         return Step::Load { page: page };
     }
-    let command = Command::Program;
-    sent_step(command, page, j - 1)
+    if j < 3 {
+        let command = Command::Program;
+        return sent_step(command, page, false, j - 1);
+    }
+    let command = Command::Compare;
+    sent_step(command, page, true, j - 3)
 }
 
 // Step j of what a call sends for a page.
@@ -60,17 +64,17 @@ fn page_step(kind: Kind, page: usize, j: usize) -> Step
         }
         Kind::Wipe => {
             let command = Command::Erase;
-            sent_step(command, page, j)
+            sent_step(command, page, false, j)
         }
     }
 }
 
 fn per_page(kind: Kind) -> usize
-    ensures { λ r. ⌜ (r ≡ perPage kind) × (0 < r) × (r ≤ 4) ⌝ }
+    ensures { λ r. ⌜ (r ≡ perPage kind) × (0 < r) × (r ≤ 6) ⌝ }
 {
     match kind {
-        Kind::Put => 3,
-        Kind::Patch => 4,
+        Kind::Put => 5,
+        Kind::Patch => 6,
         Kind::Get => 1,
         Kind::Wipe => 2,
     }
@@ -92,8 +96,8 @@ fn page_of(kind: Kind, j: usize) -> usize
     ensures { λ r. ⌜ r ≡ j / perPage kind ⌝ }
 {
     match kind {
-        Kind::Put => j / 3,
-        Kind::Patch => j / 4,
+        Kind::Put => j / 5,
+        Kind::Patch => j / 6,
         Kind::Get => j,
         Kind::Wipe => j / 2,
     }
@@ -116,7 +120,7 @@ fn opening_step(i: usize) -> Step
     ensures { λ r. ⌜ ((b : Bool) → i < length (opening b) → r ≡ stepAt (opening b) i) × (pageBy r ≡ 0) ⌝ }
 {
     if i == 0 {
-        return Step::Wait;
+        return Step::Wait { checked: false };
     }
     if i == 1 {
         return Step::Protection;
@@ -146,8 +150,8 @@ pub fn is_last(kind: Kind, i: usize) -> bool
     ensures { λ r. ⌜ ((g : Geometry) (slot : ℕ) → r ≡ isEnd (stepAt (planBy kind g slot) (suc i))) ⌝ }
 {
     match kind {
-        Kind::Put => 26 <= i,
-        Kind::Patch => 34 <= i,
+        Kind::Put => 42 <= i,
+        Kind::Patch => 50 <= i,
         Kind::Get => 8 <= i,
         Kind::Wipe => 4 <= i,
     }
@@ -165,11 +169,11 @@ pub fn is_end(x: Step) -> bool
 // The most frames that a call with this poll limit sends.
 pub fn bound_of(kind: Kind, limit: usize) -> usize
     requires { ⌜ limit ≤ 1000 ⌝ }
-    ensures { λ r. ⌜ (r ≡ stated kind limit) × (r ≤ 9026) ⌝ }
+    ensures { λ r. ⌜ (r ≡ stated kind limit) × (r ≤ 17034) ⌝ }
 {
     match kind {
-        Kind::Put => 9 * limit + 18,
-        Kind::Patch => 9 * limit + 26,
+        Kind::Put => 17 * limit + 26,
+        Kind::Patch => 17 * limit + 34,
         Kind::Get => limit + 8,
         Kind::Wipe => 2 * limit + 3,
     }

@@ -21,6 +21,7 @@ fn verdict_answer(v: Verdict) -> Answer
         Verdict::Blank => Answer::Blank,
         Verdict::Beyond => Answer::End,
         Verdict::Outside => Answer::Term,
+        Verdict::Miscompared => Answer::Miscompare,
     }
 }
 

@@ -4,7 +4,7 @@ use Prim.Native.Nat.{ℕ, zero, suc, _+_, _-_, _*_, _/_, _%_, _≤_, _<_}
 use native.Mathlib.Nat.{mul-le-mul}
 use native.Mathlib.Omega.{arith}
 use mathlib.Core.Path.{_≡_, refl, sym, ap, subst, _∙_}
-use mathlib.Core.Bool.{false}
+use mathlib.Core.Bool.{Bool, false}
 use mathlib.Core.List.{List, [], _∷_, _++_}
 use mir.Val.{Fits}
 use mir.Syntax.{w64}
@@ -72,9 +72,9 @@ plain-form opcode n size x h =
     ∙ ap (λ (m : ℕ). tabulate m (frameByte s x)) k
 
 module _ (g : Geometry) (k : Kind) (h : Holding) where
-  pub wait-form : 0xD7 ∷ 0 ∷ [] ≡ frameOf g k h Wait
+  pub wait-form : (c : Bool) → 0xD7 ∷ 0 ∷ [] ≡ frameOf g k h (Wait c)
   unfolding shapeOf frameByte tabulate
-  wait-form = refl
+  wait-form c = refl
 
   pub protection-form : 0x32 ∷ 0 ∷ 0 ∷ 0 ∷ replicate (4 + g .register - 4) 0 ≡ frameOf g k h Protection
   unfolding shapeOf

@@ -3,7 +3,7 @@
 use Prim.Native.Nat.{ℕ, _*_, _+_, _/_, _<_, _≤_}
 use native.Mathlib.Omega.{arith}
 use mathlib.Core.Path.{_≡_, refl}
-use mathlib.Core.Bool.{cond}
+use mathlib.Core.Bool.{Bool, true, false, cond, _&&_}
 use mathlib.Core.List.{List, [], _∷_}
 use types.Run.{OneOf, miss}
 use denote.Enum.Declared.{tagOf}
@@ -18,7 +18,7 @@ use Rattle.slots.specs.declared.Step.{Step}
 use Rattle.slots.specs.declared.Step.the-variants.{Wait, Protection, Lockdown, Read, Load, Send, End}
 use Rattle.slots.proofs.Step.{the-type}
 use Rattle.slots.specs.Plans.{isWait}
-use Rattle.slots.specs.Driver.{Holding, takenBy}
+use Rattle.slots.specs.Driver.{Holding, compareIn, miscomparing, marred, takenBy}
 use Rattle.slots.proofs.Counts.{place-few}
 use Rattle.records.specs.Held.{Pages}
 use Rattle.records.proofs.Parts.{part-pages}
@@ -43,20 +43,30 @@ module _ {g : Geometry} {d : Driver} (s : Sound g d) where
 
 -- ---- steps by their form
 
--- a reply to any other step than a read carries no data
-pub taken-none : (x : Step) (g : Geometry) (k : Kind) (h : Holding) (reply : List ℕ) → OneOf (0 ∷ 1 ∷ 2 ∷ 4 ∷ 5 ∷ 6 ∷ []) (tagOf the-type x) → h ≡ takenBy x g k h reply
+-- a reply to any other step than a wait or a read carries no data
+pub taken-none : (x : Step) (g : Geometry) (k : Kind) (h : Holding) (reply : List ℕ) → OneOf (1 ∷ 2 ∷ 4 ∷ 5 ∷ 6 ∷ []) (tagOf the-type x) → h ≡ takenBy x g k h reply
 unfolding takenBy
-taken-none Wait g k h reply e = refl
+taken-none (Wait c) g k h reply e = absurd (miss (1 ∷ 2 ∷ 4 ∷ 5 ∷ 6 ∷ []) 0 tt e)
 taken-none Protection g k h reply e = refl
 taken-none Lockdown g k h reply e = refl
-taken-none (Read p) g k h reply e = absurd (miss (0 ∷ 1 ∷ 2 ∷ 4 ∷ 5 ∷ 6 ∷ []) 3 tt e)
+taken-none (Read p) g k h reply e = absurd (miss (1 ∷ 2 ∷ 4 ∷ 5 ∷ 6 ∷ []) 3 tt e)
 taken-none (Load p) g k h reply e = refl
 taken-none (Send c p) g k h reply e = refl
 taken-none End g k h reply e = refl
 
+-- a wait's the verdict alone
+pub taken-wait : (c : Bool) (g : Geometry) (k : Kind) (h : Holding) (reply : List ℕ)
+    → (cond (c && compareIn reply) (miscomparing (h .verdict)) (h .verdict) ≡ takenBy (Wait c) g k h reply .verdict) × (h .staged ≡ takenBy (Wait c) g k h reply .staged)
+unfolding takenBy
+taken-wait c g k h reply = go (c && compareIn reply)
+  where
+    go : (b : Bool) → (cond b (miscomparing (h .verdict)) (h .verdict) ≡ cond b (marred h) h .verdict) × (h .staged ≡ cond b (marred h) h .staged)
+    go true = (refl, refl)
+    go false = (refl, refl)
+
 pub no-wait : (x : Step) → OneOf (1 ∷ 2 ∷ 3 ∷ 4 ∷ 5 ∷ 6 ∷ []) (tagOf the-type x) → (_≡_ {A = ℕ} 0 (cond (isWait x) 1 0)) × (0 ≤ 1)
 unfolding isWait
-no-wait Wait e = absurd (miss (1 ∷ 2 ∷ 3 ∷ 4 ∷ 5 ∷ 6 ∷ []) 0 tt e)
+no-wait (Wait c) e = absurd (miss (1 ∷ 2 ∷ 3 ∷ 4 ∷ 5 ∷ 6 ∷ []) 0 tt e)
 no-wait Protection e = (refl, omega arith)
 no-wait Lockdown e = (refl, omega arith)
 no-wait (Read p) e = (refl, omega arith)

@@ -2,13 +2,13 @@
 // Internal to this repository: a caller here meets each `requires`; the entry points are in crate driver.
 ghost use mathlib.Core.Path.{_≡_};
 ghost use Prim.Native.Nat.{_+_, _-_, _*_, _/_, _%_, _≤_, _<_};
-ghost use mathlib.Core.Bool.{cond};
+ghost use mathlib.Core.Bool.{cond, _&&_};
 ghost use mathlib.Core.List.{[], _∷_};
 ghost use lib.ListN.{length, replicate};
 ghost use Rattle.geometry.specs.Parts.{slotRoom};
 ghost use Rattle.slices.specs.Lists.{over};
 ghost use Rattle.slots.specs.Plans.{isWait};
-ghost use Rattle.slots.specs.Driver.{opcodeOf, shapeOf, frameOf, frameRoom};
+ghost use Rattle.slots.specs.Driver.{opcodeOf, shapeOf, frameOf, frameRoom, compareIn, miscomparing};
 ghost use Rattle.records.specs.Held.{Pages};
 ghost use Rattle.steps.specs.Places.{pageBy};
 ghost use Rattle.worlds.specs.Turns.{holdingOf, with, stepIn, Sound, dataAfter, courseAfter, tookOn};
@@ -27,6 +27,7 @@ fn opcode_of(c: Command) -> u8
     match c {
         Command::Program => 0x83,
         Command::Erase => 0x50,
+        Command::Compare => 0x60,
     }
 }
 
@@ -107,7 +108,7 @@ pub fn write_step(
     let field = g.field;
     let register = g.register;
     match x {
-        Step::Wait => write_poll(frame),
+        Step::Wait { checked: _ } => write_poll(frame),
         Step::Protection => write_long(0x32, 0, 4 + register, frame),
         Step::Lockdown => write_long(0x35, 0, 4 + register, frame),
         Step::Read { page: p } => write_long(0xD2, field * p, 8 + size, frame),
@@ -124,7 +125,7 @@ pub fn write_step(
 pub fn poll_count(x: Step) -> usize
     ensures { λ r. ⌜ (r ≡ cond (isWait x) 1 0) × (r ≤ 1) ⌝ }
 {
-    if let Step::Wait = x {
+    if let Step::Wait { checked: _ } = x {
         return 1;
     }
     0
@@ -144,6 +145,19 @@ pub fn take_course(g: Geometry, d: Driver, x: Step, reply: &[u8]) -> Course
     courses::take_course(c, x, last, d.limit, sector, reply)
 }
 
+// The verdict after a wait's reply: if the wait is checked, a compare bit of 1 tells of a page that differs.
+fn take_compare(v: Verdict, checked: bool, reply: &[u8]) -> Verdict
+    ensures { λ r. ⌜ r ≡ cond (checked && compareIn (now (reply .entry))) (miscomparing v) v ⌝ }
+{
+    if !checked {
+        return v;
+    }
+    if !courses::compare_bit(reply) {
+        return v;
+    }
+    records::miscompare(v)
+}
+
 // The verdict after a step's reply, and the bytes read.
 pub fn take_data(
     g: Geometry,
@@ -159,10 +173,11 @@ pub fn take_data(
     let k = d.kind;
     let v = d.verdict;
     let aim = d.aim;
-    if let Step::Read { page: p } = x {
-        return page_data::read_page(g, k, v, aim, p, payload, reply, staged);
+    match x {
+        Step::Wait { checked: c } => take_compare(v, c, reply),
+        Step::Read { page: p } => page_data::read_page(g, k, v, aim, p, payload, reply, staged),
+        _ => v,
     }
-    v
 }
 
 // The state with another verdict and control state.

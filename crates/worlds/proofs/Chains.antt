@@ -17,21 +17,24 @@ use Rattle.slots.specs.declared.Stage.{Stage}
 use Rattle.slots.specs.declared.Step.{Step}
 use Rattle.slots.specs.declared.Step.the-variants.{Wait, Protection, Lockdown, Read, Load, Send, End}
 use Rattle.slots.specs.declared.Verdict.the-variants.{Good}
-use Rattle.slots.specs.Plans.{Asked, planOf, stated, isWait, framesMost}
+use Rattle.slots.specs.Plans.{Asked, planOf, bound, stated, isWait, framesMost}
 use Rattle.slots.specs.Refusals.{isOver, isShort, flawsIn}
-use Rattle.slots.specs.Driver.{Holding, frameOf, takenBy, readIn, isEnded, toldBy}
+use Rattle.slots.specs.Driver.{Holding, frameOf, compareIn, marred, takenBy, readIn, isEnded, toldBy}
+use Rattle.slots.specs.Exchanges.{Exchange, MiscompareExactly}
+use Rattle.slots.specs.declared.Told.the-variants.{Answered}
+use Rattle.state.specs.declared.Answer.{Answer}
 use Rattle.slots.specs.Calls.{outline, firstCourse}
 use Rattle.slots.proofs.Places.{never, restAt, rest-step}
 use Rattle.slots.proofs.Accepted.{picked}
 use Rattle.slots.proofs.Counts.{bounds}
 use Rattle.slots.proofs.Bound.{Ok, costOf}
 use Rattle.slots.proofs.Driven.{other}
-use Rattle.worlds.specs.Talks.{Talk, opened, talked, talk, HeardAlike, SameTalk}
+use Rattle.worlds.specs.Talks.{Talk, opened, talked, talk, exchangesIn, HeardAlike, SameTalk}
 use Rattle.worlds.specs.Turns.{askedOf, holdingOf, stepIn, dataAfter, courseAfter, tookOn}
 use Rattle.worlds.specs.Start.{startRefusal, startDriver}
 use Rattle.worlds.specs.Step.{stageBy, stageIn, frameBy, frameIn, pollBy, pollIn, stagedBy, stagedIn, toldIn}
-use Rattle.worlds.specs.Chains.{Chain, begun, linked, chain, AgreeIn, SameChain}
-use Rattle.worlds.proofs.Talks.{any-world, talk-ends}
+use Rattle.worlds.specs.Chains.{Chain, begun, linked, chain, exchanged, AgreeIn, SameChain}
+use Rattle.worlds.proofs.Talks.{any-world, any-miscompares, talk-ends}
 use Rattle.worlds.proofs.Sane.{Facts, Sane, going-facts, sane-stage, took-going, took-keeps, start-sane, ended-off}
 use Rattle.slots.specs.declared.Detail.{Detail}
 use Rattle.slots.specs.Details.{aimOf}
@@ -49,11 +52,16 @@ talkOf payload z =
       polls = z .polls;
     }
 
+data-wait : (b : Bool) (h : Holding)
+    → record { payload = h .payload; aim = h .aim; staged = (cond b (marred h) h) .staged; verdict = (cond b (marred h) h) .verdict } ≡ cond b (marred h) h
+data-wait true h = refl
+data-wait false h = refl
+
 -- a reply changes neither the payload nor what the call aims at
 pub data-held : (x : Step) (g : Geometry) (k : Kind) (h : Holding) (reply : List ℕ)
     → record { payload = h .payload; aim = h .aim; staged = takenBy x g k h reply .staged; verdict = takenBy x g k h reply .verdict } ≡ takenBy x g k h reply
 unfolding takenBy readIn
-data-held Wait g k h reply = refl
+data-held (Wait c) g k h reply = data-wait (c && compareIn reply) h
 data-held Protection g k h reply = refl
 data-held Lockdown g k h reply = refl
 data-held (Read p) g k h reply = refl
@@ -205,6 +213,54 @@ any-world-called n g array a d there lent room payload other staged bytes replie
     (subst (SameTalk (talk n g a replies (opened g a (flawsIn (a .kind) g d (length payload) lent) _))) (sym (two .0 ∙ ap (talk n g a others) te))
     (any-world n g a (flawsIn (a .kind) g d (length payload) lent) _ _ replies others
     (subst (HeardAlike n g a replies others) td (agree-heard n g payload replies others (begun c staged) sd h)))))
+
+-- ---- 16
+
+-- the functions' exchanges are the definitions' driver's
+exchanged-talk : (n : ℕ) (g : Geometry) (payload : List ℕ) (replies : ℕ → List ℕ) (z : Chain) → Sane g (z .driver)
+    → exchanged n payload replies z ≡ exchangesIn n g (askedOf (z .driver)) replies (talkOf payload z)
+unfolding exchanged exchangesIn frameIn frameBy
+exchanged-talk zero g payload replies z w = refl
+exchanged-talk (suc n) g payload replies z w =
+    go (exchanged-talk n g payload replies (linked payload replies z) (link-sane g payload replies z w)
+    ∙ λ i. exchangesIn n g (link-asked g payload replies z (w .part) .0 i) replies (link-talked g payload replies z w i))
+    (isEnded (z .driver .course .stage)) refl
+  where
+    d : Driver
+    d = z .driver
+
+    h : Holding
+    h = holdingOf d payload (z .staged)
+
+    stands-so : isEnded (stageIn d) ≡ isEnded (d .course .stage)
+    stands-so = ap isEnded (sane-stage w)
+
+    go : exchanged n payload replies (linked payload replies z) ≡ exchangesIn n g (askedOf d) replies (talked g (askedOf d) replies (talkOf payload z))
+        → (b : Bool) → isEnded (d .course .stage) ≡ b → exchanged (suc n) payload replies z ≡ exchangesIn (suc n) g (askedOf d) replies (talkOf payload z)
+    go rest true e = picked (isEnded (stageIn d)) [] _ (stands-so ∙ e) ∙ sym (picked (isEnded (d .course .stage)) [] _ e)
+    go rest false e =
+        let f : isEnded (stageBy (Known g) d) ≡ false = ap isEnded (sym (counts-as g payload replies z (w .part))) ∙ stands-so ∙ e in
+        other (isEnded (stageIn d)) [] _ (stands-so ∙ e)
+        ∙ (λ i.
+        record { frame = (ap (λ (q : Part). frameBy q d payload (z .staged)) (w .part) ∙ other (isEnded (stageBy (Known g) d)) [] (frameOf g (d .kind) h (stepIn g d)) f) i; reply = replies (z .frames); byte = 1 }
+        ∷ rest i)
+        ∙ sym (other (isEnded (d .course .stage)) [] _ e)
+
+-- EXACTLY 16, over the driver's functions: a call on a part, whatever it is told and lent, and any sequence of replies
+pub miscompares-called : (g : Geometry) (array : ℕ) (a : Asked) (d : Detail) (lent : ℕ) (payload staged : List ℕ) (replies : ℕ → List ℕ) → partOf array ≡ Known g → (x : Answer)
+    → toldIn (chain (bound g a) payload replies (begun (startDriver array a d (length payload) lent) staged) .driver) ≡ Answered x
+    → MiscompareExactly (exchanged (bound g a) payload replies (begun (startDriver array a d (length payload) lent) staged)) x
+unfolding toldIn startDriver
+miscompares-called g array a d lent payload staged replies p x e =
+    let n = bound g a in
+    let z = begun (startDriver array a d (length payload) lent) staged in
+    let s = start-sane g array a d (length payload) lent p in
+    let t = start-talk g array a d lent payload staged p in
+    let c = chain-talk n g payload replies z s in
+    let k = c .0 ∙ ap (talk n g a replies) t in
+    subst (λ (es : List Exchange). MiscompareExactly es x) (sym (exchanged-talk n g payload replies z s ∙ ap (exchangesIn n g a replies) t))
+    (any-miscompares g a (flawsIn (a .kind) g d (length payload) lent) _ replies refl x
+    (ap (λ (y : Talk). toldBy (y .course .stage) (y .holding .verdict)) (sym k) ∙ ap (λ (y : Stage). toldBy y (chain n payload replies z .driver .verdict)) (sym (sane-stage (c .1))) ∙ e))
 
 -- ---- any state at all
 

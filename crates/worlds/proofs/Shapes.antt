@@ -20,7 +20,7 @@ frame-length g k h x = length-tabulate (shapeOf g x .length) (frameByte (shapeOf
 
 pub shape-some : (g : Geometry) (x : Step) → isEnd x ≡ false → 1 ≤ shapeOf g x .length
 unfolding shapeOf isEnd
-shape-some g Wait e = omega arith
+shape-some g (Wait c) e = omega arith
 shape-some g Protection e = omega arith
 shape-some g Lockdown e = omega arith
 shape-some g (Read p) e = omega arith
@@ -30,7 +30,7 @@ shape-some g End e = never (sym e)
 
 pub shape-fits : (g : Geometry) (x : Step) → g .size ≤ pageRoom → g .register ≤ pageRoom → shapeOf g x .length ≤ frameRoom
 unfolding shapeOf
-shape-fits g Wait h l = omega arith
+shape-fits g (Wait c) h l = omega arith
 shape-fits g Protection h l = omega arith
 shape-fits g Lockdown h l = omega arith
 shape-fits g (Read p) h l = omega arith

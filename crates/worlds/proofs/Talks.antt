@@ -1,13 +1,13 @@
 -- THE DRIVER IN FRONT OF ANY CHIP: control goes by what is heard alone, and a frame shows nothing of the data, so two worlds that agree in what is heard
 -- see the same outlines; and whatever comes back, the frames follow the plan to an end within the bound.
 -- Assumes nothing.
-use Prim.Native.Nat.{ℕ, zero, suc, _+_, _≤_}
+use Prim.Native.Nat.{ℕ, zero, suc, _+_, _/_, _≤_}
 use native.Mathlib.Omega.{arith}
 use mathlib.Core.Path.{_≡_, refl, sym, ap, subst, _∙_}
-use mathlib.Core.Bool.{Bool, true, false, cond}
-use mathlib.Core.List.{List, _++_}
+use mathlib.Core.Bool.{Bool, true, false, cond, not, _&&_}
+use mathlib.Core.List.{List, [], _∷_, _++_}
 use mathlib.Core.Logic.{inl}
-use lib.Dec.{eqb}
+use lib.Dec.{eqb, leb}
 use Rattle.geometry.specs.declared.Geometry.{Geometry}
 use Rattle.state.specs.declared.Answer.{Answer}
 use Rattle.state.specs.declared.Answer.the-variants as Answers
@@ -17,17 +17,23 @@ use Rattle.slots.specs.declared.Stage.{Stage}
 use Rattle.slots.specs.declared.Stage.the-variants.{Going, Ended}
 use Rattle.slots.specs.declared.Told.the-variants.{Answered}
 use Rattle.slots.specs.declared.Verdict.{Verdict}
+use Rattle.slots.specs.declared.Verdict.the-variants.{Good}
 use Rattle.slots.specs.Plans.{Asked, planOf, sectorFor, bound, isWait}
-use Rattle.slots.specs.Driver.{Holding, shapeOf, loaded, frameOf, heard, after, takenBy, stepOf, isEnded, weighed, toldBy}
+use Rattle.slots.specs.Driver.{Holding, shapeOf, loaded, frameOf, heard, after, takenBy, stepOf, isEnded, verdictAnswer, weighed, toldBy}
 use Rattle.slots.specs.Refusals.{earlyRefusal}
 use Rattle.slots.specs.Calls.{outline, firstCourse}
-use Rattle.worlds.specs.Talks.{Talk, opened, hearing, talked, talk, HeardAlike, SameTalk}
-use Rattle.slots.proofs.Places.{never}
+use Rattle.slots.specs.Exchanges.{Exchange, Result, finished, stopped, answerFor, Follows, miscompared, MiscompareExactly}
+use Rattle.worlds.specs.Talks.{Talk, opened, hearing, talked, talk, exchangesIn, HeardAlike, SameTalk}
+use Rattle.slots.specs.declared.Step.{Step}
+use Rattle.slots.proofs.Places.{never, rest-zero}
 use Rattle.slots.proofs.Accepted.{first-some, picked, early}
 use Rattle.slots.proofs.Bound.{Ok, start-ok, after-ok, some-left}
 use Rattle.slots.proofs.Blind.{outline-same}
 use Rattle.slots.proofs.TwoRuns.{Agree, weighed-agree}
-use Rattle.slots.proofs.Driven.{other, Machine, Led, run-led}
+use Rattle.slots.proofs.Driven.{other, Machine, Ends, Late, Led, runOn, exchangesOn, follows-late, run-led}
+use Rattle.slots.proofs.Parts.{cases}
+use Rattle.slots.proofs.Miscompare.{miscompares-exactly}
+use Rattle.slots.proofs.Never.{No16, by-number}
 use Rattle.slots.specs.declared.Flaws.{Flaws}
 
 -- ---- two worlds
@@ -184,3 +190,65 @@ module _ (g : Geometry) (a : Asked) (flaws : Flaws) (h : Holding) (replies : ℕ
   unfolding opened firstCourse isEnded
   any-replies e =
       run-led g a (alone g a replies) (bound g a) (opened g a flaws h) (opened-ok e) (inl (ap (λ (b : Bool). isEnded (cond b Going (Ended (earlyRefusal g a flaws)))) e))
+
+-- ---- 16
+
+module _ (g : Geometry) (a : Asked) (replies : ℕ → List ℕ) where
+  -- the machine's steps and exchanges are the talk's
+  run-talk : (n : ℕ) (t : Talk) → (runOn (alone g a replies) n t ≡ talk n g a replies t) × (exchangesOn (alone g a replies) n t ≡ exchangesIn n g a replies t)
+  unfolding runOn exchangesOn talk exchangesIn
+  run-talk zero t = (refl, refl)
+  run-talk (suc n) t =
+      let r = run-talk n (talked g a replies t) in
+      (r .0, λ i. cond (isEnded (t .course .stage)) [] (record { frame = frameOf g (a .kind) (t .holding) (stepOf g a (t .course)); reply = replies (t .frames); byte = 1 } ∷ r .1 i))
+
+  -- after the end there are none
+  ended-none : (n : ℕ) (t : Talk) → isEnded (t .course .stage) ≡ true → (talk n g a replies t ≡ t) × (exchangesIn n g a replies t ≡ [])
+  unfolding talk exchangesIn
+  ended-none zero t e = (refl, refl)
+  ended-none (suc n) t e = (ap (talk n g a replies) (stands g a replies t e) ∙ ended-none n t e .0, picked (isEnded (t .course .stage)) [] _ e)
+
+early-other : (g : Geometry) (a : Asked) (flaws : Flaws) → No16 (earlyRefusal g a flaws)
+unfolding earlyRefusal numberOf
+early-other g a flaws =
+    cases No16 (leb (g .pages / 8) (a .slot)) (by-number Answers.Slot refl)
+    (cases No16 (not (leb 1 (a .limit) && leb (a .limit) 1000)) (by-number Answers.Limit refl)
+    (cases No16 (flaws .size) (by-number Answers.Size refl) (cases No16 (flaws .dates) (by-number Answers.Dates refl) (by-number Answers.Done refl))))
+
+-- EXACTLY 16: for any sequence of replies, the answer is 16 exactly if none of 8 to 13 is due and a wait after a 60 ended on a status with bit 6 set
+pub any-miscompares : (g : Geometry) (a : Asked) (flaws : Flaws) (h : Holding) (replies : ℕ → List ℕ) → h .verdict ≡ Good → (x : Answer)
+    → toldBy (talk (bound g a) g a replies (opened g a flaws h) .course .stage) (talk (bound g a) g a replies (opened g a flaws h) .holding .verdict) ≡ Answered x
+    → MiscompareExactly (exchangesIn (bound g a) g a replies (opened g a flaws h)) x
+unfolding toldBy opened firstCourse isEnded weighed numberOf miscompared
+any-miscompares g a flaws h replies good x e = go (eqb (numberOf (earlyRefusal g a flaws)) 0) refl
+  where
+    t : Talk
+    t = opened g a flaws h
+
+    z : Talk
+    z = talk (bound g a) g a replies t
+
+    told-of : (y : Answer) → toldBy (z .course .stage) (z .holding .verdict) ≡ Answered y → y ≡ x
+    told-of y f = let w : Answered y ≡ Answered x = sym f ∙ e in cc
+
+    finish : (r : Result) → Ends (alone g a replies) r z → Late r → answerFor r ≡ x
+    finish (finished k) w l = told-of (verdictAnswer (k .verdict)) (λ i. toldBy (w .0 i) (w .1 i .verdict))
+    finish (stopped n) w l = told-of n (ap (λ (s : Stage). toldBy s (z .holding .verdict)) w ∙ ap (λ (b : Bool). Answered (cond b (verdictAnswer (z .holding .verdict)) n)) l)
+
+    go : (b : Bool) → eqb (numberOf (earlyRefusal g a flaws)) 0 ≡ b → MiscompareExactly (exchangesIn (bound g a) g a replies t) x
+    go true f =
+        let l = any-replies g a flaws h replies f in
+        let k = run-talk g a replies (bound g a) t in
+        subst (λ (es : List Exchange). MiscompareExactly es x) (k .1)
+        (subst (MiscompareExactly (exchangesOn (alone g a replies) (bound g a) t))
+        (finish (l .result) (subst (Ends (alone g a replies) (l .result)) (k .0) (l .ends)) (follows-late (l .follows)))
+        (miscompares-exactly g a
+        (subst (λ (xs : List Step). Follows g a (t .course .left) xs (t .course .listed) (t .course .guarded) h (exchangesOn (alone g a replies) (bound g a) t) (l .polls) (l .result)) (rest-zero (planOf g a)) (l .follows)) good))
+    go false f =
+        let over : isEnded (t .course .stage) ≡ true = ap (λ (b : Bool). isEnded (cond b Going (Ended (earlyRefusal g a flaws)))) f in
+        let n = ended-none g a replies (bound g a) t over in
+        let refusal : earlyRefusal g a flaws ≡ x = told-of (earlyRefusal g a flaws)
+        (ap (λ (y : Talk). toldBy (y .course .stage) (y .holding .verdict)) (n .0)
+        ∙ (λ i. toldBy (cond (f i) Going (Ended (earlyRefusal g a flaws))) (h .verdict)) ∙ ap (λ (b : Bool). Answered (cond b (verdictAnswer (h .verdict)) (earlyRefusal g a flaws))) f) in
+        subst (λ (es : List Exchange). MiscompareExactly es x) (sym (n .1))
+        (record { only = λ y. absurd (early-other g a flaws (refusal ∙ y)); due = λ y. never y })

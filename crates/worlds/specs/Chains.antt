@@ -3,7 +3,7 @@
 use Prim.Native.Nat.{ℕ, zero, suc, _+_}
 use mathlib.Core.Path.{_≡_}
 use mathlib.Core.Bool.{false, cond}
-use mathlib.Core.List.{List, [], _++_}
+use mathlib.Core.List.{List, [], _∷_, _++_}
 use mathlib.Core.Logic.{_⊎_}
 use Rattle.geometry.specs.declared.Geometry.{Geometry}
 use Rattle.state.specs.declared.Answer.{Answer}
@@ -12,7 +12,8 @@ use Rattle.slots.specs.declared.Told.the-variants.{Answered}
 use Rattle.slots.specs.Plans.{sectorFor}
 use Rattle.slots.specs.Driver.{Heard, heard, isEnded}
 use Rattle.slots.specs.Calls.{outline}
-use Rattle.slots.specs.Alike.{Soft}
+use Rattle.slots.specs.Alike.{FromData}
+use Rattle.slots.specs.Exchanges.{Exchange}
 use Rattle.worlds.specs.Turns.{askedOf, stepIn}
 use Rattle.worlds.specs.Step.{stageIn, frameIn, pollIn, tookIn, stagedIn, toldIn}
 
@@ -46,6 +47,13 @@ unfoldable pub chain : ℕ → List ℕ → (ℕ → List ℕ) → Chain → Cha
 chain zero payload replies z = z
 chain (suc n) payload replies z = chain n payload replies (linked payload replies z)
 
+-- (14.29) the exchanges of these; nothing cuts a call here
+unfoldable pub exchanged : ℕ → List ℕ → (ℕ → List ℕ) → Chain → List Exchange
+exchanged zero payload replies z = []
+exchanged (suc n) payload replies z =
+    cond (isEnded (stageIn (z .driver))) []
+    (record { frame = frameIn (z .driver) payload (z .staged); reply = replies (z .frames); byte = 1 } ∷ exchanged n payload replies (linked payload replies z))
+
 -- ---- two chains
 
 -- Aid: what is heard of a reply to the driver's frame
@@ -59,10 +67,10 @@ AgreeIn (suc n) g payload replies others z =
     (isEnded (stageIn (z .driver)) ≡ false → heardIn g (z .driver) (replies (z .frames)) ≡ heardIn g (z .driver) (others (z .frames)))
     × AgreeIn n g payload replies others (linked payload replies z)
 
--- (14.26) what is the same of both: the frames' outlines, their number, the polls, whether it has ended, and what the driver tells (0, 12, 13 and 15 as one)
+-- (14.26) what is the same of both: the frames' outlines, their number, the polls, whether it has ended, and what the driver tells (0, 12, 13, 15 and 16 as one)
 pub record SameChain (y z : Chain) : Type 0 where
   pub lines : y .lines ≡ z .lines
   pub frames : y .frames ≡ z .frames
   pub polls : y .polls ≡ z .polls
   pub stage : isEnded (stageIn (y .driver)) ≡ isEnded (stageIn (z .driver))
-  pub answer : (a b : Answer) → toldIn (y .driver) ≡ Answered a → toldIn (z .driver) ≡ Answered b → (a ≡ b) ⊎ (Soft a × Soft b)
+  pub answer : (a b : Answer) → toldIn (y .driver) ≡ Answered a → toldIn (z .driver) ≡ Answered b → (a ≡ b) ⊎ (FromData a × FromData b)

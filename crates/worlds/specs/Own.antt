@@ -12,7 +12,7 @@ asks n = eqb n 0xD7 || (eqb n 0x32 || eqb n 0x35)
 
 -- (10.28) the opcodes of a call's frames
 unfoldable pub mayBegin : Kind → ℕ → Bool
-mayBegin Put n = asks n || (eqb n 0x84 || eqb n 0x83)
-mayBegin Patch n = asks n || (eqb n 0xD2 || (eqb n 0x84 || eqb n 0x83))
+mayBegin Put n = asks n || (eqb n 0x84 || (eqb n 0x83 || eqb n 0x60))
+mayBegin Patch n = asks n || (eqb n 0xD2 || (eqb n 0x84 || (eqb n 0x83 || eqb n 0x60)))
 mayBegin Get n = eqb n 0xD7 || eqb n 0xD2
 mayBegin Wipe n = asks n || eqb n 0x50

@@ -3,7 +3,7 @@
 use Prim.Native.Nat.{ℕ, zero, suc, _+_}
 use mathlib.Core.Path.{_≡_}
 use mathlib.Core.Bool.{Bool, false, cond}
-use mathlib.Core.List.{List, [], _++_}
+use mathlib.Core.List.{List, [], _∷_, _++_}
 use mathlib.Core.Logic.{_⊎_}
 use Rattle.geometry.specs.declared.Geometry.{Geometry}
 use Rattle.state.specs.declared.Answer.{Answer}
@@ -14,7 +14,8 @@ use Rattle.slots.specs.Plans.{Asked, sectorFor, isWait}
 use Rattle.slots.specs.Driver.{Heard, Holding, frameOf, heard, after, takenBy, stepOf, isEnded, toldBy}
 use Rattle.slots.specs.Refusals.{earlyRefusal}
 use Rattle.slots.specs.Calls.{outline, firstCourse}
-use Rattle.slots.specs.Alike.{Soft}
+use Rattle.slots.specs.Alike.{FromData}
+use Rattle.slots.specs.Exchanges.{Exchange}
 
 -- (14.25) a driver and what it has sent so far: control state, data, the frames' outlines, how many frames and polls
 pub record Talk : Type 0 where
@@ -50,17 +51,25 @@ unfoldable pub talk : ℕ → Geometry → Asked → (ℕ → List ℕ) → Talk
 talk zero g a replies t = t
 talk (suc n) g a replies t = talk n g a replies (talked g a replies t)
 
+-- (14.29) the exchanges of these; nothing cuts a call here
+unfoldable pub exchangesIn : ℕ → Geometry → Asked → (ℕ → List ℕ) → Talk → List Exchange
+exchangesIn zero g a replies t = []
+exchangesIn (suc n) g a replies t =
+    cond (isEnded (t .course .stage)) []
+    (record { frame = frameOf g (a .kind) (t .holding) (stepOf g a (t .course)); reply = replies (t .frames); byte = 1 }
+    ∷ exchangesIn n g a replies (talked g a replies t))
+
 -- (14.26) the replies of two worlds agree in what is heard of each of the next n frames; frame by frame, as the first world has them
 abbrev pub HeardAlike : ℕ → Geometry → Asked → (replies others : ℕ → List ℕ) → Talk → Type 0
 HeardAlike zero g a replies others t = Unit {0}
 HeardAlike (suc n) g a replies others t =
     (isEnded (t .course .stage) ≡ false → hearing g a replies t ≡ hearing g a others t) × HeardAlike n g a replies others (talked g a replies t)
 
--- (14.26) what is the same in both: the frames' outlines, their number, the polls, and what the driver tells (0, 12, 13 and 15 as one)
+-- (14.26) what is the same in both: the frames' outlines, their number, the polls, and what the driver tells (0, 12, 13, 15 and 16 as one)
 pub record SameTalk (t u : Talk) : Type 0 where
   pub lines : t .lines ≡ u .lines
   pub frames : t .frames ≡ u .frames
   pub polls : t .polls ≡ u .polls
   pub stage : isEnded (t .course .stage) ≡ isEnded (u .course .stage)
   pub answer : (a b : Answer) → toldBy (t .course .stage) (t .holding .verdict) ≡ Answered a → toldBy (u .course .stage) (u .holding .verdict) ≡ Answered b
-      → (a ≡ b) ⊎ (Soft a × Soft b)
+      → (a ≡ b) ⊎ (FromData a × FromData b)

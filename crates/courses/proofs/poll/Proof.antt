@@ -10,19 +10,19 @@ use Rattle.courses.proofs.poll.Tie as tie
 
 returns : tie.Need-returns
 unfolding courseBy
-returns c = λ next e. let s = c .before .before .args .status in simp (ne-eqb (s / 4 % 16) 9 (λ h. omega arith)) (c .end-with .ensures)
+returns c = λ x next e. let s = c .before .before .args .status in simp (ne-eqb (s / 4 % 16) 9 (λ h. omega arith)) (c .end-with .ensures)
 
 returns-2 : tie.Need-returns-2
 unfolding courseBy
 returns-2 c =
-    λ next e.
+    λ x next e.
     let s = c .before .before .before .args .status in
     simp (eq-eqb (s / 4 % 16) 9 (omega arith), eq-eqb (s / 128 % 2) 1 (omega arith)) (c .go-on .ensures next e)
 
 returns-3 : tie.Need-returns-3
 unfolding courseBy
 returns-3 c =
-    λ next e.
+    λ x next e.
     let a = c .before .before .before .before .args in
     let s = a .status in
     simp (eq-eqb (s / 4 % 16) 9 (omega arith), ne-eqb (s / 128 % 2) 1 (λ h. omega arith), le-leb (a .c .left) 1 (omega arith)) (c .end-with2 .ensures)
@@ -30,7 +30,7 @@ returns-3 c =
 returns-4 : tie.Need-returns-4
 unfolding courseBy
 returns-4 c =
-    λ next e.
+    λ x next e.
     let a = c .before .before .before .args in
     let s = a .status in
     simp (eq-eqb (s / 4 % 16) 9 (omega arith), ne-eqb (s / 128 % 2) 1 (λ h. omega arith), lt-leb (a .c .left) 1 (omega arith))

@@ -16,7 +16,7 @@ returns c =
     let a = c .before .before .before .before .before .args in
     λ g q.
     by-step g (a .c) (a .limit) (a .sector) (a .reply .now) (c .before .before .enum-told .given .1)
-    (λ next e. c .poll .ensures next e ∙ ap (λ (s : ℕ). courseBy Wait next (a .limit) (a .c) (statusHeard s)) (c .before .byte-or .ensures))
+    (λ next e. c .poll .ensures (c .before .before .enum-told .given .0 .0) next e ∙ ap (λ (s : ℕ). courseBy (Wait (c .before .before .enum-told .given .0 .0)) next (a .limit) (a .c) (statusHeard s)) (c .before .byte-or .ensures))
 
 returns-2 : tie.Need-returns-2
 unfolding heard courseBy

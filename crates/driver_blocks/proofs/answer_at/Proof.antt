@@ -66,25 +66,30 @@ returns-15 c = rw (c .match .keys15)
 
 returns-16 : tie.Need-returns-16
 unfolding answerAt
-returns-16 c =
+returns-16 c = rw (c .match .keys16)
+
+returns-17 : tie.Need-returns-17
+unfolding answerAt
+returns-17 c =
     let n = c .before .args .n in
     let r = c .match .rest in
     simp (
-      ne-eqb n 0 (r .0 .0 .0 .0 .0 .0 .0 .0 .0 .0 .0 .0 .0 .0 .1),
-      ne-eqb n 1 (r .0 .0 .0 .0 .0 .0 .0 .0 .0 .0 .0 .0 .0 .1),
-      ne-eqb n 2 (r .0 .0 .0 .0 .0 .0 .0 .0 .0 .0 .0 .0 .1),
-      ne-eqb n 3 (r .0 .0 .0 .0 .0 .0 .0 .0 .0 .0 .0 .1),
-      ne-eqb n 4 (r .0 .0 .0 .0 .0 .0 .0 .0 .0 .0 .1),
-      ne-eqb n 5 (r .0 .0 .0 .0 .0 .0 .0 .0 .0 .1),
-      ne-eqb n 6 (r .0 .0 .0 .0 .0 .0 .0 .0 .1),
-      ne-eqb n 7 (r .0 .0 .0 .0 .0 .0 .0 .1),
-      ne-eqb n 8 (r .0 .0 .0 .0 .0 .0 .1),
-      ne-eqb n 9 (r .0 .0 .0 .0 .0 .1),
-      ne-eqb n 10 (r .0 .0 .0 .0 .1),
-      ne-eqb n 11 (r .0 .0 .0 .1),
-      ne-eqb n 12 (r .0 .0 .1),
-      ne-eqb n 13 (r .0 .1),
-      ne-eqb n 14 (r .1),
+      ne-eqb n 0 (r .0 .0 .0 .0 .0 .0 .0 .0 .0 .0 .0 .0 .0 .0 .0 .1),
+      ne-eqb n 1 (r .0 .0 .0 .0 .0 .0 .0 .0 .0 .0 .0 .0 .0 .0 .1),
+      ne-eqb n 2 (r .0 .0 .0 .0 .0 .0 .0 .0 .0 .0 .0 .0 .0 .1),
+      ne-eqb n 3 (r .0 .0 .0 .0 .0 .0 .0 .0 .0 .0 .0 .0 .1),
+      ne-eqb n 4 (r .0 .0 .0 .0 .0 .0 .0 .0 .0 .0 .0 .1),
+      ne-eqb n 5 (r .0 .0 .0 .0 .0 .0 .0 .0 .0 .0 .1),
+      ne-eqb n 6 (r .0 .0 .0 .0 .0 .0 .0 .0 .0 .1),
+      ne-eqb n 7 (r .0 .0 .0 .0 .0 .0 .0 .0 .1),
+      ne-eqb n 8 (r .0 .0 .0 .0 .0 .0 .0 .1),
+      ne-eqb n 9 (r .0 .0 .0 .0 .0 .0 .1),
+      ne-eqb n 10 (r .0 .0 .0 .0 .0 .1),
+      ne-eqb n 11 (r .0 .0 .0 .0 .1),
+      ne-eqb n 12 (r .0 .0 .0 .1),
+      ne-eqb n 13 (r .0 .0 .1),
+      ne-eqb n 14 (r .0 .1),
+      ne-eqb n 15 (r .1),
     )
 
 pub answer-at-spec : {M : Type 1} → statement M
@@ -106,4 +111,5 @@ answer-at-spec =
     returns-13
     returns-14
     returns-15
-    returns-16)
+    returns-16
+    returns-17)

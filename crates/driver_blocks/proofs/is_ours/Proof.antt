@@ -20,21 +20,21 @@ unfolding isOurs
 returns-2 c =
     let x = c .before .before .before .before .before .args .block .now in
     let k : isKind (getD x 0 0) ≡ true = sym (c .before .before .before .is-kind .ensures) ∙ not-false (c .before .before .before .is-kind .result) (c .before .before .if1 .left) in
-    simp (k, lt-leb (getD x 1 0) 3 (c .if2 .taken))
+    simp (k, lt-leb (getD x 1 0) 4 (c .if2 .taken))
 
 returns-3 : tie.Need-returns-3
 unfolding isOurs
 returns-3 c =
     let x = c .before .before .before .before .before .before .before .args .block .now in
     let k : isKind (getD x 0 0) ≡ true = sym (c .before .before .before .before .before .is-kind .ensures) ∙ not-false (c .before .before .before .before .before .is-kind .result) (c .before .before .before .before .if1 .left) in
-    simp (k, le-leb (getD x 1 0) 3 (c .before .before .if2 .left), lt-leb (getD x 2 0) 1 (c .if3 .taken))
+    simp (k, le-leb (getD x 1 0) 4 (c .before .before .if2 .left), lt-leb (getD x 2 0) 1 (c .if3 .taken))
 
 returns-4 : tie.Need-returns-4
 unfolding isOurs
 returns-4 c =
     let x = c .before .before .before .before .before .before .before .before .args .block .now in
     let k : isKind (getD x 0 0) ≡ true = sym (c .before .before .before .before .before .before .is-kind .ensures) ∙ not-false (c .before .before .before .before .before .before .is-kind .result) (c .before .before .before .before .before .if1 .left) in
-    simp (k, le-leb (getD x 1 0) 3 (c .before .before .before .if2 .left), le-leb (getD x 2 0) 1 (c .before .if3 .left))
+    simp (k, le-leb (getD x 1 0) 4 (c .before .before .before .if2 .left), le-leb (getD x 2 0) 1 (c .before .if3 .left))
 
 pub is-ours-spec : {M : Type 1} → statement M
 is-ours-spec =

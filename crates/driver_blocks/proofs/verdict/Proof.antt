@@ -18,14 +18,19 @@ returns-3 c = rw (c .match .keys3)
 
 returns-4 : tie.Need-returns-4
 unfolding verdictOf
-returns-4 c =
+returns-4 c = rw (c .match .keys4)
+
+returns-5 : tie.Need-returns-5
+unfolding verdictOf
+returns-5 c =
     let n = c .before .args .n in
     let r = c .match .rest in
     simp (
-      ne-eqb n 0 (r .0 .0 .1),
-      ne-eqb n 1 (r .0 .1),
-      ne-eqb n 2 (r .1),
+      ne-eqb n 0 (r .0 .0 .0 .1),
+      ne-eqb n 1 (r .0 .0 .1),
+      ne-eqb n 2 (r .0 .1),
+      ne-eqb n 3 (r .1),
     )
 
 pub verdict-spec : {M : Type 1} → statement M
-verdict-spec = tie.close (tie.spec returns returns-2 returns-3 returns-4)
+verdict-spec = tie.close (tie.spec returns returns-2 returns-3 returns-4 returns-5)

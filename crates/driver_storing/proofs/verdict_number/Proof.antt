@@ -20,7 +20,21 @@ returns-4 : tie.Need-returns-4
 unfolding verdictNumber
 returns-4 c = rw (c .enum-told4 .given .1)
 
+returns-5 : tie.Need-returns-5
+unfolding verdictNumber
+returns-5 c = rw (c .enum-told5 .given .1)
+
 pub verdict-number-spec : {M : Type 1} → statement M
 verdict-number-spec =
     tie.close
-    (tie.spec (λ c. search needs) (λ c. search needs) (λ c. search needs) (λ c. search needs) returns returns-2 returns-3 returns-4)
+    (tie.spec
+    (λ c. search needs)
+    (λ c. search needs)
+    (λ c. search needs)
+    (λ c. search needs)
+    (λ c. search needs)
+    returns
+    returns-2
+    returns-3
+    returns-4
+    returns-5)

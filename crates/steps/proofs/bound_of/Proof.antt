@@ -1,4 +1,4 @@
--- `steps::bound_of` meets its contract: the bounds as stated, each at most 9,026 where the limit is at most 1,000.
+-- `steps::bound_of` meets its contract: the bounds as stated, each at most 17,034 where the limit is at most 1,000.
 -- Assumes nothing.
 use native.Mathlib.Omega.{arith}
 use mathlib.Core.Path.{sym, ap}

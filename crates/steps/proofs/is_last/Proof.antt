@@ -1,4 +1,4 @@
--- `steps::is_last` meets its contract: the plans are 27, 35, 9 and 5 steps long.
+-- `steps::is_last` meets its contract: the plans are 43, 51, 9 and 5 steps long.
 -- Assumes nothing.
 use mathlib.Core.Path.{ap}
 use Rattle.slots.specs.Plans.{framesOf}

@@ -10,15 +10,15 @@ use Rattle.steps.proofs.sent_step.Tie as tie
 
 returns : tie.Need-returns
 unfolding pageBy
-returns c = let a = c .before .args in (at-first (Send (a .command) (a .page)) (Wait ∷ []) (a .j) (omega arith), omega arith)
+returns c = let a = c .before .args in (at-first (Send (a .command) (a .page)) (Wait (a .checked) ∷ []) (a .j) (omega arith), omega arith)
 
 returns-2 : tie.Need-returns-2
 unfolding pageBy
-returns-2 c = let a = c .before .before .args in (at-second (Send (a .command) (a .page)) Wait [] (a .j) (omega arith), omega arith)
+returns-2 c = let a = c .before .before .args in (at-second (Send (a .command) (a .page)) (Wait (a .checked)) [] (a .j) (omega arith), omega arith)
 
 returns-3 : tie.Need-returns-3
 unfolding pageBy
-returns-3 c = let a = c .before .before .args in (at-two (Send (a .command) (a .page)) Wait (a .j) (λ e. omega arith) (λ e. omega arith), omega arith)
+returns-3 c = let a = c .before .before .args in (at-two (Send (a .command) (a .page)) (Wait (a .checked)) (a .j) (λ e. omega arith) (λ e. omega arith), omega arith)
 
 pub sent-step-spec : {M : Type 1} → statement M
 sent-step-spec = tie.close (tie.spec returns returns-2 returns-3)

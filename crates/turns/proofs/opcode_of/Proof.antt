@@ -13,5 +13,9 @@ returns-2 : tie.Need-returns-2
 unfolding opcodeOf
 returns-2 c = search needs
 
+returns-3 : tie.Need-returns-3
+unfolding opcodeOf
+returns-3 c = search needs
+
 pub opcode-of-spec : {M : Type 1} → statement M
-opcode-of-spec = tie.close (tie.spec (λ c. search needs) (λ c. search needs) returns returns-2)
+opcode-of-spec = tie.close (tie.spec (λ c. search needs) (λ c. search needs) (λ c. search needs) returns returns-2 returns-3)

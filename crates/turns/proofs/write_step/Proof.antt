@@ -40,7 +40,7 @@ unfolding shapeOf
 returns c =
     let a = c .before .before .before .before .before .before .before .before .before .args in
     let e = c .before .before .before .before .enum-told .given .1 in
-    by-step (a .g) (a .d) (a .payload .now) (a .staged .now) (a .frame .now) e (c .before .before .write-poll .ensures .0) (c .before .before .write-poll .ensures .1) (wait-form (a .g) (a .d .kind) (holdingOf (a .d) (a .payload .now) (a .staged .now)))
+    by-step (a .g) (a .d) (a .payload .now) (a .staged .now) (a .frame .now) e (c .before .before .write-poll .ensures .0) (c .before .before .write-poll .ensures .1) (wait-form (a .g) (a .d .kind) (holdingOf (a .d) (a .payload .now) (a .staged .now)) (c .before .before .before .before .enum-told .given .0 .0))
 
 returns-2 : tie.Need-returns-2
 unfolding shapeOf
