@@ -157,7 +157,7 @@ fn heard_twice(seed: u64, mut drivers: [Box<dyn Driver>; 2]) -> Result<[Turn; 2]
 fn compare_bits_do_not_show() {
     let (mut unlike, mut told) = (0, 0);
     for seed in 0..PAIRS {
-        let drivers = [0x5A, 0xA5].map(|stale| Box::new(LibraryDriver::new(stale)) as _);
+        let drivers = [0x5A, 0xA5].map(|it| Box::new(LibraryDriver::new(it)) as Box<dyn Driver>);
         let ends = heard_twice(seed, drivers).unwrap_or_else(|what| panic!("{what}"));
         unlike += u64::from(ends[0] != ends[1]);
         let [one, other] = ends.map(|end| end == Turn::End(16));
@@ -174,7 +174,7 @@ fn compare_bits_do_not_show() {
 fn compare_bits_that_show_are_noticed() {
     let slip = DriverSlip::StopsAtFirst;
     let shown = (0..PAIRS).find_map(|seed| {
-        let drivers = [slip, slip].map(|slip| Box::new(FaultyDriver::new(slip)) as _);
+        let drivers = [slip, slip].map(|it| Box::new(FaultyDriver::new(it)) as Box<dyn Driver>);
         heard_twice(seed, drivers).err()
     });
     println!("{slip:?}: {}", shown.expect("not noticed"));
