@@ -54,8 +54,8 @@ pub const DATES: u8 = 14;
 /// Today is outside the term in the slot (9.9).
 pub const TERM: u8 = 15;
 
-/// A page that a put or a patch programmed is not what it was to become: the
-/// status after its compare says so (10.21).
+/// A page that a put or a patch programmed is not what it was to become, by the
+/// status after its compare (10.32).
 pub const MISCOMPARE: u8 = 16;
 
 /// True for the answers that a call meets before it sends a frame: they leave

@@ -54,8 +54,8 @@ impl<'a, L: Link> Driver<'a, L> {
     }
 
     /// Every page is programmed, lowest first (10.4, 10.5), with the bytes of
-    /// 9.4; what the compares found is told behind the last. The days are those
-    /// of a term.
+    /// 9.4; what the compares found is told behind the last (10.32). The days are
+    /// those of a term.
     pub fn put(&mut self, recipe: &[u8], days: Option<[u32; 2]>) -> Result<(), u8> {
         self.begin_writing()?;
         let mut room = [0; SLOT_ROOM];
@@ -70,7 +70,7 @@ impl<'a, L: Link> Driver<'a, L> {
 
     /// Every page is read and programmed (10.4). The first one tells the verdict
     /// (10.20); under 12 and 13 the frames are as many, with the bytes that
-    /// were read (9.8), and what the compares found is not told (10.21).
+    /// were read (9.8), and what the compares found is not told (10.32).
     ///
     /// The patch ends by the longest recipe's end.
     pub fn patch(&mut self, place: usize, bytes: &[u8]) -> Result<(), u8> {
@@ -166,8 +166,8 @@ impl<'a, L: Link> Driver<'a, L> {
     }
 
     /// 84, 83 and a wait: the slot's page `k` becomes `bytes`. Then 60 and a
-    /// wait: true if the page and the buffer differ, by the status that ended
-    /// this second wait.
+    /// wait: true if page and buffer differ, by the status that ended this second
+    /// wait (10.31).
     fn program(&mut self, k: usize, bytes: &[u8]) -> Result<bool, u8> {
         // The 84 loads the buffer from its first byte (10.7, 10.10).
         let mut frame = [0; LEAD + BUFFER_SIZE];
@@ -202,7 +202,7 @@ impl<'a, L: Link> Driver<'a, L> {
     }
 }
 
-/// Answer 16 if a page was found to differ from what was loaded for it.
+/// Answer 16 if a page was found to differ from what was loaded for it (10.32).
 fn judge_pages(differs: bool) -> Result<(), u8> {
     if differs {
         Err(answer::MISCOMPARE)
