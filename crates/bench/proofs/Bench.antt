@@ -35,11 +35,11 @@ use Rattle.slots.specs.Refusals.{flawsIn, isMisdated, isOver, isShort, hasOverT
 use Rattle.slots.specs.Calls.{outline, registersAfter, memoryAfter, stateAfter, openAfter, closedAfter, stepOpen, stepClosed, run, firstCourse, startOpen, startClosed, ran, countBy, countOf, outFrom, answerIn, callOut, callNext, rawSent, rawOut, rawNext}
 use Rattle.slots.specs.Lists.{callBy, rawBy, outOf, calledBy, rawLeft, nextOf, runList, leftBy, boundOf, lentTo, logOf}
 use Rattle.bench.specs.Start.{freshShort, freshShort256, log}
-use Rattle.bench.specs.Table.{Bench}
+use Rattle.bench.specs.Table.{Chip, Records, Frames, Binary, Bench}
 
-pub bench : Bench
+chip : Chip
 unfolding tabulate over splice andOver same ringRead ringWrite wordAt wordBytes parts partAmong partOf addressAt pageAt byteAt pageStart pageOf inRun sectorOf firstPage endPage sectorRun sectorCount commands sequences rowAt sequenceAt lookupIn lookupOf begins sequenceIn opened complete decodeOf placeIn placeOf room takes padded pack16 bytes16 pack64 bytes64 bitsOf hasBits sealed unsealedFrom unsealedSet maskOf lockedBytes within placedIn placed runOf sectorsOf inSet writes bufferUsed classOf allowed obeyed startedOn programmedThrough protectOff protectionErased protectionData protectionProgrammed sectorLocked securityData securityProgrammed rowDecided decodedControl control completedBy completed reaching lostBy lost Names changed applied programmed programmedOver transferred differing erased junked eachSector inSectors junkBuffer replied numberOf isIdle statusOf dataOf replyOf bufferWritten written acted sentMemory inTarget completedMemory arrayLost lostMemory freshRegisters freshState freshBy freshOutcome framed sentState sentBy sendOutcome endedState endedBy endOutcome pinnedState pinOutcome cutState cutFits cutBy cutOutcome actedOn isAsking pageSteps runBy pages planBy stepAt isEnd isWait framesMost waitsIn stated framesOf pollsOf slotSize limitOf lengthIn isRecord image patched getVerdict patchVerdict isLeap daysInYear daysInMonth isDate daysOfYears daysOfMonths dayNumber dayOf isTerm periodOf aimOf headSize versionOf dayBytes periodBytes dayIn periodIn isWithin isMisdated flawsIn opcodeOf shapeOf frameByte storedBy loaded registerIn heard courseBy judged readIn compareIn miscomparing takenBy isEnded verdictAnswer weighed toldBy isOver isShort hasOverTwo hasCut badScript lateRefusal earlyRefusal orElse callRefusal rawRefusal outline registersAfter memoryAfter stateAfter openAfter closedAfter stepOpen stepClosed run firstCourse startOpen startClosed ran countBy countOf outFrom answerIn callOut callNext rawSent rawOut rawNext callBy rawBy outOf calledBy rawLeft nextOf runList leftBy boundOf lentTo logOf freshShort freshShort256 log
-bench =
+chip =
     record {
       page-5 = refl;
       part-full = refl;
@@ -55,6 +55,12 @@ bench =
       status-guarded = refl;
       status-busy = refl;
       over = refl;
+    }
+
+records : Records
+unfolding tabulate over splice andOver same ringRead ringWrite wordAt wordBytes parts partAmong partOf addressAt pageAt byteAt pageStart pageOf inRun sectorOf firstPage endPage sectorRun sectorCount commands sequences rowAt sequenceAt lookupIn lookupOf begins sequenceIn opened complete decodeOf placeIn placeOf room takes padded pack16 bytes16 pack64 bytes64 bitsOf hasBits sealed unsealedFrom unsealedSet maskOf lockedBytes within placedIn placed runOf sectorsOf inSet writes bufferUsed classOf allowed obeyed startedOn programmedThrough protectOff protectionErased protectionData protectionProgrammed sectorLocked securityData securityProgrammed rowDecided decodedControl control completedBy completed reaching lostBy lost Names changed applied programmed programmedOver transferred differing erased junked eachSector inSectors junkBuffer replied numberOf isIdle statusOf dataOf replyOf bufferWritten written acted sentMemory inTarget completedMemory arrayLost lostMemory freshRegisters freshState freshBy freshOutcome framed sentState sentBy sendOutcome endedState endedBy endOutcome pinnedState pinOutcome cutState cutFits cutBy cutOutcome actedOn isAsking pageSteps runBy pages planBy stepAt isEnd isWait framesMost waitsIn stated framesOf pollsOf slotSize limitOf lengthIn isRecord image patched getVerdict patchVerdict isLeap daysInYear daysInMonth isDate daysOfYears daysOfMonths dayNumber dayOf isTerm periodOf aimOf headSize versionOf dayBytes periodBytes dayIn periodIn isWithin isMisdated flawsIn opcodeOf shapeOf frameByte storedBy loaded registerIn heard courseBy judged readIn compareIn miscomparing takenBy isEnded verdictAnswer weighed toldBy isOver isShort hasOverTwo hasCut badScript lateRefusal earlyRefusal orElse callRefusal rawRefusal outline registersAfter memoryAfter stateAfter openAfter closedAfter stepOpen stepClosed run firstCourse startOpen startClosed ran countBy countOf outFrom answerIn callOut callNext rawSent rawOut rawNext callBy rawBy outOf calledBy rawLeft nextOf runList leftBy boundOf lentTo logOf freshShort freshShort256 log
+records =
+    record {
       two-bytes = refl;
       no-byte = refl;
       longest = refl;
@@ -64,19 +70,28 @@ bench =
       termed-too-long = refl;
       inside = refl;
       dates = refl;
-      put-frames = refl;
-      put-polls = refl;
-      patch-frames = refl;
-      patch-polls = refl;
+    }
+
+frames : Frames
+unfolding tabulate over splice andOver same ringRead ringWrite wordAt wordBytes parts partAmong partOf addressAt pageAt byteAt pageStart pageOf inRun sectorOf firstPage endPage sectorRun sectorCount commands sequences rowAt sequenceAt lookupIn lookupOf begins sequenceIn opened complete decodeOf placeIn placeOf room takes padded pack16 bytes16 pack64 bytes64 bitsOf hasBits sealed unsealedFrom unsealedSet maskOf lockedBytes within placedIn placed runOf sectorsOf inSet writes bufferUsed classOf allowed obeyed startedOn programmedThrough protectOff protectionErased protectionData protectionProgrammed sectorLocked securityData securityProgrammed rowDecided decodedControl control completedBy completed reaching lostBy lost Names changed applied programmed programmedOver transferred differing erased junked eachSector inSectors junkBuffer replied numberOf isIdle statusOf dataOf replyOf bufferWritten written acted sentMemory inTarget completedMemory arrayLost lostMemory freshRegisters freshState freshBy freshOutcome framed sentState sentBy sendOutcome endedState endedBy endOutcome pinnedState pinOutcome cutState cutFits cutBy cutOutcome actedOn isAsking pageSteps runBy pages planBy stepAt isEnd isWait framesMost waitsIn stated framesOf pollsOf slotSize limitOf lengthIn isRecord image patched getVerdict patchVerdict isLeap daysInYear daysInMonth isDate daysOfYears daysOfMonths dayNumber dayOf isTerm periodOf aimOf headSize versionOf dayBytes periodBytes dayIn periodIn isWithin isMisdated flawsIn opcodeOf shapeOf frameByte storedBy loaded registerIn heard courseBy judged readIn compareIn miscomparing takenBy isEnded verdictAnswer weighed toldBy isOver isShort hasOverTwo hasCut badScript lateRefusal earlyRefusal orElse callRefusal rawRefusal outline registersAfter memoryAfter stateAfter openAfter closedAfter stepOpen stepClosed run firstCourse startOpen startClosed ran countBy countOf outFrom answerIn callOut callNext rawSent rawOut rawNext callBy rawBy outOf calledBy rawLeft nextOf runList leftBy boundOf lentTo logOf freshShort freshShort256 log
+frames =
+    record {
+      put-counts = refl;
+      patch-counts = refl;
       get-frames = refl;
       wipe-frames = refl;
-      compare-line = refl;
-      compare-next = refl;
+      put-page = refl;
       compare-set = refl;
       compare-old = refl;
       wipe-lines = refl;
       wipe-polls = refl;
       wipe-answer = refl;
+    }
+
+binary : Binary
+unfolding tabulate over splice andOver same ringRead ringWrite wordAt wordBytes parts partAmong partOf addressAt pageAt byteAt pageStart pageOf inRun sectorOf firstPage endPage sectorRun sectorCount commands sequences rowAt sequenceAt lookupIn lookupOf begins sequenceIn opened complete decodeOf placeIn placeOf room takes padded pack16 bytes16 pack64 bytes64 bitsOf hasBits sealed unsealedFrom unsealedSet maskOf lockedBytes within placedIn placed runOf sectorsOf inSet writes bufferUsed classOf allowed obeyed startedOn programmedThrough protectOff protectionErased protectionData protectionProgrammed sectorLocked securityData securityProgrammed rowDecided decodedControl control completedBy completed reaching lostBy lost Names changed applied programmed programmedOver transferred differing erased junked eachSector inSectors junkBuffer replied numberOf isIdle statusOf dataOf replyOf bufferWritten written acted sentMemory inTarget completedMemory arrayLost lostMemory freshRegisters freshState freshBy freshOutcome framed sentState sentBy sendOutcome endedState endedBy endOutcome pinnedState pinOutcome cutState cutFits cutBy cutOutcome actedOn isAsking pageSteps runBy pages planBy stepAt isEnd isWait framesMost waitsIn stated framesOf pollsOf slotSize limitOf lengthIn isRecord image patched getVerdict patchVerdict isLeap daysInYear daysInMonth isDate daysOfYears daysOfMonths dayNumber dayOf isTerm periodOf aimOf headSize versionOf dayBytes periodBytes dayIn periodIn isWithin isMisdated flawsIn opcodeOf shapeOf frameByte storedBy loaded registerIn heard courseBy judged readIn compareIn miscomparing takenBy isEnded verdictAnswer weighed toldBy isOver isShort hasOverTwo hasCut badScript lateRefusal earlyRefusal orElse callRefusal rawRefusal outline registersAfter memoryAfter stateAfter openAfter closedAfter stepOpen stepClosed run firstCourse startOpen startClosed ran countBy countOf outFrom answerIn callOut callNext rawSent rawOut rawNext callBy rawBy outOf calledBy rawLeft nextOf runList leftBy boundOf lentTo logOf freshShort freshShort256 log
+binary =
+    record {
       page-5-of-256 = refl;
       part-full-256 = refl;
       page-last-256 = refl;
@@ -100,3 +115,6 @@ bench =
       read-256 = refl;
       erase-256 = refl;
     }
+
+pub bench : Bench
+bench = record { chip = chip; records = records; frames = frames; binary = binary }

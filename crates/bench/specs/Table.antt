@@ -15,6 +15,7 @@ use Rattle.geometry.specs.Sectors.{sectorOf}
 use Rattle.commands.specs.declared.Buffer.the-variants.{One}
 use Rattle.registers.specs.declared.Operation.the-variants.{Idle, Program}
 use Rattle.state.specs.Memory.{State}
+use Rattle.slots.specs.Calls.{Out}
 use Rattle.slots.specs.Lists.{Op, put, patch, get, wipe, straight, busyEnd, outOf, nextOf, leftBy}
 use Rattle.bench.specs.Start.{freshShort, freshShort256, log, answers}
 
@@ -66,6 +67,10 @@ overF0 =
     sending (0x84 ∷ 0x00 ∷ 0x00 ∷ 0x00 ∷ 0xF0 ∷ []) ∷ sending (0x83 ∷ 0x00 ∷ 0x00 ∷ 0x00 ∷ []) ∷ busyEnd
     ∷ sending (0x84 ∷ 0x00 ∷ 0x00 ∷ 0x00 ∷ 0x3C ∷ []) ∷ sending (0x88 ∷ 0x00 ∷ 0x00 ∷ 0x00 ∷ []) ∷ busyEnd ∷ []
 
+-- frames and polls
+abbrev pub counts : Out → List ℕ
+counts o = o .frames ∷ o .polls ∷ []
+
 -- the parts of 4,096 pages
 abbrev pub full : Geometry
 full = row 264 4096 512 false
@@ -81,7 +86,8 @@ addressIn f = addressAt f 1
 abbrev pub wipeTwo : Op
 wipeTwo = wipe 2 1 [] [] log
 
-pub record Bench : Type 0 where
+-- addresses, sectors, status, and a page programmed over
+pub record Chip : Type 0 where
   -- addresses: 83 00 0A 00 names page 5, as the chip takes it; 1F FE 00 and FF FE 00 name 4,095 of 4,096
   pub page-5 : sent (0x83 ∷ 0x00 ∷ 0x0A ∷ 0x00 ∷ []) freshShort .registers .operation ≡ Program One 5
   pub part-full : partOf 1081344 ≡ Known full
@@ -101,6 +107,9 @@ pub record Bench : Type 0 where
   pub status-busy : replyTo status (sent (0x83 ∷ 0x00 ∷ 0x0A ∷ 0x00 ∷ []) freshShort) ≡ 0xFF ∷ 0x24 ∷ []
   -- 88 over F0h with 3Ch gives 30h
   pub over : replyTo (0xD2 ∷ replicate 8 0x00) (leftBy overF0 freshShort) ≡ replicate 8 0xFF ++ 0x30 ∷ []
+
+-- what a put stores, and the answers of put and get
+pub record Records : Type 0 where
   -- records: of two bytes, of none, of the longest; 2,110 bytes meet 5
   pub two-bytes : stored (0x41 ∷ 0x42 ∷ []) ≡ 0x01 ∷ 0x00 ∷ 0x02 ∷ 0x41 ∷ 0x42 ∷ replicate 2107 0
   pub no-byte : stored [] ≡ 0x01 ∷ 0x00 ∷ 0x00 ∷ replicate 2109 0
@@ -118,16 +127,18 @@ pub record Bench : Type 0 where
   -- 29 February is a day of 2096 and none of 2100; 1999 and 2200 are outside; a first day after the last is no term
   pub dates : answers (getOn (date 2096 2 29) ∷ getOn (date 2100 2 29) ∷ getOn (date 1999 12 31) ∷ getOn (date 2200 1 1) ∷ putTerm (date 2027 6 1) (date 2027 5 31) [] ∷ []) freshShort
       ≡ 12 ∷ 14 ∷ 14 ∷ 14 ∷ 14 ∷ []
+
+-- frames, polls and log lines, and the program's example
+pub record Frames : Type 0 where
   -- frames and polls with an empty script
-  pub put-frames : outOf (putFresh (0x41 ∷ [])) freshShort .frames ≡ 43
-  pub put-polls : outOf (putFresh (0x41 ∷ [])) freshShort .polls ≡ 17
-  pub patch-frames : outOf (patch 0 1 0 [] (0x41 ∷ []) [] log) freshShort .frames ≡ 51
-  pub patch-polls : outOf (patch 0 1 0 [] (0x41 ∷ []) [] log) freshShort .polls ≡ 17
+  pub put-counts : counts (outOf (putFresh (0x41 ∷ [])) freshShort) ≡ 43 ∷ 17 ∷ []
+  pub patch-counts : counts (outOf (patch 0 1 0 [] (0x41 ∷ []) [] log) freshShort) ≡ 51 ∷ 17 ∷ []
   pub get-frames : outOf (get 0 1 (date 2000 1 1) [] [] log lentBuffer) freshShort .frames ≡ 9
   pub wipe-frames : outOf wipeTwo freshShort .frames ≡ 5
-  -- a page's steps in a put: 84, 83, a wait, 60 with the page's address, a wait; the second page's 60 names page 1
-  pub compare-line : take 6 (drop 36 (outOf (putFresh (0x41 ∷ [])) freshShort .lines)) ≡ 0 ∷ 4 ∷ 0x60 ∷ 0x00 ∷ 0x00 ∷ 0x00 ∷ []
-  pub compare-next : take 6 (drop 66 (outOf (putFresh (0x41 ∷ [])) freshShort .lines)) ≡ 0 ∷ 4 ∷ 0x60 ∷ 0x00 ∷ 0x02 ∷ 0x00 ∷ []
+  -- of a put's second page: 84, 83, a wait, 60 with the page's address, a wait
+  pub put-page : take 30 (drop 48 (outOf (putFresh (0x41 ∷ [])) freshShort .lines))
+      ≡ 1 ∷ 12 ∷ 0x84 ∷ 0x00 ∷ 0x00 ∷ 0x00 ∷ 0 ∷ 4 ∷ 0x83 ∷ 0x00 ∷ 0x02 ∷ 0x00 ∷ 0 ∷ 2 ∷ 0xD7 ∷ 0x00 ∷ 0xFF ∷ 0xFF
+      ∷ 0 ∷ 4 ∷ 0x60 ∷ 0x00 ∷ 0x02 ∷ 0x00 ∷ 0 ∷ 2 ∷ 0xD7 ∷ 0x00 ∷ 0xFF ∷ 0xFF ∷ []
   -- a compare bit of 1 before the put, by a 60 of the caller's, does not lead to 16
   pub compare-set : replyTo status (leftBy compared freshShort) ≡ 0xFF ∷ 0xE4 ∷ []
   pub compare-old : answers (putFresh (0x41 ∷ []) ∷ []) (leftBy compared freshShort) ≡ 0 ∷ []
@@ -137,6 +148,9 @@ pub record Bench : Type 0 where
       ∷ 0 ∷ 4 ∷ 0x50 ∷ 0x00 ∷ 0x20 ∷ 0x00 ∷ 0 ∷ 2 ∷ 0xD7 ∷ 0x00 ∷ 0xFF ∷ 0xFF ∷ []
   pub wipe-polls : outOf wipeTwo freshShort .polls ≡ 2
   pub wipe-answer : answers (wipeTwo ∷ []) freshShort ≡ 0 ∷ []
+
+-- the same of pages of 256 bytes
+pub record Binary : Type 0 where
   -- pages of 256 bytes: 83 00 05 00 names page 5; 0F FF 00 and FF FF 00 name 4,095 of 4,096
   pub page-5-of-256 : sent (0x83 ∷ 0x00 ∷ 0x05 ∷ 0x00 ∷ []) freshShort256 .registers .operation ≡ Program One 5
   pub part-full-256 : partOf 1048576 ≡ Known full256
@@ -166,3 +180,10 @@ pub record Bench : Type 0 where
   pub load-256 : take 6 (drop 18 (outOf (putFresh (0x41 ∷ [])) freshShort256 .lines)) ≡ 1 ∷ 4 ∷ 0x84 ∷ 0x00 ∷ 0x00 ∷ 0x00 ∷ []
   pub read-256 : take 6 (drop 6 (outOf (get 2 1 (date 2000 1 1) [] [] log (replicate 2045 0)) freshShort256 .lines)) ≡ 1 ∷ 8 ∷ 0xD2 ∷ 0x00 ∷ 0x10 ∷ 0x00 ∷ []
   pub erase-256 : take 6 (drop 18 (outOf wipeTwo freshShort256 .lines)) ≡ 0 ∷ 4 ∷ 0x50 ∷ 0x00 ∷ 0x10 ∷ 0x00 ∷ []
+
+-- the whole table
+pub record Bench : Type 0 where
+  pub chip : Chip
+  pub records : Records
+  pub frames : Frames
+  pub binary : Binary
