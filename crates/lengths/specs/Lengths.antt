@@ -21,9 +21,13 @@ use Rattle.lengths.specs.declared.room.Lengths.{Lengths}
 abbrev pub arrayRoom : ℕ
 arrayRoom = 1081344
 
--- for a log, a get buffer or a reply
+-- for a log: six bytes for each of the most frames that a call sends
 abbrev pub logRoom : ℕ
-logRoom = 65536
+logRoom = 102204
+
+-- for a get buffer or a reply
+abbrev pub outRoom : ℕ
+outRoom = 65536
 
 -- for junk
 abbrev pub junkRoom : ℕ
@@ -87,10 +91,10 @@ callLengths o size out =
 unfoldable pub lengthsBy : Command → Order → (size count : ℕ) → Lengths
 lengthsBy Command.Put o size count = callLengths o size 0
 lengthsBy Command.Patch o size count = callLengths o size 0
-lengthsBy Command.Get o size count = callLengths o size (lentBy (o .buffer) (bufferFor (partOf size)) logRoom)
+lengthsBy Command.Get o size count = callLengths o size (lentBy (o .buffer) (bufferFor (partOf size)) outRoom)
 lengthsBy Command.Wipe o size count = callLengths o size 0
-lengthsBy Command.Raw o size count = callLengths o size (lentBy (o .reply) count logRoom)
-lengthsBy Command.Send o size count = replyAlone (min count logRoom)
+lengthsBy Command.Raw o size count = callLengths o size (lentBy (o .reply) count outRoom)
+lengthsBy Command.Send o size count = replyAlone (min count outRoom)
 lengthsBy Command.End o size count = replyAlone 0
 lengthsBy Command.Pin o size count = replyAlone 0
 lengthsBy Command.Cut o size count = junkAlone (junkFor (partOf size) size)

@@ -2,11 +2,12 @@
 ghost use mathlib.Core.Path.{_≡_};
 ghost use Prim.Native.Nat.{_≤_};
 ghost use Rattle.geometry.specs.Parts.{partOf};
-ghost use Rattle.lengths.specs.Lengths.{logRoom, junkRoom, framesFor, logFor, junkFor, bufferFor, replyAlone, junkAlone, callLengths, lengthsOf};
+ghost use Rattle.lengths.specs.Lengths.{logRoom, outRoom, junkRoom, framesFor, logFor, junkFor, bufferFor, replyAlone, junkAlone, callLengths, lengthsOf};
 use crate::room;
 use crate::room::JUNK_ROOM;
 use crate::room::LOG_ROOM;
 use crate::room::Lengths;
+use crate::room::OUT_ROOM;
 use geometry::Part;
 use orders::Command;
 use orders::Order;
@@ -99,7 +100,7 @@ fn call_lengths(o: Order, size: usize, out: usize) -> Lengths
 
 // What the step lends: an array of `size` bytes is the chip's, and HEX has `count` bytes.
 pub fn lengths(o: Order, size: usize, count: usize) -> Lengths
-    ensures { λ r. ⌜ (r ≡ lengthsOf o size count) × (r .junk ≤ junkRoom) × (r .log ≤ logRoom) × (r .out ≤ logRoom) ⌝ }
+    ensures { λ r. ⌜ (r ≡ lengthsOf o size count) × (r .junk ≤ junkRoom) × (r .log ≤ logRoom) × (r .out ≤ outRoom) ⌝ }
 {
     let c = o.command;
     match c {
@@ -107,14 +108,14 @@ pub fn lengths(o: Order, size: usize, count: usize) -> Lengths
         Command::Patch => call_lengths(o, size, 0),
         Command::Get => {
             let b = o.buffer;
-            call_lengths(o, size, room::lent(b, buffer_for(size), LOG_ROOM))
+            call_lengths(o, size, room::lent(b, buffer_for(size), OUT_ROOM))
         }
         Command::Wipe => call_lengths(o, size, 0),
         Command::Raw => {
             let r = o.reply;
-            call_lengths(o, size, room::lent(r, count, LOG_ROOM))
+            call_lengths(o, size, room::lent(r, count, OUT_ROOM))
         }
-        Command::Send => reply_alone(numbers::lesser(count, LOG_ROOM)),
+        Command::Send => reply_alone(numbers::lesser(count, OUT_ROOM)),
         Command::End => reply_alone(0),
         Command::Pin => reply_alone(0),
         Command::Cut => junk_alone(junk_for(size)),

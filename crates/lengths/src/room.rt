@@ -4,8 +4,10 @@ ghost use Prim.Native.Nat.{_≤_};
 ghost use Rattle.lengths.specs.Lengths.{lentBy};
 use orders::Lent;
 
-// For a log, a get buffer or a reply.
-pub const LOG_ROOM: usize = 65536;
+// For a log: six bytes for each of the most frames that a call sends.
+pub const LOG_ROOM: usize = 102204;
+// For a get buffer or a reply.
+pub const OUT_ROOM: usize = 65536;
 // For junk.
 pub const JUNK_ROOM: usize = 1114112;
 

@@ -6,7 +6,7 @@ use mathlib.Core.List.{List}
 use lib.ListN.{length}
 use Rattle.printing.specs.declared.Output.{Output}
 use Rattle.printing.specs.Held.{Printed}
-use Rattle.lengths.specs.Lengths.{arrayRoom, logRoom, junkRoom}
+use Rattle.lengths.specs.Lengths.{arrayRoom, logRoom, outRoom, junkRoom}
 use Rattle.acting.specs.Steps.{Seen}
 use Rattle.obeying.specs.declared.Session.{Session}
 use Rattle.obeying.specs.Desk.{Desk, deskOf}
@@ -16,7 +16,7 @@ pub record Roomy (xs js ls us ts : List ℕ) : Type 0 where
   pub array : length xs ≡ arrayRoom
   pub junk : length js ≡ junkRoom
   pub log : length ls ≡ logRoom
-  pub out : length us ≡ logRoom
+  pub out : length us ≡ outRoom
   pub text : 128 ≤ length ts
 
 -- the desk is d, and the text l was printed

@@ -4,7 +4,7 @@ ghost use mathlib.Core.Path.{_≡_};
 ghost use mathlib.Core.Bool.{true, false};
 ghost use lib.ListN.{length};
 ghost use Rattle.io.specs.Counts.{Counts};
-ghost use Rattle.lengths.specs.Lengths.{arrayRoom, junkRoom};
+ghost use Rattle.lengths.specs.Lengths.{arrayRoom, junkRoom, logRoom};
 ghost use Rattle.obeying.specs.Promises.{Roomy};
 ghost use Rattle.inputs.specs.Places.{lineRoom, place, Closes};
 ghost use Rattle.outline.specs.Run.{Went, Said};
@@ -44,6 +44,12 @@ fn full_junk() -> [u8; 1114112]
     [0; 1114112]
 }
 
+fn full_log() -> [u8; 102204]
+    ensures { λ r. ⌜ length r ≡ logRoom ⌝ }
+{
+    [0; 102204]
+}
+
 fn line_room() -> [u8; 8193]
     ensures { λ r. ⌜ length r ≡ lineRoom ⌝ }
 {
@@ -54,7 +60,7 @@ fn main() {
     let mut block = [0u8; 765];
     let mut array = full_array();
     let mut junk = full_junk();
-    let mut log = io::large_buffer();
+    let mut log = full_log();
     let mut out = io::large_buffer();
     let mut text = io::large_buffer();
     let mut line = line_room();

@@ -1,6 +1,6 @@
 -- `lengths::lending::lengths` meets its contract: each arm makes what the clause of its command says. Assumes nothing.
 use Rattle.lengths.proofs.Needed.{lent-so, alone-so}
-use Rattle.lengths.specs.Lengths.{logRoom, lentBy, callLengths, replyAlone, junkAlone, lengthsBy}
+use Rattle.lengths.specs.Lengths.{outRoom, lentBy, callLengths, replyAlone, junkAlone, lengthsBy}
 use Rattle.words.specs.declared.Command.the-variants as Command
 use Prim.Native.Nat.{ℕ}
 use mathlib.Core.Path.{ap, _∙_}
@@ -22,7 +22,7 @@ returns-2 c = let a = (c .before .before .before .args) in
 returns-3 : tie.Need-returns-3
 unfolding lengthsBy
 returns-3 c = let a = (c .before .before .before .before .before .args) in
-    lent-so (a .o) (a .size) (a .count) Command.Get ((c .before .before .before .enum-told3) .given .1) ((c .call-lengths3) .ensures .0 ∙ ap (callLengths (a .o) (a .size)) ((c .before .lent) .ensures .0 ∙ ap (λ (k : ℕ). lentBy (a .o .buffer) k logRoom) ((c .before .before .buffer-for) .ensures))) ((c .call-lengths3) .ensures .1) ((c .call-lengths3) .ensures .2) (omega (arith, (c .call-lengths3) .ensures .3, (c .before .lent) .ensures .1))
+    lent-so (a .o) (a .size) (a .count) Command.Get ((c .before .before .before .enum-told3) .given .1) ((c .call-lengths3) .ensures .0 ∙ ap (callLengths (a .o) (a .size)) ((c .before .lent) .ensures .0 ∙ ap (λ (k : ℕ). lentBy (a .o .buffer) k outRoom) ((c .before .before .buffer-for) .ensures))) ((c .call-lengths3) .ensures .1) ((c .call-lengths3) .ensures .2) (omega (arith, (c .call-lengths3) .ensures .3, (c .before .lent) .ensures .1))
 
 returns-4 : tie.Need-returns-4
 unfolding lengthsBy
