@@ -39,7 +39,7 @@
  * Answers. A function that returns uint8_t returns the number of an answer in
  * the table below (the driver's also SLIPKNOLL_RUNNING: no answer yet). 0 is
  * accepted. With 1 to 7 and with 14 the call changed nothing: record, array,
- * reply, log and get buffer are as they were, byte for byte. 8 to 13 and 15,
+ * reply, log and get buffer are as they were, byte for byte. 8 to 13, 15 and 16,
  * which only the slot calls and the driver have, end a call that was under
  * way; what its frames have done stays.
  *
@@ -85,8 +85,8 @@ extern "C" {
 #define SLIPKNOLL_FRAME_MAX 1100         /* a frame has 1 to 1,100 bytes */
 #define SLIPKNOLL_POLL_LIMIT_MAX 1000    /* a poll limit is 1 to 1,000 */
 /* The shortest log of a call with poll limit b: six bytes for each frame that it can send. */
-#define SLIPKNOLL_PUT_LOG_LEN(b) (6 * (9 * (b) + 18))
-#define SLIPKNOLL_PATCH_LOG_LEN(b) (6 * (9 * (b) + 26))
+#define SLIPKNOLL_PUT_LOG_LEN(b) (6 * (17 * (b) + 26))
+#define SLIPKNOLL_PATCH_LOG_LEN(b) (6 * (17 * (b) + 34))
 #define SLIPKNOLL_GET_LOG_LEN(b) (6 * ((b) + 8))
 #define SLIPKNOLL_WIPE_LOG_LEN(b) (6 * (2 * (b) + 3))
 #define SLIPKNOLL_RAW_LOG_LEN 6
@@ -136,6 +136,10 @@ extern "C" {
 /* term: today is before the first or after the last day in the slot; from get
    alone, after 12 */
 #define SLIPKNOLL_TERM 15
+/* miscompare: a page that was programmed is not what was loaded for it, by the
+   status after its 60; from put and patch alone, at their end, after 13. The chip
+   that is held here never miscompares: it is an answer of the driver's */
+#define SLIPKNOLL_MISCOMPARE 16
 /* Of slipknoll_driver_answer alone: the call has not ended, there is no answer. */
 #define SLIPKNOLL_RUNNING 255
 
@@ -317,11 +321,15 @@ uint8_t slipknoll_cut(uint8_t *record, uint8_t *array, size_t array_len, const u
  *   seal    32 and 35, each with nineteen 00 behind it (20 bytes): protection
  *           and lockdown register. The call ends with 10 if these, and bit 1 of
  *           the status before them, tell that the slot's sector is sealed.
+ *   check   60 with the page's address (4), wait: bit 6 of the status that ends
+ *           this wait is 1 if page and buffer 1 differ. Whatever it is, the call
+ *           goes on; it answers 16 at its end if it was 1 for any page, and
+ *           neither 12 nor 13 is due. On the chip that is held here it is never 1.
  *
  *   put     wait, seal; for each page 84 00 00 00 with its bytes (268 or 260),
- *           83 with the page's address (4), wait
+ *           83 with the page's address (4), wait, check
  *   patch   wait, seal; for each page D2 with its address and 00 behind it
- *           (272 or 264), then 84, 83 and wait as put
+ *           (272 or 264), then 84, 83, wait and check as put
  *   get     wait; D2 for each page
  *   wipe    wait, seal; 50 with the first page's address (4), wait
  *   raw     one frame of the caller's; no wait
@@ -357,7 +365,7 @@ uint8_t slipknoll_cut(uint8_t *record, uint8_t *array, size_t array_len, const u
  *     uint8_t log[SLIPKNOLL_PUT_LOG_LEN(1)], buffer[SLIPKNOLL_RECIPE_MAX(sizeof array)], none[1];
  *     uint64_t counts[3];
  *     slipknoll_put(record, array, sizeof array, 3, 1, (const uint8_t *)"AB", 2,
- *                   none, 0, none, 0, log, sizeof log, counts);          // 0; counts 27, 9, 0
+ *                   none, 0, none, 0, log, sizeof log, counts);          // 0; counts 43, 17, 0
  *     slipknoll_get(record, array, sizeof array, 3, 1, 2026, 11, 16, buffer, sizeof buffer,
  *                   none, 0, none, 0, log, sizeof log, counts);          // 0; counts 9, 1, 2
  *
@@ -365,7 +373,7 @@ uint8_t slipknoll_cut(uint8_t *record, uint8_t *array, size_t array_len, const u
  *
  *     slipknoll_put_term(record, array, sizeof array, 3, 1, 2027, 5, 1, 2027, 10, 31,
  *                        (const uint8_t *)"AB", 2,
- *                        none, 0, none, 0, log, sizeof log, counts);     // 0; counts 27, 9, 0
+ *                        none, 0, none, 0, log, sizeof log, counts);     // 0; counts 43, 17, 0
  *     slipknoll_get(record, array, sizeof array, 3, 1, 2027, 4, 30, buffer, sizeof buffer,
  *                   none, 0, none, 0, log, sizeof log, counts);          // 15; counts 9, 1, 0
  *     slipknoll_get(record, array, sizeof array, 3, 1, 2027, 10, 31, buffer, sizeof buffer,
@@ -479,7 +487,7 @@ uint8_t slipknoll_raw(uint8_t *record, uint8_t *array, size_t array_len,
  *             break;                                // the frame may be lost: give up
  *         len = slipknoll_driver_next(state, recipe, recipe_len, reply, got, staged, frame);
  *     }
- *     answer = slipknoll_driver_answer(state);      // 0, 1, 3 to 5, 8 to 10, 12 to 15;
+ *     answer = slipknoll_driver_answer(state);      // 0, 1, 3 to 5, 8 to 10, 12 to 16;
  *                                                   // given up: SLIPKNOLL_RUNNING
  *
  * exchange() makes one chip-select period of the frame: CS low, len bytes out
@@ -494,9 +502,9 @@ uint8_t slipknoll_raw(uint8_t *record, uint8_t *array, size_t array_len,
  * Two losses the driver cannot see, and the caller must end the call by not
  * going on with it:
  *
- *   - A frame that may not have reached the chip whole. The replies to 84, 83
- *     and 50 carry nothing that is looked at: over a lost 84 or 83 the driver
- *     would go on, and a put would answer 0 with the slot holding something
+ *   - A frame that may not have reached the chip whole. The replies to 84, 83,
+ *     60 and 50 carry nothing that is looked at: over a lost 84 or 60 the driver
+ *     would go on, and a put might answer 0 with the slot holding something
  *     else. Such a frame may not be sent again either.
  *   - A reply to D2 that may be short or damaged. A get would hand over bytes
  *     that are not the slot's; a patch would program them back into it.
@@ -506,15 +514,17 @@ uint8_t slipknoll_raw(uint8_t *record, uint8_t *array, size_t array_len,
  * own. A call given up so has written any number of pages: start it again.
  *
  * Waiting. A busy chip is asked again at once, poll_limit times. A real one is
- * busy for up to 35 ms with an 83 and for up to 75 ms with a 50, by the data
- * sheet of 11/2017: let exchange() pause before a D7 frame (frame[0] == 0xD7),
+ * busy for up to 35 ms with an 83, 0.2 ms with a 60 and 75 ms with a 50, by the
+ * data sheet of 11/2017: let exchange() pause before a D7 frame (frame[0] == 0xD7),
  * or choose poll_limit so that as many polls outlast this.
  *
  * What a listener sees of it, the frames' lengths and their first four bytes,
- * is the same whatever the recipes and their days are, and whatever today is. Send
- * each frame whole, as it is, and without pauses that depend on the recipe.
+ * is the same whatever the recipes and their days are, whatever today is, and
+ * whether or not a page took. Send each frame whole, as it is, and without pauses
+ * that depend on the recipe.
  *
- * At the end. After a put, patch or wipe the answer is all. After a get with
+ * At the end. After a put, patch or wipe the answer is all; under 16 a page of the
+ * slot does not hold what it was to hold: put the recipe again. After a get with
  * answer 0 the recipe stands in `staged` from staged + SLIPKNOLL_BODY(staged) on,
  * and slipknoll_driver_count tells its length. With any other answer `staged` means
  * nothing; under 15 it holds a recipe that is not to be read.

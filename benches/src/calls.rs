@@ -201,7 +201,7 @@ fn measure(subject: &mut impl Subject, work: Work, part: Part) -> f64 {
 /// Fills every slot, so that all calls are answered with 0.
 fn fill(subject: &mut impl Subject, part: Part) {
     for slot in 0..part.blocks() {
-        assert_eq!(subject.call(Work::Put, slot), (true, 27));
+        assert_eq!(subject.call(Work::Put, slot), (true, 43));
     }
 }
 

@@ -54,6 +54,10 @@ pub const DATES: u8 = 14;
 /// Today is outside the term in the slot (9.9).
 pub const TERM: u8 = 15;
 
+/// A page that a put or a patch programmed is not what it was to become, by the
+/// status after its compare (10.32).
+pub const MISCOMPARE: u8 = 16;
+
 /// True for the answers that a call meets before it sends a frame: they leave
 /// everything as it was (12.2).
 pub fn is_refusal(answer: u8) -> bool {

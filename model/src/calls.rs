@@ -168,8 +168,8 @@ impl Call<'_> {
     /// The most frames that the call can send (10.29); raw sends one (11.12).
     pub fn most_frames(&self) -> usize {
         match *self {
-            Call::Put { poll_limit, .. } => 9 * poll_limit + 18,
-            Call::Patch { poll_limit, .. } => 9 * poll_limit + 26,
+            Call::Put { poll_limit, .. } => 17 * poll_limit + 26,
+            Call::Patch { poll_limit, .. } => 17 * poll_limit + 34,
             Call::Get { poll_limit, .. } => poll_limit + 8,
             Call::Wipe { poll_limit, .. } => 2 * poll_limit + 3,
             Call::Raw { .. } => 1,

@@ -15,6 +15,8 @@ const READ_LEAD: usize = 8;
 const REGISTER_FRAME: usize = LEAD + 16;
 
 const STATUS_READY: u8 = 0x80;
+/// The last compare found a difference (3.21).
+const STATUS_COMPARE: u8 = 0x40;
 /// The bits by which the chip is known (3.21).
 const STATUS_DENSITY: u8 = 0b0011_1100;
 const DENSITY: u8 = 0b0010_0100;
@@ -52,26 +54,29 @@ impl<'a, L: Link> Driver<'a, L> {
     }
 
     /// Every page is programmed, lowest first (10.4, 10.5), with the bytes of
-    /// 9.4. The days are those of a term.
+    /// 9.4; what the compares found is told behind the last (10.32). The days are
+    /// those of a term.
     pub fn put(&mut self, recipe: &[u8], days: Option<[u32; 2]>) -> Result<(), u8> {
         self.begin_writing()?;
         let mut room = [0; SLOT_ROOM];
         let bytes = &mut room[..self.part.slot_size()];
         store(bytes, recipe, days);
+        let mut differs = false;
         for (k, page) in bytes.chunks_exact(self.part.page_size).enumerate() {
-            self.program(k, page)?;
+            differs |= self.program(k, page)?;
         }
-        Ok(())
+        judge_pages(differs)
     }
 
     /// Every page is read and programmed (10.4). The first one tells the verdict
     /// (10.20); under 12 and 13 the frames are as many, with the bytes that
-    /// were read (9.8).
+    /// were read (9.8), and what the compares found is not told (10.32).
     ///
     /// The patch ends by the longest recipe's end.
     pub fn patch(&mut self, place: usize, bytes: &[u8]) -> Result<(), u8> {
         self.begin_writing()?;
         let mut verdict = Err(answer::BLANK);
+        let mut differs = false;
         for k in 0..PAGES_PER_BLOCK {
             let mut room = [0; BUFFER_SIZE];
             let page = &mut room[..self.part.page_size];
@@ -82,9 +87,9 @@ impl<'a, L: Link> Driver<'a, L> {
             if let Ok(head) = verdict {
                 change(page, k, head.body + place, bytes);
             }
-            self.program(k, page)?;
+            differs |= self.program(k, page)?;
         }
-        verdict.map(|_| ())
+        verdict.and_then(|_| judge_pages(differs))
     }
 
     /// Every page is read, however long the recipe is (10.4). The slot's bytes,
@@ -160,8 +165,10 @@ impl<'a, L: Link> Driver<'a, L> {
         Ok(())
     }
 
-    /// 84, 83 and a wait: the slot's page `k` becomes `bytes`.
-    fn program(&mut self, k: usize, bytes: &[u8]) -> Result<(), u8> {
+    /// 84, 83 and a wait: the slot's page `k` becomes `bytes`. Then 60 and a
+    /// wait: true if page and buffer differ, by the status that ended this second
+    /// wait (10.31).
+    fn program(&mut self, k: usize, bytes: &[u8]) -> Result<bool, u8> {
         // The 84 loads the buffer from its first byte (10.7, 10.10).
         let mut frame = [0; LEAD + BUFFER_SIZE];
         let mut reply = frame;
@@ -171,7 +178,8 @@ impl<'a, L: Link> Driver<'a, L> {
         self.link.send(&frame[..len], &mut reply[..len])?;
         self.send_address(0x83, k)?;
         self.wait()?;
-        Ok(())
+        self.send_address(0x60, k)?;
+        Ok(self.wait()? & STATUS_COMPARE != 0)
     }
 
     fn send_address(&mut self, opcode: u8, k: usize) -> Result<(), u8> {
@@ -191,6 +199,15 @@ impl<'a, L: Link> Driver<'a, L> {
 
     fn sector_bits(&self) -> (usize, u8) {
         sector_bits(sector_of(self.page(0)))
+    }
+}
+
+/// Answer 16 if a page was found to differ from what was loaded for it (10.32).
+fn judge_pages(differs: bool) -> Result<(), u8> {
+    if differs {
+        Err(answer::MISCOMPARE)
+    } else {
+        Ok(())
     }
 }
 

@@ -23,7 +23,7 @@ impl Bench {
             chip: Chip::fresh(&FACTORY, &mut array).expect("a known part"),
             array,
             junk: vec![0x77; part.junk_len()],
-            log: vec![STALE; 60_000],
+            log: vec![STALE; 103_000],
             buffer: vec![STALE; 2200],
         }
     }
@@ -115,12 +115,12 @@ fn counted(answer: u8, frames: u64, polls: u64) -> Outcome {
 }
 
 #[test]
-fn empty_script_counts_are_27_35_9_5() {
+fn empty_script_counts_are_43_51_9_5() {
     for part in Part::ALL {
         let mut bench = Bench::fresh(part);
         assert_eq!(bench.get(&[], 3), counted(answer::BLANK, 9, 1));
-        assert_eq!(bench.put(&[], 3, 1, b"AB"), counted(0, 27, 9));
-        assert_eq!(bench.patch(3, 1, b"C"), counted(0, 35, 9));
+        assert_eq!(bench.put(&[], 3, 1, b"AB"), counted(0, 43, 17));
+        assert_eq!(bench.patch(3, 1, b"C"), counted(0, 51, 17));
         let read = Outcome {
             n: 2,
             ..counted(0, 9, 1)
@@ -154,30 +154,37 @@ fn wipe_2_has_the_outline_of_the_readme() {
 
 #[test]
 fn put_and_patch_send_the_listed_frames() {
-    // Load, and read and program of the slot's first and last page.
-    for (part, load, read, program) in [
+    const POLL: &str = "0002D700FFFF";
+    // Load, and read, program and compare of the slot's first and last page.
+    for (part, load, read, program, compare) in [
         (
             Part::FULL,
             "010C84000000",
             ["0110D21FF000", "0110D21FFE00"],
             ["0004831FF000", "0004831FFE00"],
+            ["0004601FF000", "0004601FFE00"],
         ),
         (
             Part::FULL_256,
             "010484000000",
             ["0108D20FF800", "0108D20FFF00"],
             ["0004830FF800", "0004830FFF00"],
+            ["0004600FF800", "0004600FFF00"],
         ),
     ] {
         let mut bench = Bench::fresh(part);
         let outcome = bench.put(&[], 511, 1, &[]);
-        let lines = bench.lines(&outcome);
-        assert_eq!(lines[3..6], [load, program[0], "0002D700FFFF"]);
-        assert_eq!(lines[24..27], [load, program[1], "0002D700FFFF"]);
+        let put = bench.lines(&outcome);
         let outcome = bench.patch(511, 0, &[]);
-        let lines = bench.lines(&outcome);
-        assert_eq!(lines[3..6], [read[0], load, program[0]]);
-        assert_eq!(lines[31..34], [read[1], load, program[1]]);
+        let patch = bench.lines(&outcome);
+        for (page, first) in [(0, 3), (1, 38)] {
+            let frames = [load, program[page], POLL, compare[page], POLL];
+            assert_eq!(put[first..first + 5], frames);
+            let first = first + 7 * page;
+            assert_eq!(patch[first], read[page]);
+            assert_eq!(patch[first + 1..first + 6], frames);
+        }
+        assert_eq!((put.len(), patch.len()), (43, 51));
     }
 }
 
@@ -222,13 +229,13 @@ fn patches_cross_pages_and_keep_the_length() {
 fn patches_under_12_and_13_send_every_frame() {
     for (part, _, most, _) in LIMITS {
         let mut bench = Bench::fresh(part);
-        assert_eq!(bench.patch(0, 0, &[1]), counted(answer::BLANK, 35, 9));
+        assert_eq!(bench.patch(0, 0, &[1]), counted(answer::BLANK, 51, 17));
         assert!(bench.slot(0).iter().all(|&byte| byte == 0xFF));
         bench.put(&[], 0, 1, &[5; 10]);
         let before = bench.slot(0).to_vec();
-        assert_eq!(bench.patch(0, 10, &[1]), counted(answer::END, 35, 9));
-        assert_eq!(bench.patch(0, 11, &[]), counted(answer::END, 35, 9));
-        assert_eq!(bench.patch(0, 10, &[]), counted(0, 35, 9));
+        assert_eq!(bench.patch(0, 10, &[1]), counted(answer::END, 51, 17));
+        assert_eq!(bench.patch(0, 11, &[]), counted(answer::END, 51, 17));
+        assert_eq!(bench.patch(0, 10, &[]), counted(0, 51, 17));
         assert_eq!(bench.slot(0), before);
         assert_eq!(bench.patch(0, most, &[]).answer, answer::END);
         assert_eq!(bench.patch(0, most + 1, &[]).answer, answer::SIZE);
@@ -363,12 +370,12 @@ fn refuses_in_order(mut bench: Bench, recipe: &[u8]) {
     assert_eq!(bench.put(&bad, 15, 0, recipe).answer, answer::LIMIT);
     assert_eq!(bench.put(&bad, 15, 1001, recipe).answer, answer::LIMIT);
     assert_eq!(bench.put(&bad, 15, 1000, recipe).answer, answer::SIZE);
-    bench.log.truncate(6 * 9018 - 1);
+    bench.log.truncate(6 * 17_026 - 1);
     assert_eq!(bench.put(&bad, 15, 1000, &[]).answer, answer::LOG);
     bench.log.push(STALE);
     assert_eq!(bench.put(&bad, 15, 1000, &[]).answer, answer::SCRIPT);
     bench.junk.pop();
-    let never_reached = [[0; 9018].as_slice(), &[2]].concat();
+    let never_reached = [[0; 17_026].as_slice(), &[2]].concat();
     assert_eq!(
         bench.put(&never_reached, 15, 1000, &[]).answer,
         answer::SCRIPT

@@ -32,7 +32,7 @@ impl Bench {
         Bench {
             chip: Chip::fresh(&[0; 64], &mut array).expect("a known part"),
             array,
-            log: vec![STALE; 6 * 35],
+            log: vec![STALE; 6 * 51],
         }
     }
 

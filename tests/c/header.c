@@ -96,13 +96,15 @@ static void check_lengths(void)
     CHECK(SLIPKNOLL_SLOTS(SLIPKNOLL_ARRAY_LEN) == 512 && SLIPKNOLL_SLOTS(ARRAY) == 16);
     CHECK(SLIPKNOLL_SLOTS(SLIPKNOLL_ARRAY_256_LEN) == 512);
     CHECK(SLIPKNOLL_SLOT_ROOM == 2112 && SLIPKNOLL_SLOT_ROOM >= SLOT);
-    /* Frames of an undisturbed call, one poll a wait: 27, 35, 9 and 5. */
-    CHECK(SLIPKNOLL_PUT_LOG_LEN(1) == 6 * 27 && SLIPKNOLL_PATCH_LOG_LEN(1) == 6 * 35);
+    /* Frames of an undisturbed call, one poll a wait: 43, 51, 9 and 5. */
+    CHECK(SLIPKNOLL_PUT_LOG_LEN(1) == 6 * 43 && SLIPKNOLL_PATCH_LOG_LEN(1) == 6 * 51);
     CHECK(SLIPKNOLL_GET_LOG_LEN(1) == 6 * 9 && SLIPKNOLL_WIPE_LOG_LEN(1) == 6 * 5);
+    /* Put and patch have 17 waits. */
+    CHECK(SLIPKNOLL_PUT_LOG_LEN(2) == 6 * 60 && SLIPKNOLL_PATCH_LOG_LEN(2) == 6 * 68);
     CHECK(SLIPKNOLL_AT_COMPARE + 1 == SLIPKNOLL_RECORD_LEN);
     CHECK(SLIPKNOLL_DRIVER_FRAME_LEN == 8 + 264);
     CHECK(SLIPKNOLL_DRIVER_LEN == 8 + 8 * 8);
-    CHECK(SLIPKNOLL_DATES == 14 && SLIPKNOLL_TERM == 15);
+    CHECK(SLIPKNOLL_DATES == 14 && SLIPKNOLL_TERM == 15 && SLIPKNOLL_MISCOMPARE == 16);
 }
 
 /* ---- The chip. */
@@ -280,16 +282,32 @@ static void check_put(void)
     const uint8_t seal[6] = {0, 20, 0x32, 0, 0, 0};
     const uint8_t load[6] = {1, PAGE + 4 - 256, 0x84, 0, 0, 0};
     const uint8_t program[6] = {0, 4, 0x83, 0, PAGE_24, 0};
+    const uint8_t compare[6] = {0, 4, 0x60, 0, PAGE_24, 0};
     const uint8_t head[5] = {1, 0, 2, 'A', 'B'};
     fresh();
     memset(lines, 0x99, sizeof lines);
-    CHECK(put(3, "AB", none, 0) == SLIPKNOLL_ACCEPTED && counted(27, 9, 0));
+    CHECK(put(3, "AB", none, 0) == SLIPKNOLL_ACCEPTED && counted(43, 17, 0));
     CHECK(memcmp(lines, poll, 6) == 0 && memcmp(lines + 6, seal, 6) == 0);
     CHECK(memcmp(lines + 18, load, 6) == 0 && memcmp(lines + 24, program, 6) == 0);
-    CHECK(memcmp(lines + 6 * 26, poll, 6) == 0 && lines[6 * 27] == 0x99);
+    CHECK(memcmp(lines + 30, poll, 6) == 0 && memcmp(lines + 36, compare, 6) == 0);
+    CHECK(memcmp(lines + 6 * 42, poll, 6) == 0 && lines[6 * 43] == 0x99);
     CHECK(memcmp(array + 3 * SLOT, head, 5) == 0);
     CHECK(all(array + 3 * SLOT + 5, SLOT - 5, 0));
     CHECK(all(array, 3 * SLOT, 0xFF) && array[4 * SLOT] == 0xFF);
+}
+
+/* The compare bit of an earlier 60 is no miscompare. */
+static void check_compared(void)
+{
+    uint8_t reply[4];
+    fresh();
+    CHECK(raw(0x60, 0, PAGE_24, 0, 4, reply) == SLIPKNOLL_ACCEPTED);
+    CHECK(status() == (READY | 0x40) && record[SLIPKNOLL_AT_COMPARE] == 1);
+    CHECK(put(3, "AB", none, 0) == SLIPKNOLL_ACCEPTED && status() == READY);
+    record[SLIPKNOLL_AT_COMPARE] = 0xFF;
+    CHECK(patch(3, 1, "C") == SLIPKNOLL_ACCEPTED && status() == READY);
+    record[SLIPKNOLL_AT_COMPARE] = 1;
+    CHECK(get(3) == SLIPKNOLL_ACCEPTED && status() == (READY | 0x40));
 }
 
 static void check_put_refused(void)
@@ -320,11 +338,11 @@ static void check_put_refused(void)
 static void check_put_term(void)
 {
     const uint8_t head[13] = {2, 0, 2, 0, 0, 0x26, 0xFE, 0, 0, 0x27, 0xB5, 'A', 'B'};
-    uint8_t plain[6 * 27];
+    uint8_t plain[6 * 43];
     fresh();
     put(3, "a longer recipe", none, 0);
     memcpy(plain, lines, sizeof plain);
-    CHECK(put_term(3, 2027, 5, 1, 2027, 10, 31, "AB") == SLIPKNOLL_ACCEPTED && counted(27, 9, 0));
+    CHECK(put_term(3, 2027, 5, 1, 2027, 10, 31, "AB") == SLIPKNOLL_ACCEPTED && counted(43, 17, 0));
     /* It looks the same on the wire. */
     CHECK(memcmp(plain, lines, sizeof plain) == 0);
     CHECK(memcmp(array + 3 * SLOT, head, 13) == 0);
@@ -338,7 +356,7 @@ static void check_put_term(void)
     CHECK(get_on(3, 2027, 10, 31) == SLIPKNOLL_ACCEPTED && counted(9, 1, 2));
     CHECK(get_on(3, 2027, 11, 1) == SLIPKNOLL_TERM && counted(9, 1, 0));
     /* A patch counts from the recipe's first byte, on any day. */
-    CHECK(patch(3, 1, "C") == SLIPKNOLL_ACCEPTED && counted(35, 9, 0));
+    CHECK(patch(3, 1, "C") == SLIPKNOLL_ACCEPTED && counted(51, 17, 0));
     CHECK(get_on(3, 2027, 7, 1) == SLIPKNOLL_ACCEPTED && memcmp(buffer, "AC", 2) == 0);
     CHECK(memcmp(array + 3 * SLOT, head, 12) == 0);
     CHECK(patch(3, 2, "C") == SLIPKNOLL_END);
@@ -433,13 +451,13 @@ static void check_get(void)
 static void check_patch(void)
 {
     fresh();
-    CHECK(patch(3, 0, "x") == SLIPKNOLL_BLANK && counted(35, 9, 0));
+    CHECK(patch(3, 0, "x") == SLIPKNOLL_BLANK && counted(51, 17, 0));
     CHECK(all(array, sizeof array, 0xFF));
     put(3, "salt", none, 0);
-    CHECK(patch(3, 1, "ol") == SLIPKNOLL_ACCEPTED && counted(35, 9, 0));
+    CHECK(patch(3, 1, "ol") == SLIPKNOLL_ACCEPTED && counted(51, 17, 0));
     CHECK(get(3) == SLIPKNOLL_ACCEPTED && counted(9, 1, 4) && memcmp(buffer, "solt", 4) == 0);
     remember();
-    CHECK(patch(3, 3, "ol") == SLIPKNOLL_END && counted(35, 9, 0));
+    CHECK(patch(3, 3, "ol") == SLIPKNOLL_END && counted(51, 17, 0));
     CHECK(memcmp(array, array_before, sizeof array) == 0);
     CHECK(patch(3, MOST - 1, "ol") == SLIPKNOLL_SIZE && counted(0, 0, 0));
 }
@@ -491,11 +509,15 @@ static void check_busy(void)
 static uint8_t state[SLIPKNOLL_DRIVER_LEN], staged[SLIPKNOLL_SLOT_ROOM];
 static uint8_t frame[SLIPKNOLL_DRIVER_FRAME_LEN], reply[SLIPKNOLL_DRIVER_FRAME_LEN];
 
+/* The page, from 1 on, whose compare is made to find a difference; 0 for none. */
+static unsigned odd_page;
+
 /* Carries a call's frames to the chip; how many there were, and their bytes. */
 static unsigned carry(const char *payload, size_t *bytes)
 {
     const uint8_t *lent = (const uint8_t *)payload;
-    unsigned frames = 0;
+    unsigned frames = 0, compares = 0;
+    uint8_t last = 0; /* the opcode of the last frame that was no poll */
     size_t len = slipknoll_driver_frame(state, lent, strlen(payload), staged, frame);
     *bytes = 0;
     while (len != 0 && frames < 100) {
@@ -503,6 +525,12 @@ static unsigned carry(const char *payload, size_t *bytes)
         CHECK(slipknoll_driver_frame(state, lent, strlen(payload), staged, frame) == len);
         slipknoll_send(record, array, sizeof array, frame, len, reply, len);
         slipknoll_end_busy(record, array, sizeof array);
+        if (frame[0] != 0xD7) {
+            last = frame[0];
+            compares += last == 0x60;
+        } else if (last == 0x60 && compares == odd_page) {
+            reply[1] |= 0x40;
+        }
         frames++;
         *bytes += len;
         len = slipknoll_driver_next(state, lent, strlen(payload), reply, len, staged, frame);
@@ -516,11 +544,12 @@ static void check_driver(void)
     size_t bytes;
     fresh();
     slipknoll_driver_start_put(state, sizeof array, 3, 1, (const uint8_t *)"salt", 4);
-    CHECK(carry("salt", &bytes) == 27 && bytes == 2 + 20 + 20 + 8 * (4 + PAGE + 4 + 2));
+    CHECK(carry("salt", &bytes) == 43 && bytes == 2 + 20 + 20 + 8 * (4 + PAGE + 4 + 2 + 4 + 2));
     CHECK(slipknoll_driver_answer(state) == SLIPKNOLL_ACCEPTED);
     CHECK(slipknoll_driver_count(state, staged) == 0);
     slipknoll_driver_start_patch(state, sizeof array, 3, 1, 1, (const uint8_t *)"ol", 2);
-    CHECK(carry("ol", &bytes) == 35 && bytes == 2 + 20 + 20 + 8 * (8 + PAGE + 4 + PAGE + 4 + 2));
+    CHECK(carry("ol", &bytes) == 51);
+    CHECK(bytes == 2 + 20 + 20 + 8 * (8 + PAGE + 4 + PAGE + 4 + 2 + 4 + 2));
     CHECK(slipknoll_driver_answer(state) == SLIPKNOLL_ACCEPTED);
     slipknoll_driver_start_get(state, sizeof array, 3, 1, 2026, 11, 16, MOST);
     CHECK(carry("", &bytes) == 9 && bytes == 2 + 8 * (8 + PAGE));
@@ -533,18 +562,45 @@ static void check_driver(void)
     CHECK(all(array, sizeof array, 0xFF));
 }
 
+/* A page that did not take: all frames are sent, and 16 is told at the end. */
+static void check_driver_miscompare(void)
+{
+    size_t bytes;
+    fresh();
+    for (odd_page = 1; odd_page <= 8; odd_page++) {
+        slipknoll_driver_start_put(state, sizeof array, 3, 1, (const uint8_t *)"salt", 4);
+        CHECK(carry("salt", &bytes) == 43);
+        CHECK(slipknoll_driver_answer(state) == SLIPKNOLL_MISCOMPARE);
+        slipknoll_driver_start_put_term(state, sizeof array, 3, 1, 2000, 1, 1, 2000, 1, 1,
+                                        (const uint8_t *)"salt", 4);
+        CHECK(carry("salt", &bytes) == 43);
+        CHECK(slipknoll_driver_answer(state) == SLIPKNOLL_MISCOMPARE);
+        slipknoll_driver_start_patch(state, sizeof array, 3, 1, 1, (const uint8_t *)"ol", 2);
+        CHECK(carry("ol", &bytes) == 51);
+        CHECK(slipknoll_driver_answer(state) == SLIPKNOLL_MISCOMPARE);
+        CHECK(slipknoll_driver_count(state, staged) == 0);
+        /* 12 and 13 come first. */
+        slipknoll_driver_start_patch(state, sizeof array, 4, 1, 1, (const uint8_t *)"ol", 2);
+        CHECK(carry("ol", &bytes) == 51 && slipknoll_driver_answer(state) == SLIPKNOLL_BLANK);
+        slipknoll_driver_start_patch(state, sizeof array, 3, 1, 3, (const uint8_t *)"ol", 2);
+        CHECK(carry("ol", &bytes) == 51 && slipknoll_driver_answer(state) == SLIPKNOLL_END);
+    }
+    odd_page = 0;
+    CHECK(get_on(3, 2000, 1, 1) == SLIPKNOLL_ACCEPTED && memcmp(buffer, "solt", 4) == 0);
+}
+
 static void check_driver_term(void)
 {
     size_t bytes;
     fresh();
     slipknoll_driver_start_put_term(state, sizeof array, 3, 1, 2027, 5, 1, 2027, 10, 31,
                                     (const uint8_t *)"salt", 4);
-    CHECK(carry("salt", &bytes) == 27 && bytes == 2 + 20 + 20 + 8 * (4 + PAGE + 4 + 2));
+    CHECK(carry("salt", &bytes) == 43 && bytes == 2 + 20 + 20 + 8 * (4 + PAGE + 4 + 2 + 4 + 2));
     CHECK(slipknoll_driver_answer(state) == SLIPKNOLL_ACCEPTED);
     CHECK(get_on(3, 2027, 10, 31) == SLIPKNOLL_ACCEPTED && memcmp(buffer, "salt", 4) == 0);
     CHECK(get_on(3, 2027, 11, 1) == SLIPKNOLL_TERM);
     slipknoll_driver_start_patch(state, sizeof array, 3, 1, 1, (const uint8_t *)"ol", 2);
-    CHECK(carry("ol", &bytes) == 35);
+    CHECK(carry("ol", &bytes) == 51);
     CHECK(slipknoll_driver_answer(state) == SLIPKNOLL_ACCEPTED);
     slipknoll_driver_start_get(state, sizeof array, 3, 1, 2027, 5, 1, MOST);
     CHECK(carry("", &bytes) == 9 && bytes == 2 + 8 * (8 + PAGE));
@@ -607,6 +663,7 @@ int main(void)
     check_move_pin();
     check_cut();
     check_put();
+    check_compared();
     check_put_refused();
     check_put_term();
     check_stored_terms();
@@ -617,6 +674,7 @@ int main(void)
     check_raw();
     check_busy();
     check_driver();
+    check_driver_miscompare();
     check_driver_term();
     check_driver_refused();
     printf("%u of %u checks hold\n", checks - failures, checks);

@@ -25,7 +25,7 @@ class Chip:
 
     def call(self, function, dates, data, length):
         """A call on slot 3 with poll limit 1; its answer, and n."""
-        log, counts = (c.c_uint8 * 162)(), (c.c_uint64 * 3)()
+        log, counts = (c.c_uint8 * 258)(), (c.c_uint64 * 3)()
         none = (b"\0", c.c_size_t(0))
         lent = (*none, *none, log, c.c_size_t(len(log)), counts)
         slot, limit = c.c_size_t(3), c.c_size_t(1)

@@ -112,9 +112,9 @@ impl Chip {
     /// be read, and then at most
     /// [`term_recipe_max`](crate::Part::term_recipe_max) bytes.
     ///
-    /// Errors: all but `Frame`, `Blank`, `End`, `Dates` and `Term`. After `Chip`,
-    /// `Busy`, `Sealed` and `Cut` pages of the slot may be old, new, or (`Cut`)
-    /// junk.
+    /// Errors: all but `Frame`, `Blank`, `End`, `Dates`, `Term` and `Miscompare`.
+    /// After `Chip`, `Busy`, `Sealed` and `Cut` pages of the slot may be old, new,
+    /// or (`Cut`) junk.
     ///
     /// ```
     /// # use slipknoll::{log_len, Chip, Date, Error, Part, Run, Term, FACTORY_LEN};
@@ -176,8 +176,8 @@ impl Chip {
     /// Changes bytes of a slot's recipe from `place` on, on any day; its length and
     /// its term stay.
     ///
-    /// Errors: all but `Frame`, `Dates` and `Term`. Under `Blank` and `End` every
-    /// frame is sent, and the slot keeps its bytes.
+    /// Errors: all but `Frame`, `Dates`, `Term` and `Miscompare`. Under `Blank` and
+    /// `End` every frame is sent, and the slot keeps its bytes.
     ///
     /// ```
     /// # use slipknoll::{log_len, Chip, Date, Error, Part, Run, FACTORY_LEN};
@@ -188,7 +188,7 @@ impl Chip {
     /// chip.put(&mut array, 3, 1, None, b"salt", &mut run)?;
     /// chip.patch(&mut array, 3, 1, 0, b"m", &mut run)?;
     /// let beyond = chip.patch(&mut array, 3, 1, 3, b"ed", &mut run);
-    /// assert_eq!((beyond, run.frames()), (Err(Error::End), 35));
+    /// assert_eq!((beyond, run.frames()), (Err(Error::End), 51));
     ///
     /// let (today, mut buffer) = (Date::new(2026, 11, 16)?, [0; Part::Short.recipe_max()]);
     /// assert_eq!(chip.get(&mut array, 3, 1, today, &mut buffer, &mut run)?, b"malt");
@@ -218,8 +218,8 @@ impl Chip {
     /// [`recipe_max`](crate::Part::recipe_max) bytes; the rest of it keeps. A
     /// recipe with a term is read on its days alone.
     ///
-    /// Errors: all but `Frame`, `Sealed`, `End` and `Dates`; the buffer keeps
-    /// whole.
+    /// Errors: all but `Frame`, `Sealed`, `End`, `Dates` and `Miscompare`; the
+    /// buffer keeps whole.
     pub fn get<'b>(
         &mut self,
         array: &mut [u8],
@@ -253,7 +253,8 @@ impl Chip {
 
     /// Erases a slot.
     ///
-    /// Errors: all but `Frame`, `Size`, `Blank`, `End`, `Dates` and `Term`.
+    /// Errors: all but `Frame`, `Size`, `Blank`, `End`, `Dates`, `Term` and
+    /// `Miscompare`.
     pub fn wipe(
         &mut self,
         array: &mut [u8],

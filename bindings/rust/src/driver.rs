@@ -44,6 +44,24 @@ use crate::{Date, Error, Part, Term, DRIVER_FRAME_LEN, SLOT_ROOM};
 /// # Ok::<(), Error>(())
 /// ```
 ///
+/// Each page that a put or a patch has programmed is compared with what was
+/// loaded for it. One that did not take is told at the end, when the others have
+/// been programmed too:
+///
+/// ```
+/// # use slipknoll::{DriveError, Driver, Error, Part};
+/// let mut put = Driver::put(Part::Full, 7, 100, None, b"AB")?;
+/// let told = put.run(|frame, reply| {
+///     reply.fill(0x00);
+///     if frame[0] == 0xD7 {
+///         reply[1] = 0xE4; // ready, and the last compare found a difference
+///     }
+///     Ok::<(), String>(())
+/// });
+/// assert_eq!(told, Err(DriveError::Call(Error::Miscompare)));
+/// # Ok::<(), Error>(())
+/// ```
+///
 /// A busy chip is asked again at once, as often as the poll limit allows: let
 /// the exchange pause before a frame that begins with D7, or choose a limit
 /// that outlasts 35 ms (put and patch) or 75 ms (wipe). Wake the chip with AB
@@ -176,7 +194,7 @@ impl<'a> Driver<'a> {
     /// A byte that is missing counts as FFh, so that a lost status ends the
     /// call with `Chip` and lost registers with `Sealed`. Two losses cannot be
     /// seen here and end the call by not going on with it: a frame that may
-    /// not have reached the chip whole (a put over a lost 84 or 83 would come
+    /// not have reached the chip whole (a put over a lost 84 or 60 might come
     /// to Ok), and a reply to D2 that may be short or damaged (a patch would
     /// program it back).
     pub fn take(&mut self, reply: &[u8]) {
@@ -192,7 +210,7 @@ impl<'a> Driver<'a> {
     /// How the call has ended; None while there is a frame to send.
     ///
     /// Errors: `Chip`, `Busy`, `Sealed` (not of a get), `Blank` (patch and get),
-    /// `End` (patch) and `Term` (get).
+    /// `End` (patch), `Term` (get) and `Miscompare` (put and patch).
     pub fn answer(&self) -> Option<Result<(), Error>> {
         driver::answer(&self.state).map(accepted)
     }

@@ -3,8 +3,8 @@ use std::fmt;
 /// An answer other than 0, by its number and word in `docs/SPECIFICATION.md`
 /// (12.1).
 ///
-/// After 1 to 7 and 14 nothing was sent and nothing has changed. 8 to 13 and 15
-/// end a call that was under way; what its frames have done stays.
+/// After 1 to 7 and 14 nothing was sent and nothing has changed. 8 to 13, 15 and
+/// 16 end a call that was under way; what its frames have done stays.
 ///
 /// ```
 /// use slipknoll::Error;
@@ -56,10 +56,15 @@ pub enum Error {
     Dates = 14,
     /// Today is outside the term in the slot.
     Term = 15,
+    /// A page that a put or a patch programmed is not what was loaded for it, by
+    /// the status after its compare. All pages were programmed. A chip that the
+    /// program holds never miscompares: it is an answer of a
+    /// [`Driver`](crate::Driver).
+    Miscompare = 16,
 }
 
 /// Every error with its word and what it says, in the order of the numbers.
-const TABLE: [(Error, &str, &str); 15] = [
+const TABLE: [(Error, &str, &str); 16] = [
     (
         Error::Part,
         "part",
@@ -95,10 +100,15 @@ const TABLE: [(Error, &str, &str); 15] = [
         "no date of 2000 to 2199, or first day after the last",
     ),
     (Error::Term, "term", "today is outside the recipe's term"),
+    (
+        Error::Miscompare,
+        "miscompare",
+        "a page does not hold what was programmed",
+    ),
 ];
 
 impl Error {
-    /// The error of an answer's number, if it is one of 1 to 15.
+    /// The error of an answer's number, if it is one of 1 to 16.
     pub fn from_number(number: u8) -> Option<Error> {
         let place = usize::from(number).checked_sub(1)?;
         TABLE.get(place).map(|(error, ..)| *error)
@@ -133,7 +143,7 @@ impl fmt::Display for Error {
 
 impl std::error::Error for Error {}
 
-/// An answer as a result. The library answers with 0 to 15 alone.
+/// An answer as a result. The library answers with 0 to 16 alone.
 pub(crate) fn accepted(answer: u8) -> Result<(), Error> {
     match answer {
         0 => Ok(()),
@@ -154,6 +164,6 @@ mod tests {
             assert_eq!(error.is_refusal(), i < 7 || i + 1 == 14);
         }
         assert_eq!(Error::from_number(0), None);
-        assert_eq!(Error::from_number(16), None);
+        assert_eq!(Error::from_number(17), None);
     }
 }

@@ -8,7 +8,7 @@
 //! * [`Driver`] makes the same calls on a chip elsewhere, say a real one behind
 //!   a radio link: it yields frames and is given the replies.
 //!
-//! Every input is answered: the answers 1 to 15 are an [`Error`].
+//! Every input is answered: the answers 1 to 16 are an [`Error`].
 //!
 //! ```
 //! use slipknoll::{log_len, Chip, Date, Part, Run, FACTORY_LEN};
@@ -20,7 +20,7 @@
 //! let mut log = [0; log_len::put(1)];
 //! let mut run = Run::new(&mut log);
 //! chip.put(&mut array, 3, 1, None, b"AB", &mut run)?;
-//! assert_eq!((run.frames(), run.polls()), (27, 9));
+//! assert_eq!((run.frames(), run.polls()), (43, 17));
 //!
 //! let (today, mut buffer) = (Date::new(2026, 11, 16)?, vec![0; part.recipe_max()]);
 //! assert_eq!(chip.get(&mut array, 3, 1, today, &mut buffer, &mut run)?, b"AB");

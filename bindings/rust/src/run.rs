@@ -23,14 +23,14 @@ pub mod log_len {
         }
     }
 
-    /// For 9 B + 18 frames.
+    /// For 17 B + 26 frames.
     pub const fn put(poll_limit: usize) -> usize {
-        LINE_LEN * (9 * within(poll_limit) + 18)
+        LINE_LEN * (17 * within(poll_limit) + 26)
     }
 
-    /// For 9 B + 26 frames.
+    /// For 17 B + 34 frames.
     pub const fn patch(poll_limit: usize) -> usize {
-        LINE_LEN * (9 * within(poll_limit) + 26)
+        LINE_LEN * (17 * within(poll_limit) + 34)
     }
 
     /// For B + 8 frames.

@@ -262,6 +262,58 @@ fn errors_on(part: Part) {
     assert_eq!(fresh.drive(get), (Err(Error::Blank), Vec::new()));
 }
 
+/// A chip that one 83 does not reach: it gets a frame that it ignores.
+struct Lossy {
+    bench: Bench,
+    /// 83s so far, and which of them, from 1 on, is lost.
+    programs: usize,
+    lost: usize,
+}
+
+impl Lossy {
+    fn exchange(&mut self, frame: &[u8], reply: &mut [u8]) -> Result<(), Error> {
+        self.programs += usize::from(frame[0] == 0x83);
+        if frame[0] == 0x83 && self.programs == self.lost {
+            return self.bench.exchange(&[0x00; 4], reply);
+        }
+        self.bench.exchange(frame, reply)
+    }
+}
+
+/// A page that kept what it had is told at the end; the others have been programmed.
+#[test]
+fn lost_program_is_told() {
+    for part in Part::ALL {
+        let mut bench = Bench::new(part);
+        let most = part.recipe_max();
+        let (old, new) = (vec![0x5A; most], vec![0xA5; most]);
+        let put = |recipe| Driver::put(part, SLOT, POLL_LIMIT, None, recipe).expect("a put");
+        let patch = || Driver::patch(part, SLOT, POLL_LIMIT, 0, &new).expect("a patch");
+        assert_eq!(bench.drive(put(&new)).0, Ok(()));
+        let slot = SLOT * part.slot_len()..(SLOT + 1) * part.slot_len();
+        let stored = bench.array[slot.clone()].to_vec();
+        assert_eq!(bench.drive(put(&old)).0, Ok(()));
+        let (first, page) = (bench.array[slot.clone()].to_vec(), part.page_len());
+        for lost in 0..8 {
+            for (mut driver, frames) in [(put(&new), 43), (patch(), 51)] {
+                bench.outline.clear();
+                let mut lossy = Lossy {
+                    bench: bench.clone(),
+                    programs: 0,
+                    lost: lost + 1,
+                };
+                let told = driver.run(|frame, reply| lossy.exchange(frame, reply));
+                assert_eq!(told, Err(DriveError::Call(Error::Miscompare)));
+                assert_eq!(lossy.bench.outline.len(), frames);
+                let mut expected = stored.clone();
+                let kept = lost * page..(lost + 1) * page;
+                expected[kept.clone()].copy_from_slice(&first[kept]);
+                assert!(lossy.bench.array[slot.clone()] == expected, "page {lost}");
+            }
+        }
+    }
+}
+
 /// A chip that is never ready is asked as often as the limit allows.
 #[test]
 fn busy() {

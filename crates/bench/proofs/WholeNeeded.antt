@@ -44,7 +44,6 @@ use Rattle.state.specs.Memory.{State}
 use Rattle.slots.specs.Alike.{Twins}
 use Rattle.bench.specs.Start.{freshShort, log, answers}
 
-
 -- a fresh chip without buffers
 abbrev bare : State
 bare = record { registers = freshShort .registers; memory = record { array = freshShort .memory .array; buffer1 = []; buffer2 = []; compare = false } }

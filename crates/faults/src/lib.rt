@@ -39,11 +39,11 @@ pub enum Fault {
 }
 
 // What the messages are made of, one after the other: names, then what is said of them.
-const TEXTS: [u8; 387] =
-    *b"SPLACEHEXSEEDlevelpartbscriptjunkjunklenlogbufferreplyfirstlasttodaylonger than 8192 charactersno commandunknown command is missing is not a number is not a date is too large has a character that is not a hexadecimal digit has an odd number of digitslevel is not 0 or 1part is not 128, 4096, 128x256 or 4096x256unknown optiontoo many wordsoption given twice is over 65536 is over 1114112";
+const TEXTS: [u8; 402] =
+    *b"SPLACEHEXSEEDlevelpartbscriptjunkjunklenlogbufferreplyfirstlasttodaylonger than 8192 charactersno commandunknown command is missing is not a number is not a date is too large has a character that is not a hexadecimal digit has an odd number of digitslevel is not 0 or 1part is not 128, 4096, 128x256 or 4096x256unknown optiontoo many wordsoption given twice is over 65536 is over 1114112 is over 102204";
 
 // Part i lies from entry i to entry i + 1. Part 0 is empty.
-const STARTS: [usize; 34] = [
+const STARTS: [usize; 35] = [
     0,
     0, // 1: S
     1, // 2: PLACE
@@ -77,11 +77,12 @@ const STARTS: [usize; 34] = [
     339, // 30: option given twice
     357, // 31: is over 65536
     371, // 32: is over 1114112
-    387,
+    387, // 33: is over 102204
+    402,
 ];
 
 fn key_part(k: Key) -> usize
-    ensures { λ r. ⌜ (r ≡ keyPart k) × (r < 33) ⌝ }
+    ensures { λ r. ⌜ (r ≡ keyPart k) × (r < 34) ⌝ }
 {
     match k {
         Key::Limit => 7,
@@ -98,7 +99,7 @@ fn key_part(k: Key) -> usize
 }
 
 fn name_part(n: Name) -> usize
-    ensures { λ r. ⌜ (r ≡ namePart n) × (r < 33) ⌝ }
+    ensures { λ r. ⌜ (r ≡ namePart n) × (r < 34) ⌝ }
 {
     match n {
         Name::Slot => 1,
@@ -113,7 +114,7 @@ fn name_part(n: Name) -> usize
 
 // The part that names what the fault lies in.
 fn subject_part(f: Fault) -> usize
-    ensures { λ r. ⌜ (r ≡ subjectPart f) × (r < 33) ⌝ }
+    ensures { λ r. ⌜ (r ≡ subjectPart f) × (r < 34) ⌝ }
 {
     match f {
         Fault::TooLong => 0,
@@ -135,14 +136,14 @@ fn subject_part(f: Fault) -> usize
 }
 
 fn over_part(k: Key) -> usize
-    ensures { λ r. ⌜ (r ≡ overPart k) × (r < 33) ⌝ }
+    ensures { λ r. ⌜ (r ≡ overPart k) × (r < 34) ⌝ }
 {
     match k {
         Key::Limit => 31,
         Key::Script => 31,
         Key::Seed => 31,
         Key::Junk => 32,
-        Key::Log => 31,
+        Key::Log => 33,
         Key::Buffer => 31,
         Key::Reply => 31,
         Key::First => 31,
@@ -153,7 +154,7 @@ fn over_part(k: Key) -> usize
 
 // The part that says what is wrong.
 fn said_part(f: Fault) -> usize
-    ensures { λ r. ⌜ (r ≡ saidPart f) × (r < 33) ⌝ }
+    ensures { λ r. ⌜ (r ≡ saidPart f) × (r < 34) ⌝ }
 {
     match f {
         Fault::TooLong => 17,
@@ -174,7 +175,7 @@ fn said_part(f: Fault) -> usize
     }
 }
 
-fn text_table() -> [u8; 387]
+fn text_table() -> [u8; 402]
     ensures { λ r. ⌜ r ≡ texts ⌝ }
 {
     TEXTS
@@ -182,7 +183,7 @@ fn text_table() -> [u8; 387]
 
 // Where part `i` begins.
 fn start_of(i: usize) -> usize
-    requires { ⌜ i < 34 ⌝ }
+    requires { ⌜ i < 35 ⌝ }
     ensures { λ r. ⌜ r ≡ getD starts i 0 ⌝ }
 {
     STARTS[i]
@@ -190,10 +191,10 @@ fn start_of(i: usize) -> usize
 
 // Where part `i` lies in the table.
 fn part(i: usize) -> Span
-    requires { ⌜ i < 33 ⌝ }
-    ensures { λ r. ⌜ Within 387 r × (r ≡ partAt i) ⌝ }
+    requires { ⌜ i < 34 ⌝ }
+    ensures { λ r. ⌜ Within 402 r × (r ≡ partAt i) ⌝ }
 {
-    let end = numbers::lesser(start_of(i + 1), 387);
+    let end = numbers::lesser(start_of(i + 1), 402);
     let start = numbers::lesser(start_of(i), end);
     Span {
         start: start,

@@ -66,7 +66,7 @@ pub extern "C" fn slipknoll_cut(block: &mut [u8; 765], array: &mut [u8], junk: &
     inplace::cut(block, array, junk)
 }
 
-// ---- the calls. `counts` gets frames, polls and n. Answers 0 to 15.
+// ---- the calls. `counts` gets frames, polls and n. Answers 0 to 16.
 
 // A recipe stored in a slot.
 #[no_mangle]

@@ -175,18 +175,40 @@ unfolding pages pageSteps
 get-neat zero j = tt
 get-neat (suc n) j = ((λ e. never e), get-neat n (suc j))
 
-
 later : (slot p : ℕ) → suc (8 * slot) ≤ p → p < suc (8 * slot) + 7 → eqb (p % 8) 0 ≡ false
 later slot p l u = ne-eqb (p % 8) 0 (λ e. absurd (omega (arith, l, u, e)))
 
 plan-neat : (k : Kind) (g : Geometry) (slot : ℕ) → Neat k false false (planBy k g slot)
 unfolding planBy isAsking runBy pages pageSteps isCompare
-plan-neat Put g slot =
-    (refl, (λ e. never e), (refl, (λ e. never e), (refl, (λ _ e. let z : _≡_ {A = ℕ} 0 1 = cc in absurd (omega arith)),
-    pages-neat Put (pageSteps Put) (λ p xs l u. (refl, (λ e. never e), (refl, (λ _ e. let z : _≡_ {A = ℕ} 0 1 = cc in absurd (omega arith)), u))) 7 (suc (8 * slot)) (later slot))))
-plan-neat Patch g slot =
-    (refl, (λ e. never e), ((λ e. never e), (refl, (λ e. never e), (refl, (λ _ e. let z : _≡_ {A = ℕ} 0 1 = cc in absurd (omega arith)),
-    pages-neat Patch (pageSteps Patch) (λ p xs l u. ((λ _. l), (refl, (λ e. never e), (refl, (λ _ e. let z : _≡_ {A = ℕ} 0 1 = cc in absurd (omega arith)), u)))) 7 (suc (8 * slot)) (later slot)))))
+plan-neat Put g slot = (
+  refl,
+  (λ e. never e),
+  (
+    refl,
+    (λ e. never e),
+    (
+      refl,
+      (λ _ e. let z : _≡_ {A = ℕ} 0 1 = cc in absurd (omega arith)),
+      pages-neat Put (pageSteps Put) (λ p xs l u. (refl, (λ e. never e), (refl, (λ _ e. let z : _≡_ {A = ℕ} 0 1 = cc in absurd (omega arith)), u))) 7 (suc (8 * slot)) (later slot),
+    ),
+  ),
+)
+plan-neat Patch g slot = (
+  refl,
+  (λ e. never e),
+  (
+    (λ e. never e),
+    (
+      refl,
+      (λ e. never e),
+      (
+        refl,
+        (λ _ e. let z : _≡_ {A = ℕ} 0 1 = cc in absurd (omega arith)),
+        pages-neat Patch (pageSteps Patch) (λ p xs l u. ((λ _. l), (refl, (λ e. never e), (refl, (λ _ e. let z : _≡_ {A = ℕ} 0 1 = cc in absurd (omega arith)), u)))) 7 (suc (8 * slot)) (later slot),
+      ),
+    ),
+  ),
+)
 plan-neat Get g slot = (refl, (λ e. never e), get-neat 8 (8 * slot))
 plan-neat Wipe g slot = (refl, (λ e. never e), (refl, (λ e. never e), tt))
 

@@ -1,5 +1,5 @@
 -- DEMAND 1 over lists: every outcome's answer is a number of the table, and one of 1 to 7, or 14, means that nothing was sent and nothing changed. A refused
--- call starts at its end, and a run never leaves its end; an accepted one can only end with 0, 8 to 13 or 15.
+-- call starts at its end, and a run never leaves its end; an accepted one can only end with 0, 8 to 13, 15 or 16.
 -- Assumes nothing.
 use Prim.Native.Nat.{ℕ, zero, suc, _<_, _≤_}
 use mathlib.Core.Path.{_≡_, refl, sym, ap, subst, _∙_}
@@ -120,7 +120,7 @@ refused-call g v x s e =
       next = λ i. cond (r .0 i .cut) (cutState g (x .junk) (reached (r .0 i, r .1 i))) (reached (r .0 i, r .1 i));
     }
 
--- ---- an accepted call ends with 0, 8 to 13 or 15
+-- ---- an accepted call ends with 0, 8 to 13, 15 or 16
 
 late-is : (a : Answer) → Stops a → isRefusal a ≡ false
 late-is a h = (λ i. (leb 1 (numberOf a) && lt-leb (numberOf a) 7 (h .0) i) || ne-eqb (numberOf a) 14 (λ e. absurd (omega (arith, h .1, e))) i) ∙ go (leb 1 (numberOf a))

@@ -222,9 +222,16 @@ module _ (g : Geometry) (K : Kind) (slot : ℕ) (W : Writer g K slot) (fits : 8 
   stays (compared p) l d r m h b (i, a, s, t, w, f, o, inl e) = idle-stays g r m (λ t n. Holds (compared p) l d t n h) (e .0) (i, a, s, t, w, f, o, inl e)
   stays (compared p) l d r m h b (i, a, s, t, w, f, o, inr e) =
       let same : pageOf g p (m .array) ≡ take (g .size) (m .buffer1) = t p (i .0) (omega arith) ∙ sym o in
-      subst (λ (x : Operation). Holds (compared p) l d (withOperation (completedBy g x r) O.Idle) (completedMemory g x m) h) (sym e)
-      (i, a, s, (λ q x y. ap (pageOf g q) (compare-rest g One p m .0) ∙ t q x y), (λ q x y. subst (λ (z : List ℕ). W .Was q (pageOf g q z)) (sym (compare-rest g One p m .0)) (w q x y)), f,
-      ap (take (g .size)) (compare-rest g One p m .1) ∙ o, inl (refl, compare-same g One p m same))
+      subst (λ (x : Operation). Holds (compared p) l d (withOperation (completedBy g x r) O.Idle) (completedMemory g x m) h) (sym e) (
+        i,
+        a,
+        s,
+        (λ q x y. ap (pageOf g q) (compare-rest g One p m .0) ∙ t q x y),
+        (λ q x y. subst (λ (z : List ℕ). W .Was q (pageOf g q z)) (sym (compare-rest g One p m .0)) (w q x y)),
+        f,
+        ap (take (g .size)) (compare-rest g One p m .1) ∙ o,
+        inl (refl, compare-same g One p m same),
+      )
   stays erased l d r m h b (a, s, f, inl e) = idle-stays g r m (λ t n. Holds erased l d t n h) (e .0) (a, s, f, inl e)
   stays erased l d r m h b (a, s, f, inr e) =
       subst (λ (x : Operation). Holds erased l d (withOperation (completedBy g x r) O.Idle) (completedMemory g x m) h) (sym (e .0))

@@ -1,5 +1,6 @@
 -- What frames and busy ends do to the memory, for the frames that the slot driver sends: 84 stores its data in buffer 1, a program's
--- busy end makes a page of the buffer, and D7, 32, 35, D2, 83 and 50 leave the memory as it is; a busy end of an idle chip changes nothing.
+-- busy end makes a page of the buffer, that of a 60 finds page and buffer alike where they are, and D7, 32, 35, D2, 83 and 50 leave the memory as it is; a
+-- busy end of an idle chip changes nothing.
 -- Assumes nothing.
 use mathlib.Core.Path.{_≡_, refl, sym, ap, subst, _∙_}
 use mathlib.Core.Bool.{Bool, true, false, cond, not}

@@ -5,8 +5,8 @@ use crate::records::OPERATIONS;
 use crate::request::KINDS;
 use crate::step::CHIP_FUNCTIONS;
 
-/// Answers 0 to 15, and one place for any other.
-const ANSWERS: usize = 17;
+/// Answers 0 to 16, and one place for any other.
+const ANSWERS: usize = 18;
 
 /// How often a row was obeyed and how often it was ignored.
 #[derive(Clone, Copy, Debug, Default)]

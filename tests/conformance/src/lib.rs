@@ -13,9 +13,10 @@
 //! of a random run it is the seed. The line to use is printed when a case fails.
 //!
 //! Beside the comparison: [`lists`] has the runs that do on compiled code what
-//! the theorems say, [`driving`] and [`replies`] the driver alone, and [`slips`]
-//! devices with seeded faults, which the tests must notice.
+//! the theorems say, [`driving`], [`replies`] and [`compares`] the driver alone,
+//! and [`slips`] devices with seeded faults, which the tests must notice.
 
+pub mod compares;
 pub mod coverage;
 pub mod dates;
 pub mod device;

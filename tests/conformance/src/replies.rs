@@ -14,19 +14,37 @@ use crate::rng::Rng;
 use crate::scenarios::calls::{request, slot, SLOT_KINDS};
 
 /// Turns of the longest case, and turns after the end.
-const LONGEST: usize = 80;
+const LONGEST: usize = 130;
 const AFTER: usize = 3;
+
+/// The compare bit of a status.
+const DIFFERS: u8 = 0x40;
 
 /// What is sent to a driver.
 enum Source {
     /// A chip, whose busy periods end after a frame or not.
-    Chip(Box<Chip>, Vec<u8>),
-    /// Nothing that is a chip: any bytes, any lengths.
-    Nowhere,
+    Chip {
+        chip: Box<Chip>,
+        array: Vec<u8>,
+        /// The compare bit of one status in so many is another; 0 for none.
+        odd: usize,
+    },
+    /// Nothing that is a chip: any bytes; one reply in so many has any length, and
+    /// some statuses are of no chip.
+    Nowhere { odd: usize },
 }
 
-/// Runs one case; hands back the number of frames that were compared.
-pub fn check(subject: &mut dyn Driver, seed: u64) -> Result<u64, Broken> {
+/// What cases have shown.
+#[derive(Clone, Copy, Default)]
+pub struct Shown {
+    /// Frames that were compared.
+    pub frames: u64,
+    /// Ends by their answers.
+    pub answers: [u64; 17],
+}
+
+/// Runs one case; adds to what was shown.
+pub fn check(subject: &mut dyn Driver, seed: u64, shown: &mut Shown) -> Result<(), Broken> {
     let mut rng = Rng::new(seed.wrapping_mul(0xA076_1D64_78BD_642F));
     let part = parts::pick(&mut rng, 20);
     let request = any_request(&mut rng, part);
@@ -37,44 +55,48 @@ pub fn check(subject: &mut dyn Driver, seed: u64) -> Result<u64, Broken> {
     let mut source = source(&mut rng, part, &request);
     let mut list = vec![format!("{request}, array {array_len}")];
     let mut model = ModelDriver::default();
-    let (mut expected, mut turn) = (
-        model.start(array_len, &request),
-        subject.start(array_len, &request),
-    );
-    let (mut frames, mut after) = (0, 0);
+    let mut expected = model.start(array_len, &request);
+    let mut turn = subject.start(array_len, &request);
+    let mut after = 0;
     for _ in 0..LONGEST {
-        if let Some(what) = difference(&expected, &turn) {
-            return Err(Broken { seed, what, list });
-        }
-        let reads = matches!(request, Request::Get { .. }) && turn == Turn::End(0);
-        if reads && model.recipe() != subject.recipe() {
-            let what = "another recipe was read".to_string();
+        let what = difference(&expected, &turn);
+        if let Some(what) = what.or_else(|| misread(&request, &turn, &model, subject)) {
             return Err(Broken { seed, what, list });
         }
         let reply = match &turn {
             Turn::Frame(frame) => {
-                frames += 1;
+                shown.frames += 1;
                 source.reply(&mut rng, frame)
             }
             Turn::End(_) if after == AFTER => break,
-            Turn::End(_) => {
+            Turn::End(answer) => {
+                shown.answers[usize::from(*answer)] += u64::from(after == 0);
                 after += 1;
-                Source::Nowhere.reply(&mut rng, &[0xD7, 0x00])
+                from_nowhere(&mut rng, &[0xD7, 0x00], 4)
             }
         };
-        list.push(format!(
-            "reply of {}: {:02X?}",
-            reply.len(),
-            beginning(&reply)
-        ));
+        let (len, shown) = (reply.len(), beginning(&reply));
+        list.push(format!("reply of {len}: {shown:02X?}"));
         expected = model.next(&reply);
         turn = subject.next(&reply);
     }
-    Ok(frames)
+    Ok(())
+}
+
+/// What is wrong with the recipe that a get has read, at its end with 0.
+fn misread(
+    request: &Request,
+    turn: &Turn,
+    model: &ModelDriver,
+    subject: &dyn Driver,
+) -> Option<String> {
+    let reads = matches!(request, Request::Get { .. }) && *turn == Turn::End(0);
+    let differs = reads && model.recipe() != subject.recipe();
+    differs.then(|| "another recipe was read".to_string())
 }
 
 /// How two turns differ, if they do.
-fn difference(expected: &Turn, turn: &Turn) -> Option<String> {
+pub fn difference(expected: &Turn, turn: &Turn) -> Option<String> {
     let show = |turn: &Turn| match turn {
         Turn::Frame(frame) => format!("frame of {}: {:02X?}", frame.len(), beginning(frame)),
         Turn::End(answer) => format!("end with {answer}"),
@@ -124,7 +146,8 @@ fn any_request(rng: &mut Rng, part: Part) -> Request {
 
 fn source(rng: &mut Rng, part: Part, request: &Request) -> Source {
     if rng.one_in(2) {
-        return Source::Nowhere;
+        let odd = rng.pick(&[4, 100]);
+        return Source::Nowhere { odd };
     }
     let mut record = records::random(rng);
     if rng.one_in(2) {
@@ -139,40 +162,50 @@ fn source(rng: &mut Rng, part: Part, request: &Request) -> Source {
         rng.fill(&mut recipe);
         store(bytes, &recipe, days);
     }
-    Source::Chip(Box::new(Chip::from_record(&record)), array)
+    Source::Chip {
+        chip: Box::new(Chip::from_record(&record)),
+        array,
+        odd: rng.pick(&[0, 0, 5, 20, 60]),
+    }
 }
 
 impl Source {
     fn reply(&mut self, rng: &mut Rng, frame: &[u8]) -> Vec<u8> {
         match self {
-            Source::Chip(chip, array) => {
+            Source::Chip { chip, array, odd } => {
                 let mut reply = vec![0; frame.len()];
                 chip.send(array, frame, &mut reply);
+                if frame[0] == 0xD7 && *odd > 0 && rng.one_in(*odd) {
+                    reply[1] ^= DIFFERS;
+                }
                 if !rng.one_in(4) {
                     chip.end_busy(array);
                 }
                 reply
             }
-            Source::Nowhere => from_nowhere(rng, frame),
+            Source::Nowhere { odd } => from_nowhere(rng, frame, *odd),
         }
     }
 }
 
-/// Statuses of chips with pages of either size; none ends the call with 8.
-const STATUSES: [u8; 9] = [0xA4, 0xA6, 0xE4, 0x24, 0x66, 0xA5, 0xA7, 0x25, 0x67];
+/// Statuses of chips with pages of either size, busy or not; none ends the call with
+/// 8. Some have the compare bit.
+const STATUSES: [u8; 12] = [
+    0xA4, 0xA6, 0xA4, 0xE4, 0x24, 0x66, 0xA5, 0xA7, 0xA5, 0x25, 0x67, 0x64,
+];
 
 /// Any bytes; mostly such that the driver goes on.
-fn from_nowhere(rng: &mut Rng, frame: &[u8]) -> Vec<u8> {
-    let len = match rng.below(12) {
+fn from_nowhere(rng: &mut Rng, frame: &[u8], odd: usize) -> Vec<u8> {
+    let len = match rng.below(3) {
+        _ if !rng.one_in(odd) => frame.len(),
         0 => rng.below(frame.len() + 1),
         1 => frame.len() + rng.below(300),
-        2 => 0,
-        _ => frame.len(),
+        _ => 0,
     };
     let mut reply = vec![0; len];
     rng.fill(&mut reply);
     match frame[0] {
-        0xD7 if !rng.one_in(10) => set(&mut reply, 1, &[rng.pick(&STATUSES)]),
+        0xD7 if !rng.one_in(3 * odd) => set(&mut reply, 1, &[rng.pick(&STATUSES)]),
         0x32 | 0x35 if !rng.one_in(4) => reply.fill(0x00),
         0xD2 if rng.one_in(2) => {
             let (version, high) = (rng.pick(&[1, 2, 2]), rng.below(10) as u8);

@@ -9,7 +9,7 @@ use at45db081d_model::{Call, Date, Part, Term};
 /// The calls by name, in the order of [`Request::kind`].
 pub const KINDS: [&str; 5] = ["put", "patch", "get", "wipe", "raw"];
 
-/// The answers that each call can meet.
+/// The answers that each call can meet on a chip; 16 is not among them.
 pub const ANSWERS: [&[usize]; KINDS.len()] = [
     &[0, 1, 3, 4, 5, 6, 7, 8, 9, 10, 11, 14],
     &[0, 1, 3, 4, 5, 6, 7, 8, 9, 10, 11, 12, 13],
@@ -115,8 +115,8 @@ impl Request {
     pub fn log_len(&self) -> usize {
         let limit = |poll_limit: usize| poll_limit.min(1000);
         let frames = match *self {
-            Request::Put { poll_limit, .. } => 9 * limit(poll_limit) + 18,
-            Request::Patch { poll_limit, .. } => 9 * limit(poll_limit) + 26,
+            Request::Put { poll_limit, .. } => 17 * limit(poll_limit) + 26,
+            Request::Patch { poll_limit, .. } => 17 * limit(poll_limit) + 34,
             Request::Get { poll_limit, .. } => limit(poll_limit) + 8,
             Request::Wipe { poll_limit, .. } => 2 * limit(poll_limit) + 3,
             Request::Raw { .. } => 1,

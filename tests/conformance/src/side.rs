@@ -15,7 +15,7 @@ pub const GUARD: usize = 32;
 const MAX_REPLY: usize = 2300;
 
 /// The longest log that a case lends.
-const MAX_LOG: usize = 60_000;
+const MAX_LOG: usize = 103_000;
 
 /// A device with memories of its own, each between guards.
 pub struct Side<'a> {

@@ -6,7 +6,7 @@ use std::time::Instant;
 
 use conformance::driving::{Driver, LibraryDriver, ModelDriver, Turn};
 use conformance::lists::Broken;
-use conformance::replies;
+use conformance::replies::{self, Shown};
 use conformance::rng::Digits;
 use conformance::{Request, Rng};
 use slipknoll::ffi::driver;
@@ -14,32 +14,44 @@ use slipknoll::{Part, DRIVER_FRAME_LEN, SLOT_ROOM};
 
 const CASES: u64 = 40_000;
 
+/// Ends with answers that come at a call's end, at least: 95 in 100 of those that
+/// there are.
+const ENDS: [(usize, u64); 5] = [(0, 9_900), (12, 2_000), (13, 280), (15, 2_000), (16, 1_360)];
+
 /// Says something even when the test passes.
 fn say(line: &str) {
     writeln!(std::io::stdout(), "{line}").expect("standard output");
 }
 
-fn run(subject: &mut dyn Driver) -> Result<u64, Broken> {
-    (0..CASES).map(|seed| replies::check(subject, seed)).sum()
+fn run(subject: &mut dyn Driver) -> Result<Shown, Broken> {
+    let mut shown = Shown::default();
+    for seed in 0..CASES {
+        replies::check(subject, seed, &mut shown)?;
+    }
+    Ok(shown)
 }
 
 #[test]
 fn drivers_yield_the_same_frames() {
     let begin = Instant::now();
     let mut library = LibraryDriver::new(0x5A);
-    let frames = run(&mut library).unwrap_or_else(|broken| panic!("{broken}"));
+    let Shown { frames, answers } = run(&mut library).unwrap_or_else(|broken| panic!("{broken}"));
     let seconds = begin.elapsed().as_secs_f64();
     say(&format!(
-        "driver of the library: {CASES} cases, {frames} frames compared in {seconds:.1} s"
+        "driver of the library: {CASES} cases, {frames} frames compared in {seconds:.1} s; \
+         ends by answer {answers:?}"
     ));
-    assert!(frames >= 313_800);
+    assert!(frames >= 458_400);
+    for (answer, least) in ENDS {
+        assert!(answers[answer] >= least, "{answer}: {}", answers[answer]);
+    }
 }
 
 /// The opcodes of a call's frames, by the byte of a state that names the call.
 fn opcodes(call: u8) -> &'static [u8] {
     match call {
-        0x0F => &[0xD7, 0x32, 0x35, 0x84, 0x83],
-        0x33 => &[0xD7, 0x32, 0x35, 0xD2, 0x84, 0x83],
+        0x0F => &[0xD7, 0x32, 0x35, 0x84, 0x83, 0x60],
+        0x33 => &[0xD7, 0x32, 0x35, 0xD2, 0x84, 0x83, 0x60],
         0x55 => &[0xD7, 0xD2],
         0xF0 => &[0xD7, 0x32, 0x35, 0x50],
         _ => &[],
@@ -95,7 +107,7 @@ fn any_state(rng: &mut Rng) -> driver::State {
     state[4] = if rng.one_in(2) {
         state[4]
     } else {
-        rng.byte() % 40
+        rng.byte() % 56
     };
     state
 }
@@ -124,7 +136,7 @@ fn any_state_gives_frames_of_its_call_and_ends() {
     let (mut going, mut longest) = (0, 0);
     for _ in 0..60_000 {
         let mut state = any_state(&mut rng);
-        let bound = 9 * number(&state, 24).min(1000) + 26;
+        let bound = 17 * number(&state, 24).min(1000) + 34;
         let mut payload = vec![0; rng.below(20)];
         rng.fill(&mut payload);
         let (mut staged, mut frame) = ([0; SLOT_ROOM], [0; DRIVER_FRAME_LEN]);
@@ -140,14 +152,15 @@ fn any_state_gives_frames_of_its_call_and_ends() {
             // Of a chip that is busy or not, or of any bytes.
             let reply = match (calm, rng.one_in(3)) {
                 (true, true) => vec![0x24; len],
-                (true, false) => vec![if len == 2 { 0xA4 } else { 0x00 }; len],
+                (true, false) if len == 2 => vec![rng.pick(&[0xA4, 0xA4, 0xE4]); len],
+                (true, false) => vec![0x00; len],
                 (false, _) => vec![rng.byte(); rng.below(300)],
             };
             len = driver::next(&mut state, &payload, &reply, &mut staged, &mut frame);
             steps += 1;
         }
         let answer = driver::answer(&state);
-        assert!(matches!(answer, Some(0..=15)), "{state:02X?}: {answer:?}");
+        assert!(matches!(answer, Some(0..=16)), "{state:02X?}: {answer:?}");
         let most = part_of(&state).map_or(0, Part::recipe_max);
         assert!(driver::count(&state, &staged) <= most, "{state:02X?}");
         going += u64::from(steps > 0);
@@ -156,7 +169,7 @@ fn any_state_gives_frames_of_its_call_and_ends() {
     say(&format!(
         "any state: {going} of 60000 gave a frame, the longest {longest}"
     ));
-    assert!(going >= 11_900 && longest >= 44);
+    assert!(going >= 12_200 && longest >= 64);
 }
 
 /// A flipped bit of the byte that names the call makes no call another.
@@ -187,7 +200,7 @@ fn first_bytes_are_a_call_a_verdict_a_stage_and_an_answer() {
         state[at] = byte as u8;
         let expected = match (at, byte) {
             (0, 0x0F | 0x33 | 0x55 | 0xF0) => None,
-            (1, 0..=3) | (2, 0) | (3, 0..=15) => None,
+            (1, 0..=4) | (2, 0) | (3, 0..=16) => None,
             // Ended, with the answer that stands behind it.
             (2, 1) => Some(0),
             _ => Some(1),
@@ -196,7 +209,7 @@ fn first_bytes_are_a_call_a_verdict_a_stage_and_an_answer() {
         // The answer of a state that has ended.
         if at == 3 {
             state[2] = 1;
-            let told = if byte <= 15 { byte as u8 } else { 1 };
+            let told = if byte <= 16 { byte as u8 } else { 1 };
             assert_eq!(driver::answer(&state), Some(told), "{state:02X?}");
         }
     }
@@ -213,7 +226,17 @@ fn set_number(state: &mut driver::State, at: usize, number: u64) {
 
 /// Goes on with a call over a chip that is always ready, whose slot begins so;
 /// the data of the first 84, if there is one, and the answer.
-fn talk(mut state: driver::State, payload: &[u8], slot: &[u8]) -> (Option<Vec<u8>>, Option<u8>) {
+fn talk(state: driver::State, payload: &[u8], slot: &[u8]) -> (Option<Vec<u8>>, Option<u8>) {
+    talk_over(0xA4, state, payload, slot)
+}
+
+/// The same with this status at each poll.
+fn talk_over(
+    status: u8,
+    mut state: driver::State,
+    payload: &[u8],
+    slot: &[u8],
+) -> (Option<Vec<u8>>, Option<u8>) {
     let (mut staged, mut frame) = ([0x5A; SLOT_ROOM], [0; DRIVER_FRAME_LEN]);
     let mut loaded = None;
     let mut first_read = true;
@@ -221,7 +244,7 @@ fn talk(mut state: driver::State, payload: &[u8], slot: &[u8]) -> (Option<Vec<u8
     while len > 0 {
         let mut reply = vec![0; len];
         match frame[0] {
-            0xD7 => reply[1] = 0xA4,
+            0xD7 => reply[1] = status,
             0xD2 if first_read => {
                 reply[8..8 + slot.len()].copy_from_slice(slot);
                 first_read = false;
@@ -232,6 +255,62 @@ fn talk(mut state: driver::State, payload: &[u8], slot: &[u8]) -> (Option<Vec<u8
         len = driver::next(&mut state, payload, &reply, &mut staged, &mut frame);
     }
     (loaded, driver::answer(&state))
+}
+
+/// A page that differs makes 16 of no verdict, and stays; any other verdict stays
+/// too.
+#[test]
+fn verdict_of_a_made_up_state() {
+    for (verdict, calm, differing) in [
+        (0, 0, 16),
+        (1, 12, 12),
+        (2, 13, 13),
+        (3, 15, 15),
+        (4, 16, 16),
+    ] {
+        // Puts from their beginning on; a patch from its second page on, and behind
+        // its last 60.
+        for (call, place) in [(0, 0), (4, 0), (1, 9), (1, 50)] {
+            let mut state = [0; driver::STATE_LEN];
+            start(&mut state, call, Part::Short.array_len(), 3, 1, b"AB");
+            (state[1], state[4]) = (verdict, place);
+            let (_, answer) = talk(state, b"AB", &[]);
+            assert_eq!(answer, Some(calm), "{state:02X?}");
+            let (_, answer) = talk_over(0xE4, state, b"AB", &[]);
+            assert_eq!(answer, Some(differing), "{state:02X?}");
+        }
+    }
+}
+
+/// The verdict is none until the status that ends the wait after a 60, and 4 from
+/// there on; behind each of the plan's places there is one more, and then the end.
+#[test]
+fn places_and_verdicts_of_a_put_and_a_patch() {
+    let (mut staged, mut frame) = ([0; SLOT_ROOM], [0; DRIVER_FRAME_LEN]);
+    for (call, first_judged, last) in [(0, 7, 42), (1, 8, 50)] {
+        let mut state = [0; driver::STATE_LEN];
+        start(&mut state, call, Part::Full.array_len(), 3, 1, b"AB");
+        for place in 0..=last {
+            assert_eq!(state[4], place);
+            assert_eq!(state[1], if place > first_judged { 4 } else { 0 });
+            assert_eq!(driver::answer(&state), None);
+            // A status, a register without seals, a slot that holds eight bytes.
+            let mut reply = [0; DRIVER_FRAME_LEN];
+            (reply[1], reply[8], reply[10]) = (0xE4, 1, 8);
+            let len = driver::frame(&state, b"AB", &staged, &mut frame);
+            if len == 20 {
+                reply.fill(0);
+            }
+            driver::next(&mut state, b"AB", &reply, &mut staged, &mut frame);
+        }
+        assert_eq!(driver::answer(&state), Some(16));
+        // A state at a place behind the plan's last has ended.
+        start(&mut state, call, Part::Full.array_len(), 3, 1, b"AB");
+        for (place, answer) in [(last, None), (last + 1, Some(3)), (255, Some(3))] {
+            state[4] = place;
+            assert_eq!(driver::answer(&state), answer, "{place}");
+        }
+    }
 }
 
 /// What a put writes is told by the state: with its mark on the days, modulo 2^32,

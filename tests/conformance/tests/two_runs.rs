@@ -17,7 +17,7 @@ const PAIRS: u64 = 48_000;
 const LEAST_BY_PART: [u64; 4] = [22_300, 22_300, 106, 112];
 
 /// Builds that leak something of the recipes.
-const LEAKS: [Slip; 17] = [
+const LEAKS: [Slip; 20] = [
     Slip::SkipsPageAlreadyThere,
     Slip::SkipsPageOutsidePatch,
     Slip::GetStopsAtStoredLength,
@@ -35,6 +35,9 @@ const LEAKS: [Slip; 17] = [
     Slip::ShorterLimitForAll,
     Slip::LongerLimitForTerms,
     Slip::DatesUntestedOnVersion1,
+    Slip::EarlierPollCounts,
+    Slip::ProgramWaitCounts,
+    Slip::KeptPagesNotCompared,
 ];
 
 /// Says something even when the test passes.
@@ -70,16 +73,16 @@ fn nothing_of_the_recipes_shows() {
     ));
     // 95 in 100 of what is reached.
     assert_eq!(shown.pairs, PAIRS);
-    assert!(shown.calls() >= 192_800);
-    assert!(shown.frames >= 1_575_300);
-    assert!(shown.unlike_answers >= 23_100);
-    assert!(shown.unlike_terms >= 7_800);
-    assert!(shown.unlike_days >= 33_300);
+    assert!(shown.calls() >= 192_700);
+    assert!(shown.frames >= 2_092_800);
+    assert!(shown.unlike_answers >= 22_900);
+    assert!(shown.unlike_terms >= 7_500);
+    assert!(shown.unlike_days >= 33_100);
     for (shown, least) in shown.parts.iter().zip(&LEAST_BY_PART) {
         assert!(shown >= least, "only {shown} of {least} on a part");
     }
     for (kind, expected) in ANSWERS.iter().enumerate() {
-        let met: Vec<usize> = (0..16).filter(|&n| shown.answers[kind][n] > 0).collect();
+        let met: Vec<usize> = (0..17).filter(|&n| shown.answers[kind][n] > 0).collect();
         assert_eq!(met, *expected, "answers of {}", KINDS[kind]);
     }
 }

@@ -55,7 +55,8 @@ pub const MESSAGES: [&str; 48] = [
 ];
 
 /// The answers that lines can meet: all but 1, since the array is always a
-/// part's and a fresh part has no operation under way.
+/// part's and a fresh part has no operation under way, and 16, since the chip
+/// never miscompares.
 pub const ANSWERS: [&str; 15] = [
     "0", "2", "3", "4", "5", "6", "7", "8", "9", "10", "11", "12", "13", "14", "15",
 ];

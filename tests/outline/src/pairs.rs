@@ -127,7 +127,7 @@ fn script(rng: &mut Rng) -> Vec<u8> {
     if rng.one_in(2) {
         return Vec::new();
     }
-    let mut script: Vec<u8> = (0..rng.below(40)).map(|_| rng.byte() % 2).collect();
+    let mut script: Vec<u8> = (0..rng.below(60)).map(|_| rng.byte() % 2).collect();
     if rng.one_in(2) {
         script.fill(0);
     }
@@ -148,7 +148,7 @@ pub struct Shown {
 impl Shown {
     /// Whether this is at least 95 in 100 of what all pairs show.
     pub fn is_enough(&self) -> bool {
-        self.lines >= 99_900 && self.unlike_answers >= 304
+        self.lines >= 139_600 && self.unlike_answers >= 319
     }
 }
 

@@ -69,8 +69,8 @@ pub fn junk_byte(seed: u64, i: usize) -> u8 {
 pub fn log_frames(request: &Request, limit: usize) -> usize {
     let b = limit.min(1000);
     match request {
-        Request::Put { .. } => 9 * b + 18,
-        Request::Patch { .. } => 9 * b + 26,
+        Request::Put { .. } => 17 * b + 26,
+        Request::Patch { .. } => 17 * b + 34,
         Request::Get { .. } => b + 8,
         Request::Wipe { .. } => 2 * b + 3,
         Request::Raw { .. } => 1,

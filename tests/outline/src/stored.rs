@@ -41,6 +41,14 @@ pub const TERMS: Stored = stored(
     "tests/outline/terms.out",
 );
 
+/// The compares after programming: their frames, their room in the log, late busy
+/// ends and cuts behind them, a compare bit that was set before.
+pub const COMPARES: Stored = stored(
+    "compares",
+    "tests/outline/compares.in",
+    "tests/outline/compares.out",
+);
+
 /// The two examples of `make run`, whose outlines are one.
 pub const SHORT: Stored = example("the short recipe", "examples/outline/short.txt");
 pub const LONG: Stored = example("the long recipe", "examples/outline/long.txt");
@@ -49,7 +57,7 @@ const fn example(name: &'static str, input: &'static str) -> Stored {
     stored(name, input, "examples/outline/outline.txt")
 }
 
-pub const ALL: [Stored; 6] = [RUN, WIPE, PAGES_256, TERMS, SHORT, LONG];
+pub const ALL: [Stored; 7] = [RUN, WIPE, PAGES_256, TERMS, COMPARES, SHORT, LONG];
 
 impl Stored {
     pub fn input(&self) -> Vec<u8> {

@@ -87,7 +87,7 @@ fn lines_of_shell_find_no_difference() {
     assert!(shell().contains("target/bin/outline") && shell().contains("diff"));
     assert_eq!(compared("alike", program), "");
     // Cut at a place where a whole outline might end.
-    let cut = format!("{program} | head -n 28");
+    let cut = format!("{program} | head -n 44");
     let not_whole = "first: not whole\nsecond: not whole\n";
     assert_eq!(compared("cut", &cut), not_whole);
     assert_eq!(compared("lost", "true"), not_whole);

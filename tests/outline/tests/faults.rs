@@ -7,13 +7,13 @@ use outline_tests::crc::{crc32, Crc};
 use outline_tests::inputs::{input, INPUTS};
 use outline_tests::order::{self, Options, Order, Request};
 use outline_tests::session::Step;
-use outline_tests::stored::{Stored, PAGES_256, RUN, TERMS};
+use outline_tests::stored::{Stored, COMPARES, PAGES_256, RUN, TERMS};
 use outline_tests::{difference, rules, run_by, Difference, Rules, RULES};
 
 /// What is wrong, and how.
 type Fault = (&'static str, fn(&mut Rules));
 
-const FAULTS: [Fault; 43] = [
+const FAULTS: [Fault; 45] = [
     ("padding shown", |it| it.frame_text = padding_shown),
     ("three bytes shown", |it| it.frame_text = three_shown),
     ("lower-case digits", |it| it.frame_text = lower_case),
@@ -63,6 +63,8 @@ const FAULTS: [Fault; 43] = [
     ("no date as no number", |it| it.read = no_number),
     ("14 for 15", |it| it.totals_text = fourteen_for_15),
     ("16 bits of a year", |it| it.read = narrow_years),
+    ("no room for compares", |it| it.log_frames = uncompared),
+    ("logs of 65,536", |it| it.log_frames = small_logs),
 ];
 
 fn faulty(fault: Fault) -> Rules {
@@ -98,7 +100,8 @@ fn stored_runs_notice_faults() {
     };
     for fault in FAULTS {
         let rules = faulty(fault);
-        let noticed = [RUN, PAGES_256, TERMS].iter().any(|it| notices(it, &rules));
+        let runs = [RUN, PAGES_256, TERMS, COMPARES];
+        let noticed = runs.iter().any(|it| notices(it, &rules));
         assert!(noticed, "not noticed: {}", fault.0);
     }
 }
@@ -253,6 +256,19 @@ fn long_logs(request: &Request, limit: usize) -> usize {
 fn any_limit(request: &Request, limit: usize) -> usize {
     let more = limit.saturating_sub(1000).min(1);
     rules::log_frames(request, limit) + more
+}
+
+/// As many as a call would send without its compares.
+fn uncompared(request: &Request, limit: usize) -> usize {
+    let compares = 8 * (limit.min(1000) + 1);
+    match request {
+        Request::Put { .. } | Request::Patch { .. } => rules::log_frames(request, limit) - compares,
+        _ => rules::log_frames(request, limit),
+    }
+}
+
+fn small_logs(request: &Request, limit: usize) -> usize {
+    rules::log_frames(request, limit).min(65_536 / LOG_LINE)
 }
 
 fn from_0(number: usize, what: &str) -> String {

@@ -125,7 +125,7 @@ fn log_by_day(line: &[u8], rules: &Rules) -> Result<Order, String> {
 
 fn log_by_recipe(request: &Request, limit: usize) -> usize {
     match request {
-        Request::Put { recipe, .. } => 3 + (recipe.len() + 255) / 256 * 3,
+        Request::Put { recipe, .. } => 3 + (recipe.len() + 255) / 256 * 5,
         _ => rules::log_frames(request, limit),
     }
 }

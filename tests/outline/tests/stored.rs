@@ -71,7 +71,16 @@ fn examples_with_pages_of_256() {
         String::from_utf8(run(&input)).expect("text")
     });
     assert_eq!(short, long);
-    // A wait, both registers, then the first of slot 5's pages.
-    let first = "2 D7 00\n20 32 00 00 00\n20 35 00 00 00\n260 84 00 00 00\n4 83 00 28 00\n";
+    // A wait, both registers, then the first of slot 5's pages, and its compare.
+    let first = "\
+2 D7 00
+20 32 00 00 00
+20 35 00 00 00
+260 84 00 00 00
+4 83 00 28 00
+2 D7 00
+4 60 00 28 00
+2 D7 00
+";
     assert!(short.starts_with(first));
 }

@@ -144,7 +144,7 @@ pub fn script(rng: &mut Rng) -> Vec<u8> {
     if rng.one_in(2) {
         return Vec::new();
     }
-    let mut script = vec![0; rng.below(40)];
+    let mut script = vec![0; rng.below(60)];
     let rarity = rng.pick(&[2, 8, 30]);
     script.fill_with(|| u8::from(rng.one_in(rarity)));
     if rng.one_in(3) {

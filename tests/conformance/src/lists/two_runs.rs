@@ -52,7 +52,7 @@ pub struct Shown {
     pub parts: [u64; 4],
     pub frames: u64,
     /// Calls by kind and answer of the first run.
-    pub answers: [[u64; 16]; KINDS.len()],
+    pub answers: [[u64; 17]; KINDS.len()],
     /// Calls whose answers differ, both being one of 0, 12, 13 and 15.
     pub unlike_answers: u64,
     /// Puts that are accepted, with a term in one run alone.

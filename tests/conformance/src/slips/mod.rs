@@ -1,13 +1,16 @@
 //! Devices with one seeded fault each, to show that the tests notice it.
 //!
 //! A faulty device is the model but for its slip: its calls run the model's
-//! driver over a [`wire`] that drops, changes or miscounts something.
+//! driver over a [`wire`] that drops, changes or miscounts something. [`drivers`]
+//! has drivers with a fault that a chip would not show.
 
 use at45db081d_model::record::{field, tag};
 use at45db081d_model::{answer, Call, Chip, Date, Lent, Outcome, Part, Record};
 
 use crate::device::{Device, Model};
 
+mod compares;
+pub mod drivers;
 mod pages;
 mod terms;
 mod wire;
@@ -31,7 +34,7 @@ pub enum Slip {
     PatchEndsUnder13,
     /// A patch under 13 writes all the same.
     PatchWritesUnder13,
-    /// The frames are sent and nothing is stored.
+    /// The frames are sent and nothing is stored; compares are not looked at.
     StoresNothing,
     /// The first page is right and the other seven get the same bytes.
     SevenPagesAlike,
@@ -47,7 +50,8 @@ pub enum Slip {
 
     /// Ready is bit 7 set and bit 6 clear.
     ReadyWithCompareBit,
-    /// A sector is sealed only if all of its bits are set.
+    /// A sector is sealed only if all of its bits are set; compares are not looked
+    /// at.
     SealedByAllBits,
     /// Byte j of the replies to 32 and 35, not byte 4 + j.
     RegisterByteOff,
@@ -164,6 +168,17 @@ pub enum Slip {
     GetStopsOutsideTerm,
     /// The log of a put with a term shows that there is one.
     LogShowsTerm,
+
+    /// A difference at an earlier poll of the wait after a 60 counts.
+    EarlierPollCounts,
+    /// The compare bit counts after an 83 too.
+    ProgramWaitCounts,
+    /// The last page is not compared.
+    LastPageNotCompared,
+    /// Pages are compared with buffer 2.
+    ComparedWithBuffer2,
+    /// A page under 12 and 13 is not compared.
+    KeptPagesNotCompared,
 }
 
 /// The slips of page sizes that the chip alone has; the last is the calls'.
@@ -175,7 +190,7 @@ pub const PAGE_SIZE_SLIPS: [Slip; 4] = [
 ];
 
 /// Every slip.
-pub const SLIPS: [Slip; 69] = [
+pub const SLIPS: [Slip; 74] = [
     Slip::SkipsPageAlreadyThere,
     Slip::SkipsPageOutsidePatch,
     Slip::GetStopsAtStoredLength,
@@ -245,6 +260,11 @@ pub const SLIPS: [Slip; 69] = [
     Slip::GetFillsBufferUnder15,
     Slip::GetStopsOutsideTerm,
     Slip::LogShowsTerm,
+    Slip::EarlierPollCounts,
+    Slip::ProgramWaitCounts,
+    Slip::LastPageNotCompared,
+    Slip::ComparedWithBuffer2,
+    Slip::KeptPagesNotCompared,
 ];
 
 /// The model with one slip.

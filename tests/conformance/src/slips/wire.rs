@@ -6,11 +6,13 @@ use at45db081d_model::part::{sector_bits, sector_of};
 use at45db081d_model::slot::{judge_get, judge_patch, Head, HEADER_SIZE, TERM_HEADER_SIZE};
 use at45db081d_model::{answer, Call, Lent, Outcome, Part, Record};
 
+use super::compares::Compares;
 use super::{terms, Faulty, Slip};
 use crate::device::Device;
 
 const LOAD: u8 = 0x84;
 const PROGRAM: u8 = 0x83;
+const COMPARE: u8 = 0x60;
 const READ: u8 = 0xD2;
 const STATUS: u8 = 0xD7;
 const PROTECTION: u8 = 0x32;
@@ -46,6 +48,7 @@ pub struct Wire<'a> {
     reads: usize,
     first_load: Vec<u8>,
     first_read: Vec<u8>,
+    compares: Compares,
     /// Frames still to be dropped.
     dropping: usize,
     cut: bool,
@@ -60,10 +63,9 @@ impl<'a> Wire<'a> {
         call: &Call,
     ) -> Wire<'a> {
         let (slot, poll_limit) = call.target().unwrap_or_default();
-        let (has_term, today) = match call {
-            Call::Put { term, .. } => (term.is_some(), None),
-            Call::Get { today, .. } => (false, today.number()),
-            _ => (false, None),
+        let today = match call {
+            Call::Get { today, .. } => today.number(),
+            _ => None,
         };
         let (kind, place, len) = match call {
             Call::Put { recipe, .. } => (Kind::Put, 0, recipe.len()),
@@ -82,7 +84,7 @@ impl<'a> Wire<'a> {
             poll_limit,
             place,
             len,
-            has_term,
+            has_term: matches!(call, Call::Put { term: Some(_), .. }),
             today: today.unwrap_or(0),
             frames: 0,
             polls: 0,
@@ -90,6 +92,7 @@ impl<'a> Wire<'a> {
             reads: 0,
             first_load: Vec::new(),
             first_read: Vec::new(),
+            compares: Compares::default(),
             dropping: 0,
             cut: false,
         }
@@ -141,7 +144,7 @@ impl<'a> Wire<'a> {
 
     fn polls_told(&self) -> u64 {
         match (self.slip, self.kind) {
-            (Slip::PollsMadeUp, Kind::Put | Kind::Patch) if self.loads == 8 => 9,
+            (Slip::PollsMadeUp, Kind::Put | Kind::Patch) if self.loads == 8 => 17,
             _ => self.polls,
         }
     }
@@ -168,51 +171,74 @@ impl<'a> Wire<'a> {
         head.map_or(HEADER_SIZE, |head| head.body) + self.place
     }
 
-    /// Decides whether a frame is dropped; an error ends the call.
-    fn drops(&mut self, frame: &[u8]) -> Result<bool, u8> {
+    /// What a patch comes to, by its first page.
+    fn patch_verdict(&self) -> Result<Head, u8> {
+        judge_patch(self.part, &self.first_read, self.place + self.len)
+    }
+
+    /// An error if the slip ends a patch of this verdict before its first 84.
+    fn ends_at_once(&self) -> Result<(), u8> {
+        let ending = match self.slip {
+            Slip::PatchEndsUnder12 => answer::BLANK,
+            Slip::PatchEndsUnder13 => answer::END,
+            _ => return Ok(()),
+        };
+        match self.patch_verdict() {
+            Err(answer) if answer == ending => Err(answer),
+            _ => Ok(()),
+        }
+    }
+
+    /// Whether the 60 of the last page loaded is dropped, with its wait.
+    fn compares_not(&self) -> bool {
+        match self.slip {
+            Slip::LastPageNotCompared => self.loads == 8,
+            Slip::KeptPagesNotCompared if self.kind == Kind::Patch => self.patch_verdict().is_err(),
+            _ => false,
+        }
+    }
+
+    /// How many frames the slip drops from this one on.
+    fn dropped_from(&self, frame: &[u8]) -> usize {
         let driven = self.kind != Kind::Raw;
+        let read_on = self.kind == Kind::Get && self.reads > 0;
         match (self.slip, frame[0]) {
             (Slip::SkipsPageAlreadyThere, LOAD) if driven => {
-                if self.lent.array[self.page(self.loads)] == frame[4..] {
-                    self.dropping = 3;
-                }
+                let there = self.lent.array[self.page(self.loads)] == frame[4..];
+                5 * usize::from(there)
             }
             (Slip::SkipsPageOutsidePatch, LOAD) if self.kind == Kind::Patch => {
                 let first = self.patch_start();
                 let page = self.part.page_range(self.loads as u16);
-                if first >= page.end || first + self.len <= page.start {
-                    self.dropping = 3;
-                }
+                let outside = first >= page.end || first + self.len <= page.start;
+                5 * usize::from(outside)
             }
-            (Slip::GetStopsAtStoredLength, READ) if self.kind == Kind::Get && self.reads > 0 => {
-                if self.reads * self.part.page_size >= self.used() {
-                    self.dropping = 1;
-                }
+            (Slip::GetStopsAtStoredLength, READ) if read_on => {
+                usize::from(self.reads * self.part.page_size >= self.used())
             }
-            (Slip::GetStopsOutsideTerm, READ) if self.kind == Kind::Get && self.reads > 0 => {
+            (Slip::GetStopsOutsideTerm, READ) if read_on => {
                 let verdict = judge_get(self.part, &self.first_read, self.today);
-                if verdict == Err(answer::TERM) {
-                    self.dropping = 1;
+                usize::from(verdict == Err(answer::TERM))
+            }
+            (_, COMPARE) if driven && self.compares_not() => 2,
+            _ => 0,
+        }
+    }
+
+    /// Decides whether a frame is dropped; an error ends the call.
+    fn drops(&mut self, frame: &[u8]) -> Result<bool, u8> {
+        let driven = self.kind != Kind::Raw;
+        match frame[0] {
+            LOAD if self.kind == Kind::Patch && self.loads == 0 => self.ends_at_once()?,
+            STATUS if driven && self.slip == Slip::BusyAtOnce => return Err(answer::BUSY),
+            STATUS if driven && self.slip == Slip::PollLimitPerCall => {
+                if self.polls == self.poll_limit as u64 {
+                    return Err(answer::BUSY);
                 }
             }
-            (Slip::PatchEndsUnder12 | Slip::PatchEndsUnder13, LOAD)
-                if self.kind == Kind::Patch && self.loads == 0 =>
-            {
-                let ending = match self.slip {
-                    Slip::PatchEndsUnder12 => answer::BLANK,
-                    _ => answer::END,
-                };
-                match judge_patch(self.part, &self.first_read, self.place + self.len) {
-                    Err(answer) if answer == ending => return Err(answer),
-                    _ => {}
-                }
-            }
-            (Slip::PollLimitPerCall, STATUS) if driven && self.polls == self.poll_limit as u64 => {
-                return Err(answer::BUSY);
-            }
-            (Slip::BusyAtOnce, STATUS) if driven => return Err(answer::BUSY),
             _ => {}
         }
+        self.dropping = self.dropping.max(self.dropped_from(frame));
         let drops = self.dropping > 0;
         self.dropping -= usize::from(drops);
         Ok(drops)
@@ -223,14 +249,15 @@ impl<'a> Wire<'a> {
         let mut changed = frame.to_vec();
         match (self.slip, frame[0], self.kind) {
             (Slip::StoresNothing, PROGRAM, Kind::Put | Kind::Patch) => changed[0] = 0x00,
+            (Slip::ComparedWithBuffer2, COMPARE, Kind::Put | Kind::Patch) => changed[0] = 0x61,
             (Slip::SevenPagesAlike, LOAD, Kind::Put) if self.loads > 0 => {
                 changed.copy_from_slice(&self.first_load);
             }
             (Slip::PatchWritesUnder13, LOAD, Kind::Patch) => {
                 let at = self.patch_start();
-                let late = judge_patch(self.part, &self.first_read, self.place + self.len);
                 let page_size = self.part.page_size;
-                if late == Err(answer::END) && at / page_size == self.loads {
+                let late = self.patch_verdict() == Err(answer::END);
+                if late && at / page_size == self.loads {
                     changed[4 + at % page_size] ^= 0xFF;
                 }
             }
@@ -243,10 +270,11 @@ impl<'a> Wire<'a> {
     }
 
     /// What the driver hears in place of a reply.
-    fn hear(&self, frame: &[u8], reply: &mut [u8]) {
+    fn hear(&mut self, frame: &[u8], reply: &mut [u8]) {
         if self.kind == Kind::Raw {
             return;
         }
+        self.compares.hear(self.slip, frame, reply);
         let (byte, bits) = sector_bits(sector_of(8 * self.slot as u16));
         match (self.slip, frame[0]) {
             (Slip::ReadyWithCompareBit, STATUS) if reply[1] & 0x40 != 0 => reply[1] &= 0x7F,
@@ -270,6 +298,7 @@ impl<'a> Wire<'a> {
         match (self.slip, frame[0], self.kind) {
             (Slip::LogPadsWithZeros, _, _) => line[padding..].fill(0),
             (Slip::LogKeepsPadding, _, _) => line[padding..].copy_from_slice(&target[padding..]),
+            (Slip::ComparedWithBuffer2, COMPARE, Kind::Put | Kind::Patch) => line[2] = 0x61,
             (Slip::LogShowsTerm, LOAD, Kind::Put) if self.has_term && self.loads == 0 => {
                 line[5] = 1;
             }

@@ -22,8 +22,8 @@ pub const BOUNDS: Scenario = Scenario {
 
 const LIMITS: [usize; 6] = [2, 3, 4, 5, 17, 1000];
 
-/// Which wait takes one poll too many; 9 for none.
-const LATE: usize = 10;
+/// Which wait takes one poll too many; 17 for none.
+const LATE: usize = 18;
 
 fn cases(_: Part) -> u64 {
     (SLOT_KINDS * LIMITS.len() * LATE * OPERATIONS.len()) as u64
@@ -46,7 +46,7 @@ fn run(pair: &mut Pair, case: u64) -> Result<(), Mismatch> {
     let request = request(&mut rng, part, kind, slot, limit);
     let outcome = pair.call(CallStep::new(part, request).with_script(script))?;
     // The most frames of a put, a patch, a get, a wipe (10.29).
-    let bound = [9 * limit + 18, 9 * limit + 26, limit + 8, 2 * limit + 3][kind] as u64;
+    let bound = [17 * limit + 26, 17 * limit + 34, limit + 8, 2 * limit + 3][kind] as u64;
     let locks = operation.0 == tag::LOCK_SECTOR;
     if busy && late == LATE - 1 && !locks {
         assert_eq!(outcome.frames, bound, "the script reaches the bound");
@@ -70,11 +70,13 @@ fn script(kind: usize, limit: usize, late: usize, busy: bool) -> Vec<u8> {
     match kind {
         PUT | PATCH => {
             script.extend([0, 0]);
-            for page in 1..=8 {
-                // D2 of a patch, 84, and 83, which stays busy.
+            for page in 0..8 {
+                // D2 of a patch, 84, and 83 and 60, which stay busy.
                 script.resize(script.len() + 1 + usize::from(kind == PATCH), 0);
                 script.push(1);
-                wait(&mut script, page);
+                wait(&mut script, 2 * page + 1);
+                script.push(1);
+                wait(&mut script, 2 * page + 2);
             }
         }
         WIPE => {

@@ -19,11 +19,11 @@ pub const CUTS: Scenario = Scenario {
     run,
 };
 
-/// The frame after which the cut comes; a patch sends at most 71 with B = 5.
-const INDICES: usize = 72;
+/// The frame after which the cut comes; a patch sends at most 119 with B = 5.
+const INDICES: usize = 120;
 
 /// Frames of each call on an idle chip under an empty script.
-const FRAMES: [usize; KINDS] = [27, 35, 9, 5, 1];
+const FRAMES: [usize; KINDS] = [43, 51, 9, 5, 1];
 
 /// What the script has before the cut: 0s, 0s and then one 1, or 0s and 1s.
 const BEGINNINGS: usize = 3;

@@ -13,6 +13,7 @@ use crate::runner::Scenario;
 use crate::step::Step;
 
 mod bounds;
+mod compares;
 mod cuts;
 mod deep;
 mod lengths;
@@ -29,7 +30,7 @@ mod wrongs;
 
 /// Every scenario of calls, with the share of its cases that a full part gets:
 /// one in so many.
-pub const CALLS: [(Scenario, u64); 14] = [
+pub const CALLS: [(Scenario, u64); 15] = [
     (cuts::CUTS, 5),
     (polls::POLLS, 5),
     (bounds::BOUNDS, 4),
@@ -43,6 +44,7 @@ pub const CALLS: [(Scenario, u64); 14] = [
     (terms::TERMS, 4),
     (stored_terms::STORED_TERMS, 8),
     (wrong_dates::WRONG_DATES, 4),
+    (compares::COMPARES, 2),
     (random_calls::RANDOM_CALLS, 1),
 ];
 

@@ -20,8 +20,8 @@ pub const POLLS: Scenario = Scenario {
 
 const LIMITS: [usize; 6] = [1, 2, 3, 4, 5, 1000];
 
-/// Frames before the first 1: none, up to the first 83 or 50, or further on.
-const FIRST: [usize; 7] = [0, 1, 3, 4, 5, 8, 30];
+/// Frames before the first 1: none, up to the first 83, 60 or 50, or further on.
+const FIRST: [usize; 9] = [0, 1, 3, 4, 5, 6, 7, 8, 30];
 
 /// Numbers of 1s, as how many more than the limit or as they are.
 const ONES: usize = 9;

@@ -104,7 +104,7 @@ fn script(rng: &mut Rng) -> Vec<u8> {
     if rng.one_in(3) {
         return Vec::new();
     }
-    let mut script = vec![0; rng.below(50)];
+    let mut script = vec![0; rng.below(70)];
     let rarity = rng.pick(&[2, 4, 16]);
     script.fill_with(|| u8::from(rng.one_in(rarity)));
     if rng.one_in(4) {
