@@ -1,4 +1,4 @@
-// The record in a slot: how a head is read, by its version; and the verdict on a slot's first page.
+// The record in a slot: how a head is read, by its version; and the verdicts: by a slot's first page, and once a page differs.
 // Internal to this repository: a caller here meets each `requires`; no entry point is in this crate.
 ghost use mathlib.Core.Path.{_≡_};
 ghost use Prim.Native.Nat.{ℕ, _+_, _≤_, _<_};
