@@ -37,7 +37,7 @@ pub const MESSAGES: [&str; 48] = [
     "junklen is over 1114112",
     "log is not a number",
     "log is too large",
-    "log is over 65536",
+    "log is over 102204",
     "buffer is not a number",
     "buffer is too large",
     "buffer is over 65536",

@@ -4,7 +4,8 @@ use at45db081d_model::{Date, Part, Term};
 
 use crate::rules::Rules;
 
-/// Rooms of the lengths lent.
+/// Rooms of the lengths lent: a log has room for any call's frames.
+const LOG_ROOM: usize = 102_204;
 const OUTPUT_ROOM: usize = 65_536;
 const JUNK_ROOM: usize = 1_114_112;
 
@@ -206,7 +207,7 @@ impl Options {
             "script" => self.script = hex(name, value)?,
             "junk" => self.seed = number(name, value)?,
             "junklen" => self.junk_len = Some(length(name, value, JUNK_ROOM)?),
-            "log" => self.log_len = Some(length(name, value, OUTPUT_ROOM)?),
+            "log" => self.log_len = Some(length(name, value, LOG_ROOM)?),
             "buffer" => self.buffer_len = Some(length(name, value, OUTPUT_ROOM)?),
             "reply" => self.reply_len = Some(length(name, value, OUTPUT_ROOM)?),
             "first" => self.first = Some(date(name, value)?),
