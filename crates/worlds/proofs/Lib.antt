@@ -5,3 +5,4 @@ pub mod Chains
 pub mod Shapes
 pub mod Own
 pub mod Example
+pub mod CompareExample
