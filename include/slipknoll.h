@@ -7,8 +7,8 @@
  * The library keeps no state and allocates nothing. The caller holds a chip as
  * two pieces of memory:
  *
- *   record   833 bytes: registers, operation under way, buffers, compare bit,
- *            wear tally (layout below);
+ *   record   765 bytes: registers, operation under way, buffers, compare bit
+ *            (layout below);
  *   array    the flash pages. Its length alone tells the part:
  *
  *              length         pages  status    slot  recipe    term        junk
@@ -28,17 +28,13 @@
  *
  * There are three groups of functions:
  *
- *   the chip         slipknoll_fresh, _send, _end_busy, _move_pin, _cut, _tally
- *   the slot calls   slipknoll_put, _put_term, _patch, _get, _wipe, _refresh, _raw:
+ *   the chip         slipknoll_fresh, _send, _end_busy, _move_pin, _cut
+ *   the slot calls   slipknoll_put, _put_term, _patch, _get, _wipe, _raw:
  *                    recipes in the slots of a chip that is held here
  *   the slot driver  slipknoll_driver_*: the same without the chip, for a real
  *                    one; the caller carries the frames
  *
  * examples/c/recipes.c uses all three, and says how to compile it.
- *
- * Sectors. A full part has 17: number 0 is 0a (pages 0 to 7), 1 is 0b (pages 8 to
- * 255), j + 1 is sector j (pages 256j to 256j + 255), for j from 1 to 15. A short
- * part has 0 and 1 alone, and 0b ends with its page 127.
  *
  * Answers. A function that returns uint8_t returns the number of an answer in
  * the table below (the driver's also SLIPKNOLL_RUNNING: no answer yet). 0 is
@@ -48,11 +44,10 @@
  * way; what its frames have done stays.
  *
  * Pointers. None may be null, and those of one call must not overlap. `record`
- * points to 833 bytes, `factory` to 64, `counts` to three aligned uint64_t,
- * `tally` to 17 aligned uint32_t, and what the driver is lent to the lengths
- * given there. Any other pointer comes with its length; with length 0 it may be any
- * non-null pointer. A pointer to const is only read. Bytes need no alignment.
- * Nothing is kept after the call.
+ * points to 765 bytes, `factory` to 64, `counts` to three aligned uint64_t, and
+ * what the driver is lent to the lengths given there. Any other pointer comes
+ * with its length; with length 0 it may be any non-null pointer. A pointer to
+ * const is only read. Bytes need no alignment. Nothing is kept after the call.
  */
 #ifndef SLIPKNOLL_H
 #define SLIPKNOLL_H
@@ -67,7 +62,7 @@ extern "C" {
 
 /* ---- Lengths in bytes. */
 
-#define SLIPKNOLL_RECORD_LEN 833
+#define SLIPKNOLL_RECORD_LEN 765
 #define SLIPKNOLL_FACTORY_LEN 64
 #define SLIPKNOLL_ARRAY_LEN 1081344          /* 4,096 pages of 264 bytes */
 #define SLIPKNOLL_SHORT_ARRAY_LEN 33792      /* 128 pages of 264 bytes */
@@ -81,18 +76,11 @@ extern "C" {
 #define SLIPKNOLL_SLOT_LEN(array_len) (8 * SLIPKNOLL_PAGE_LEN(array_len))
 /* The number of slots: 512, or 16 in a short part. */
 #define SLIPKNOLL_SLOTS(array_len) ((array_len) / SLIPKNOLL_SLOT_LEN(array_len))
-/* The number of sectors: 17, or 2 in a short part. */
-#define SLIPKNOLL_SECTORS(array_len) (SLIPKNOLL_SLOTS(array_len) == 16 ? 2 : 17)
-/* The pages of a sector that the part has: 8 of 0a; 248 of 0b, or 120 in a short
-   part; 256 of any other. `sector` may be evaluated twice. */
-#define SLIPKNOLL_SECTOR_PAGES(array_len, sector) \
-    ((sector) == 0 ? 8 : (sector) != 1 ? 256 : SLIPKNOLL_SLOTS(array_len) == 16 ? 120 : 248)
 /* A recipe has 0 to 2,109 bytes, or 0 to 2,045. */
 #define SLIPKNOLL_RECIPE_MAX(array_len) (SLIPKNOLL_SLOT_LEN(array_len) - 3)
 /* One with a term has 0 to 2,101, or 0 to 2,037. */
 #define SLIPKNOLL_TERM_RECIPE_MAX(array_len) (SLIPKNOLL_SLOT_LEN(array_len) - 11)
 /* What goes by no part. */
-#define SLIPKNOLL_TALLY_LEN 17           /* counts, not bytes: one for each sector */
 #define SLIPKNOLL_SLOT_ROOM 2112         /* room for a slot of any part */
 #define SLIPKNOLL_FRAME_MAX 1100         /* a frame has 1 to 1,100 bytes */
 #define SLIPKNOLL_POLL_LIMIT_MAX 1000    /* a poll limit is 1 to 1,000 */
@@ -102,9 +90,6 @@ extern "C" {
 #define SLIPKNOLL_GET_LOG_LEN(b) (6 * ((b) + 8))
 #define SLIPKNOLL_WIPE_LOG_LEN(b) (6 * (2 * (b) + 3))
 #define SLIPKNOLL_RAW_LOG_LEN 6
-/* That of a refresh goes by the sector's pages too: 8; 248 or 120; 256. */
-#define SLIPKNOLL_REFRESH_LOG_LEN(array_len, sector, b) \
-    (6 * ((b) + 2 + SLIPKNOLL_SECTOR_PAGES(array_len, sector) * ((b) + 1)))
 #define SLIPKNOLL_DRIVER_LEN 72          /* the driver's state */
 #define SLIPKNOLL_DRIVER_FRAME_LEN 272   /* room for the driver's longest frame, on any part */
 /* Where a recipe begins in the bytes of its slot: at 3, or at 11 behind a term. */
@@ -118,7 +103,7 @@ extern "C" {
 #define SLIPKNOLL_PART 1
 /* frame: empty or over 1,100 bytes, or the reply's length is another */
 #define SLIPKNOLL_FRAME 2
-/* slot: the part does not have it; of a refresh, the sector */
+/* slot: the part does not have it */
 #define SLIPKNOLL_SLOT 3
 /* limit: poll limit 0, or over 1,000 */
 #define SLIPKNOLL_LIMIT 4
@@ -135,8 +120,7 @@ extern "C" {
 #define SLIPKNOLL_CHIP 8
 /* busy: as many polls as the limit allows, and not ready */
 #define SLIPKNOLL_BUSY 9
-/* sealed: the sector, the slot's or that of a refresh, is locked or protected;
-   nothing was written */
+/* sealed: the slot's sector is locked or protected; nothing was written */
 #define SLIPKNOLL_SEALED 10
 /* cut: the script cut the supply */
 #define SLIPKNOLL_CUT 11
@@ -162,14 +146,11 @@ extern "C" {
 /*
  * ---- The record: where each field begins.
  *
- * Every content of the 833 bytes reads as some chip. A mark is one byte: 0 is
+ * Every content of the 765 bytes reads as some chip. A mark is one byte: 0 is
  * off and anything else on. Numbers are big-endian. A call that is not
  * answered with 1 to 7 or 14 writes the whole record: marks as 0 or 1, and 0 in the
  * fields that the operation under way does not have. A pin move writes the WP
  * mark alone.
- *
- * A record of 765 bytes, from before there was a tally, is brought over by 68 bytes
- * of 0 behind it: the same chip, with counts that begin at 0.
  *
  * The fields from SLIPKNOLL_AT_TAG to SLIPKNOLL_AT_DATA are the operation
  * under way. Of these a tag reads the fields that are named at it below; the
@@ -196,8 +177,6 @@ extern "C" {
 #define SLIPKNOLL_AT_BUFFER_1 236   /* 264: buffer 1 */
 #define SLIPKNOLL_AT_BUFFER_2 500   /* 264: buffer 2 */
 #define SLIPKNOLL_AT_COMPARE 764    /* 1: mark, compare bit */
-#define SLIPKNOLL_AT_TALLY 765      /* 68: tally, a count of 4 for each of 17 sectors; any
-                                       bytes are counts */
 
 /*
  * ---- Tags of the operation under way: the opcode, or the last byte of a 3D
@@ -209,8 +188,9 @@ extern "C" {
  * Every tag reads the buffer field. Number, sectors and data are ignored where
  * the tag is not said to have them.
  *
- * A sector of a 7C or 30, or a bit of the set of a C7, that the part does not have
- * is answered 1 too.
+ * Sectors of 7C, 30 and C7 are numbered 0 (0a), 1 (0b), j + 1 (sector j). The
+ * short parts have 0 and 1 alone: a number, or a bit of the set of a C7, beyond
+ * the part's sectors is answered 1 too.
  */
 #define SLIPKNOLL_TAG_IDLE 0x00          /* buffer 0; nothing else is read */
 /* with buffer 1 or 2; number: page */
@@ -261,10 +241,10 @@ extern "C" {
  *     import ctypes as c
  *     lib = c.CDLL("./libslipknoll.so")
  *     for name in ("fresh", "send", "end_busy", "move_pin", "cut",
- *                  "put", "put_term", "patch", "get", "wipe", "refresh", "raw"):
+ *                  "put", "put_term", "patch", "get", "wipe", "raw"):
  *         getattr(lib, "slipknoll_" + name).restype = c.c_uint8
  *     for length in (33792, 32768):                          # short parts of 264 and of 256
- *         record, array = (c.c_uint8 * 833)(), (c.c_uint8 * length)()
+ *         record, array = (c.c_uint8 * 765)(), (c.c_uint8 * length)()
  *         lib.slipknoll_fresh(record, bytes(64), array, c.c_size_t(length))
  *         reply = (c.c_uint8 * 2)()
  *         lib.slipknoll_send(record, array, c.c_size_t(length), b"\xd7\x00", c.c_size_t(2), reply, c.c_size_t(2))
@@ -274,8 +254,8 @@ extern "C" {
 /*
  * Makes a fresh chip, whatever record and array held before: FFh throughout
  * the array and in the user bytes, the factory bytes as given, zeros in the
- * other registers, in the buffers and in the tally. No mark is set but that of WP,
- * and nothing is under way. Answers 0, 1 (by the array's length alone).
+ * other registers and in the buffers. No mark is set but that of WP, and
+ * nothing is under way. Answers 0, 1 (by the array's length alone).
  */
 uint8_t slipknoll_fresh(uint8_t *record, const uint8_t *factory, uint8_t *array, size_t array_len);
 
@@ -291,10 +271,9 @@ uint8_t slipknoll_fresh(uint8_t *record, const uint8_t *factory, uint8_t *array,
 uint8_t slipknoll_send(uint8_t *record, const uint8_t *array, size_t array_len, const uint8_t *frame, size_t frame_len, uint8_t *reply, size_t reply_len);
 
 /*
- * Ends the busy period: the operation under way takes effect, the pages that it has
- * written count in the tally, and the chip is idle. An idle chip stays as it is; its
- * record is stored as by any call, with marks of 0 or 1 and 0 in the fields of the
- * operation. Answers 0, 1.
+ * Ends the busy period: the operation under way takes effect, and the chip is
+ * idle. An idle chip stays as it is; its record is stored as by any call, with
+ * marks of 0 or 1 and 0 in the fields of the operation. Answers 0, 1.
  */
 uint8_t slipknoll_end_busy(uint8_t *record, uint8_t *array, size_t array_len);
 
@@ -309,26 +288,10 @@ uint8_t slipknoll_move_pin(uint8_t *record, bool high);
  * protection register becomes the beginning of the rest, under 9B the user bytes
  * do, and used is set; under 30 the sector is locked if the first byte of the rest
  * is 80h or more.
- * The chip starts again idle, with compare bit, protect and deep cleared. Pages
- * that have become junk count in the tally. What is not named here stays, the level
- * of WP too. Answers 0, 1, 7.
+ * The chip starts again idle, with compare bit, protect and deep cleared. What
+ * is not named here stays, the level of WP too. Answers 0, 1, 7.
  */
 uint8_t slipknoll_cut(uint8_t *record, uint8_t *array, size_t array_len, const uint8_t *junk, size_t junk_len);
-
-/*
- * Reads the wear tally: tally[i] becomes the count of sector i, for all 17, sectors
- * that the part lacks among them; there is no answer. A count is raised at a busy
- * end, and at a cut, by the pages of its sector that the operation under way has
- * erased, programmed or left as junk, whether or not a byte is another then: by one
- * under 83/86, 88/89, 82/85, 81 and 58/59, by eight under 50, by all pages of the
- * sector under 7C, and so in each sector of its set under a chip erase; by nothing
- * under the others. It stops at 4,294,967,295, and nothing but slipknoll_fresh and
- * slipknoll_refresh makes it less.
- *
- *     uint32_t tally[SLIPKNOLL_TALLY_LEN];
- *     slipknoll_tally(record, tally);                                     // tally[1] is of 0b
- */
-void slipknoll_tally(const uint8_t *record, uint32_t *tally);
 
 /*
  * ---- The slot calls.
@@ -357,8 +320,7 @@ void slipknoll_tally(const uint8_t *record, uint32_t *tally);
  *           whatever bit 7 is; poll_limit polls of a busy chip with 9.
  *   seal    32 and 35, each with nineteen 00 behind it (20 bytes): protection
  *           and lockdown register. The call ends with 10 if these, and bit 1 of
- *           the status before them, tell that the slot's sector, or that of a
- *           refresh, is sealed.
+ *           the status before them, tell that the slot's sector is sealed.
  *   check   60 with the page's address (4), wait: bit 6 of the status that ends
  *           this wait is 1 if page and buffer 1 differ. Whatever it is, the call
  *           goes on; it answers 16 at its end if it was 1 for any page, and
@@ -370,17 +332,15 @@ void slipknoll_tally(const uint8_t *record, uint32_t *tally);
  *           (272 or 264), then 84, 83, wait and check as put
  *   get     wait; D2 for each page
  *   wipe    wait, seal; 50 with the first page's address (4), wait
- *   refresh wait, seal; for each page of the sector, lowest first, 58 with the
- *           page's address (4), wait
  *   raw     one frame of the caller's; no wait
  *
  * A page's address is 512 times its number, or 256 times with pages of 256 bytes,
  * in three bytes. Which frames are sent, and how long they are, depends on the
- * part, call, slot or sector, poll limit, script and the chip's registers, and
- * never on recipes, on days or on what the slots hold: a patch under 12 or 13
- * programs every page as it was, get always reads eight pages, under 12 and 15 too,
- * and a page is programmed, or rewritten by a refresh, whatever its bytes are. A put
- * with a term sends what one without sends, as far as a listener sees it.
+ * part, call, slot, poll limit, script and the chip's registers, and never on
+ * recipes, on days or on what the slots hold: a patch under 12 or 13 programs every
+ * page as it was, get always reads eight pages, under 12 and 15 too, and a page is
+ * programmed whether or not its bytes are there already. A put with a term sends
+ * what one without sends, as far as a listener sees it.
  *
  * Script. Its byte i says what follows frame i: 0 a busy end, 1 nothing, 2 a
  * cut with `junk` (as slipknoll_cut), which ends the call with 11 whatever the
@@ -480,22 +440,6 @@ uint8_t slipknoll_wipe(uint8_t *record, uint8_t *array, size_t array_len, size_t
                        uint64_t *counts);
 
 /*
- * Rewrites every page of a sector, lowest first, with the bytes that it has; a page
- * may become junk if a cut comes. With answer 0 the sector's count in the tally is
- * 0; with any other it keeps what it has, in which the pages rewritten so far are
- * counted. Undisturbed it sends 3 + 2n frames, 1 + n of them polls, n being
- * SLIPKNOLL_SECTOR_PAGES(array_len, sector). Answers 0, 1, 3, 4, 6 to 11.
- *
- *     uint8_t lines[SLIPKNOLL_REFRESH_LOG_LEN(sizeof array, 1, 1)];       // sector 0b
- *     slipknoll_refresh(record, array, sizeof array, 1, 1,
- *                       none, 0, none, 0, lines, sizeof lines, counts);   // 0; counts 243, 121, 0
- */
-uint8_t slipknoll_refresh(uint8_t *record, uint8_t *array, size_t array_len, size_t sector,
-                          size_t poll_limit, const uint8_t *script, size_t script_len,
-                          const uint8_t *junk, size_t junk_len, uint8_t *log, size_t log_len,
-                          uint64_t *counts);
-
-/*
  * Sends one frame of the caller's, of 1 to 1,100 bytes, as slipknoll_send does,
  * with log and script: after it an empty script ends the busy period, a script
  * of 1 leaves the chip busy. The reply is as long as the frame; it is kept under
@@ -519,11 +463,9 @@ uint8_t slipknoll_raw(uint8_t *record, uint8_t *array, size_t array_len,
  *
  *   state     SLIPKNOLL_DRIVER_LEN bytes; where the call stands. A start writes
  *             it whole, whatever it held. It has no pointers in it: it may be
- *             copied, and kept while a reply is under way. One that was kept from
- *             before an update of the library is not to be gone on with: start the
- *             call again.
+ *             copied, and kept while a reply is under way.
  *   payload   the recipe of a put or the bytes of a patch, the same at every
- *             step; of any other call, anything of length 0. It is not copied.
+ *             step; of a get or wipe, anything of length 0. It is not copied.
  *   staged    SLIPKNOLL_SLOT_ROOM bytes, whatever the part, in which a patch and
  *             a get keep what they have read of the slot; the caller leaves them
  *             alone between the steps. What they hold at the start does not
@@ -561,7 +503,7 @@ uint8_t slipknoll_raw(uint8_t *record, uint8_t *array, size_t array_len,
  * going on with it:
  *
  *   - A frame that may not have reached the chip whole. The replies to 84, 83,
- *     60, 50 and 58 carry nothing that is looked at: over a lost 84 or 60 the driver
+ *     60 and 50 carry nothing that is looked at: over a lost 84 or 60 the driver
  *     would go on, and a put might answer 0 with the slot holding something
  *     else. Such a frame may not be sent again either.
  *   - A reply to D2 that may be short or damaged. A get would hand over bytes
@@ -572,8 +514,8 @@ uint8_t slipknoll_raw(uint8_t *record, uint8_t *array, size_t array_len,
  * own. A call given up so has written any number of pages: start it again.
  *
  * Waiting. A busy chip is asked again at once, poll_limit times. A real one is
- * busy for up to 35 ms with an 83 or 58, 0.2 ms with a 60 and 75 ms with a 50, by
- * the data sheet of 11/2017: let exchange() pause before a D7 frame (frame[0] == 0xD7),
+ * busy for up to 35 ms with an 83, 0.2 ms with a 60 and 75 ms with a 50, by the
+ * data sheet of 11/2017: let exchange() pause before a D7 frame (frame[0] == 0xD7),
  * or choose poll_limit so that as many polls outlast this.
  *
  * What a listener sees of it, the frames' lengths and their first four bytes,
@@ -581,13 +523,11 @@ uint8_t slipknoll_raw(uint8_t *record, uint8_t *array, size_t array_len,
  * whether or not a page took. Send each frame whole, as it is, and without pauses
  * that depend on the recipe.
  *
- * At the end. After a put, patch, wipe or refresh the answer is all; under 16 a
- * page of the slot does not hold what it was to hold: put the recipe again. A real
- * chip has no tally: who keeps one for it sets the count of a sector to 0 after a
- * refresh with answer 0. After a get with answer 0 the recipe stands in `staged` from
- * staged + SLIPKNOLL_BODY(staged) on, and slipknoll_driver_count tells its length.
- * With any other answer `staged` means nothing; under 15 it holds a recipe that is
- * not to be read.
+ * At the end. After a put, patch or wipe the answer is all; under 16 a page of the
+ * slot does not hold what it was to hold: put the recipe again. After a get with
+ * answer 0 the recipe stands in `staged` from staged + SLIPKNOLL_BODY(staged) on,
+ * and slipknoll_driver_count tells its length. With any other answer `staged` means
+ * nothing; under 15 it holds a recipe that is not to be read.
  *
  * If the supply or the link is lost in between, the slot may hold pages of both
  * recipes, or of none. Start the call again from its beginning.
@@ -601,7 +541,7 @@ uint8_t slipknoll_raw(uint8_t *record, uint8_t *array, size_t array_len,
  * damaged, has ended, with 1, 3 or 4: it gives no frame. Any other gives frames
  * of the call that it names, none but those, and ends within that call's bound
  * whatever comes back. The bytes that name the call differ in at least four
- * bits, so that a flipped bit does not make a get a wipe or a refresh.
+ * bits, so that a flipped bit does not make a get a wipe.
  */
 
 /*
@@ -626,8 +566,6 @@ void slipknoll_driver_start_patch(uint8_t *state, size_t array_len, size_t slot,
 void slipknoll_driver_start_get(uint8_t *state, size_t array_len, size_t slot, size_t poll_limit,
                                 uint32_t year, uint32_t month, uint32_t day, size_t buffer_len);
 void slipknoll_driver_start_wipe(uint8_t *state, size_t array_len, size_t slot, size_t poll_limit);
-void slipknoll_driver_start_refresh(uint8_t *state, size_t array_len, size_t sector,
-                                    size_t poll_limit);
 
 /*
  * Writes the frame to send now and returns its length, 2 to 272; 0 at the end.

@@ -1,6 +1,5 @@
-//! Times put, with a term and without, patch, get and wipe on every part, and refresh
-//! on those that have sectors of 256 pages, library and model over a record block
-//! alike.
+//! Times put, with a term and without, patch, get and wipe on every part, library
+//! and model over a record block alike.
 
 use at45db081d_model::{record, Call, Date, Lent, Part, Term};
 use slipknoll::{log_len, Chip, Run};
@@ -9,9 +8,8 @@ use crate::opaque::black_box;
 use crate::{nanoseconds, FACTORY, REPEATS};
 
 const POLL_LIMIT: usize = 1;
-/// The sector that is refreshed, of 256 pages. That sends the most frames.
-const SECTOR: usize = 2;
-const LOG_LEN: usize = log_len::refresh(slipknoll::Part::Full, SECTOR, POLL_LIMIT);
+/// A patch sends the most frames.
+const LOG_LEN: usize = log_len::patch(POLL_LIMIT);
 
 /// A patch of 300 bytes, which lies in two pages.
 const PLACE: usize = 200;
@@ -29,18 +27,16 @@ enum Work {
     Patch,
     Get,
     Wipe,
-    Refresh,
 }
 
 /// The second get reads what the put with a term has left.
-const ROWS: [(&str, Work); 7] = [
+const ROWS: [(&str, Work); 6] = [
     ("put, longest", Work::Put),
     ("patch, 300 bytes", Work::Patch),
     ("get, longest", Work::Get),
     ("put with a term", Work::PutTerm),
     ("get with a term", Work::Get),
     ("wipe", Work::Wipe),
-    ("refresh, 256 pages", Work::Refresh),
 ];
 
 /// A chip with its array, and what its calls are lent.
@@ -110,7 +106,6 @@ impl Subject for Library {
                 result.map(|_| ())
             }
             Work::Wipe => chip.wipe(array, slot, POLL_LIMIT, &mut run),
-            Work::Refresh => chip.refresh(array, SECTOR, POLL_LIMIT, &mut run),
         };
         (result.is_ok(), run.frames())
     }
@@ -177,10 +172,6 @@ impl Subject for Model {
                 buffer,
             },
             Work::Wipe => Call::Wipe { slot, poll_limit },
-            Work::Refresh => Call::Refresh {
-                sector: SECTOR,
-                poll_limit,
-            },
         };
         let lent = Lent {
             array,
@@ -227,10 +218,6 @@ pub fn run() {
         fill(&mut library, part);
         fill(&mut model, part);
         for (name, work) in ROWS {
-            // The short parts have no such sector.
-            if matches!(work, Work::Refresh) && usize::from(part.sectors()) <= SECTOR {
-                continue;
-            }
             let mut best = [f64::MAX; 2];
             for _ in 0..REPEATS {
                 best[0] = best[0].min(measure(&mut library, work, part));

@@ -16,7 +16,6 @@
 #include "slipknoll.h"
 
 #define SLOT 7
-#define SECTOR 1 /* 0b, in which the slot lies */
 #define POLL_LIMIT 10
 
 /* The chip: its record and its array, whose length tells the part. */
@@ -26,7 +25,7 @@ static size_t array_len;
 
 /* ---- The slot calls. */
 
-/* The longest log of put and get, and nothing for script and junk. */
+/* The longest log of the two calls, and nothing for script and junk. */
 static uint8_t call_log[SLIPKNOLL_PUT_LOG_LEN(POLL_LIMIT)];
 static const uint8_t none[1];
 
@@ -66,26 +65,6 @@ static uint8_t get(uint8_t *buffer, size_t *len)
            (unsigned)counts[0], (unsigned)counts[1]);
     *len = (size_t)counts[2];
     return answer;
-}
-
-/* Writes every page of the sector anew, with the bytes that it has. */
-static uint8_t refresh(void)
-{
-    static uint8_t lines[SLIPKNOLL_REFRESH_LOG_LEN(SLIPKNOLL_ARRAY_LEN, SECTOR, POLL_LIMIT)];
-    uint64_t counts[3];
-    uint8_t answer = slipknoll_refresh(record, array, array_len, SECTOR, POLL_LIMIT, none, 0, none,
-                                       0, lines, sizeof lines, counts);
-    printf("call refresh: answer %u, frames %u, polls %u\n", (unsigned)answer,
-           (unsigned)counts[0], (unsigned)counts[1]);
-    return answer;
-}
-
-/* How many pages have been written in two sectors since their last refresh. */
-static void print_tally(void)
-{
-    uint32_t tally[SLIPKNOLL_TALLY_LEN];
-    slipknoll_tally(record, tally);
-    printf("pages written: 0a %u, 0b %u\n", (unsigned)tally[0], (unsigned)tally[1]);
 }
 
 /* ---- The slot driver. */
@@ -153,15 +132,6 @@ static uint8_t drive_get(uint8_t *buffer, size_t *len)
     return answer;
 }
 
-static uint8_t drive_refresh(void)
-{
-    static uint8_t staged[SLIPKNOLL_SLOT_ROOM];
-    uint8_t state[SLIPKNOLL_DRIVER_LEN];
-
-    slipknoll_driver_start_refresh(state, array_len, SECTOR, POLL_LIMIT);
-    return drive("refresh", state, none, 0, staged);
-}
-
 /* ---- Both, one after the other. */
 
 static int run(void)
@@ -202,16 +172,6 @@ static int run(void)
         return 1;
     if (get(buffer, &len) != SLIPKNOLL_TERM || drive_get(buffer, &len) != SLIPKNOLL_TERM)
         return 1;
-
-    /* The chip that is held here counts; the driver knows nothing of it, and the call
-       sets the sector's count to 0. */
-    print_tally();
-    if (drive_refresh() != SLIPKNOLL_ACCEPTED)
-        return 1;
-    print_tally();
-    if (refresh() != SLIPKNOLL_ACCEPTED)
-        return 1;
-    print_tally();
     return 0;
 }
 

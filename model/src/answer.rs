@@ -11,7 +11,7 @@ pub const PART: u8 = 1;
 /// another length (3.1).
 pub const FRAME: u8 = 2;
 
-/// The part does not have this slot, or of a refresh this sector (12.4).
+/// The part does not have this slot (12.4).
 pub const SLOT: u8 = 3;
 
 /// B is 0 or too high (12.4).
@@ -34,7 +34,7 @@ pub const CHIP: u8 = 8;
 /// All polls of a wait found the chip busy (10.15).
 pub const BUSY: u8 = 9;
 
-/// Replies and status say that the sector is sealed (10.16).
+/// Replies and status say that the slot's sector is sealed (10.16).
 pub const SEALED: u8 = 10;
 
 /// The script cut the supply (11.4).

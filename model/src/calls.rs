@@ -1,13 +1,10 @@
-//! The calls put, patch, get, wipe, refresh and raw: the refusals first, then
-//! the frames, sent to the chip one by one under a script. Sections 11 and 12 of
+//! The calls put, patch, get, wipe and raw: the refusals first, then the
+//! frames, sent to the chip one by one under a script. Sections 11 and 12 of
 //! the specification.
-
-use std::ops::Range;
 
 use crate::answer;
 use crate::chip::MAX_FRAME;
 use crate::driver::{Driver, Link};
-use crate::part::PAGES_PER_BLOCK;
 use crate::slot::SLOT_ROOM;
 use crate::{Chip, Date, Part, Term};
 
@@ -54,37 +51,10 @@ pub enum Call<'a> {
         slot: usize,
         poll_limit: usize,
     },
-    Refresh {
-        sector: usize,
-        poll_limit: usize,
-    },
     Raw {
         frame: &'a [u8],
         reply: &'a mut [u8],
     },
-}
-
-/// What a call works on: any number of either, the part's or not.
-#[derive(Clone, Copy, Debug, PartialEq, Eq)]
-pub enum Target {
-    Slot(usize),
-    /// Numbered as in [`crate::Operation`].
-    Sector(usize),
-}
-
-impl Target {
-    /// Its pages; None if the part lacks it (12.4).
-    pub fn pages(self, part: Part) -> Option<Range<usize>> {
-        match self {
-            Target::Slot(slot) if slot < part.blocks() => {
-                Some(slot * PAGES_PER_BLOCK..(slot + 1) * PAGES_PER_BLOCK)
-            }
-            Target::Sector(sector) if sector < usize::from(part.sectors()) => {
-                Some(part.sector_pages(sector as u16))
-            }
-            _ => None,
-        }
-    }
 }
 
 /// What a call hands back (11.7).
@@ -111,21 +81,15 @@ impl Chip {
                 }
             }
         };
-        let target = call.target();
         let mut run = Run {
             chip: self,
             lent,
             frames: 0,
         };
         let (result, polls) = call.drive(part, &mut run);
-        let frames = run.frames as u64;
-        // The chip has counted each 58; only now is that forgotten (11.18).
-        if let (Some((Target::Sector(sector), _)), Ok(_)) = (target, result) {
-            self.tally[sector] = 0;
-        }
         Outcome {
             answer: result.err().unwrap_or(answer::ACCEPTED),
-            frames,
+            frames: run.frames as u64,
             polls,
             n: result.unwrap_or(0) as u64,
         }
@@ -133,8 +97,8 @@ impl Chip {
 }
 
 impl Call<'_> {
-    /// Slot or sector, and the poll limit; None for raw.
-    pub fn target(&self) -> Option<(Target, usize)> {
+    /// The slot and the poll limit; None for raw.
+    pub fn target(&self) -> Option<(usize, usize)> {
         match *self {
             Call::Put {
                 slot, poll_limit, ..
@@ -145,8 +109,7 @@ impl Call<'_> {
             | Call::Get {
                 slot, poll_limit, ..
             }
-            | Call::Wipe { slot, poll_limit } => Some((Target::Slot(slot), poll_limit)),
-            Call::Refresh { sector, poll_limit } => Some((Target::Sector(sector), poll_limit)),
+            | Call::Wipe { slot, poll_limit } => Some((slot, poll_limit)),
             Call::Raw { .. } => None,
         }
     }
@@ -157,14 +120,13 @@ impl Call<'_> {
     pub fn refuse(&self, chip: &Chip, lent: &Lent) -> Result<Part, u8> {
         let part = chip.part_of(lent.array).ok_or(answer::PART)?;
         allow(self.frame_fits(), answer::FRAME)?;
-        if let Some((target, poll_limit)) = self.target() {
-            allow(target.pages(part).is_some(), answer::SLOT)?;
+        if let Some((slot, poll_limit)) = self.target() {
+            allow(slot < part.blocks(), answer::SLOT)?;
             allow((1..=MAX_POLL_LIMIT).contains(&poll_limit), answer::LIMIT)?;
         }
         allow(self.size_fits(part), answer::SIZE)?;
         allow(self.dates_fit(), answer::DATES)?;
-        let log_len = LOG_LINE * self.most_frames(part);
-        allow(lent.log.len() >= log_len, answer::LOG)?;
+        allow(lent.log.len() >= LOG_LINE * self.most_frames(), answer::LOG)?;
         allow(script_fits(lent, part), answer::SCRIPT)?;
         Ok(part)
     }
@@ -190,7 +152,7 @@ impl Call<'_> {
                 .checked_add(bytes.len())
                 .map_or(false, |end| end <= most),
             Call::Get { buffer, .. } => buffer.len() >= most,
-            Call::Wipe { .. } | Call::Refresh { .. } | Call::Raw { .. } => true,
+            Call::Wipe { .. } | Call::Raw { .. } => true,
         }
     }
 
@@ -199,24 +161,17 @@ impl Call<'_> {
         match self {
             Call::Put { term, .. } => term.map_or(true, |term| term.days().is_some()),
             Call::Get { today, .. } => today.number().is_some(),
-            Call::Patch { .. } | Call::Wipe { .. } | Call::Refresh { .. } | Call::Raw { .. } => {
-                true
-            }
+            Call::Patch { .. } | Call::Wipe { .. } | Call::Raw { .. } => true,
         }
     }
 
-    /// The most frames that the call can send (10.29); raw sends one (11.12). Those
-    /// of a refresh go by its sector's pages; one that the part lacks has none.
-    pub fn most_frames(&self, part: Part) -> usize {
+    /// The most frames that the call can send (10.29); raw sends one (11.12).
+    pub fn most_frames(&self) -> usize {
         match *self {
             Call::Put { poll_limit, .. } => 17 * poll_limit + 26,
             Call::Patch { poll_limit, .. } => 17 * poll_limit + 34,
             Call::Get { poll_limit, .. } => poll_limit + 8,
             Call::Wipe { poll_limit, .. } => 2 * poll_limit + 3,
-            Call::Refresh { sector, poll_limit } => {
-                let pages = Target::Sector(sector).pages(part).map_or(0, |it| it.len());
-                poll_limit + 2 + pages * (poll_limit + 1)
-            }
             Call::Raw { .. } => 1,
         }
     }
@@ -224,11 +179,8 @@ impl Call<'_> {
     /// Sends the call's frames over a link. Hands back n or the answer that
     /// ended the call, and the number of polls. The call is not refused.
     pub fn drive(self, part: Part, link: &mut impl Link) -> (Result<usize, u8>, u64) {
-        let (pages, poll_limit) = match self.target() {
-            Some((target, limit)) => (target.pages(part).expect("it is not refused"), limit),
-            None => (0..0, 0),
-        };
-        let mut driver = Driver::new(link, part, pages, poll_limit);
+        let (slot, poll_limit) = self.target().unwrap_or_default();
+        let mut driver = Driver::new(link, part, slot, poll_limit);
         let result = match self {
             Call::Put { term, recipe, .. } => {
                 let days = term.map(|term| term.days().expect("a put that is not refused"));
@@ -246,7 +198,6 @@ impl Call<'_> {
                 })
             }
             Call::Wipe { .. } => driver.wipe().map(|()| 0),
-            Call::Refresh { .. } => driver.refresh().map(|()| 0),
             // The caller's frame and the caller's reply (11.12, 11.13).
             Call::Raw { frame, reply } => driver.link.send(frame, reply).map(|()| 0),
         };

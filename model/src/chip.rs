@@ -6,7 +6,7 @@ use std::ops::Range;
 use crate::answer;
 use crate::command::{decode, Command, Request};
 use crate::operation::{Buffer, Operation};
-use crate::part::{sector_bits, sector_of, Part, BUFFER_SIZE, MAX_SECTORS};
+use crate::part::{sector_bits, sector_of, Part, BUFFER_SIZE};
 
 /// The longest frame (3.1).
 pub const MAX_FRAME: usize = 1100;
@@ -29,8 +29,6 @@ pub struct Chip {
     pub wp_high: bool,
     pub deep_power_down: bool,
     pub operation: Operation,
-    /// Pages written so far in each sector, by its number (2.16).
-    pub tally: [u32; MAX_SECTORS],
     /// A part uses as many bytes of each as its pages have; what is behind
     /// them it neither reads nor writes.
     pub buffers: [[u8; BUFFER_SIZE]; 2],
@@ -54,7 +52,6 @@ impl Chip {
             wp_high: true,
             deep_power_down: false,
             operation: Operation::Idle,
-            tally: [0; MAX_SECTORS],
             buffers: [[0; BUFFER_SIZE]; 2],
             compare: false,
         })
@@ -127,7 +124,6 @@ impl Chip {
             }
             Operation::Idle | Operation::Unknown => {}
         }
-        self.wear(part, &operation);
         answer::ACCEPTED
     }
 
@@ -158,7 +154,6 @@ impl Chip {
             array[range.clone()].copy_from_slice(&array_junk[range]);
         });
         self.cut_register(&operation, array_junk);
-        self.wear(part, &operation);
         // The chip starts again (8.10); what is not named here stays (8.11).
         self.protection_enabled = false;
         self.deep_power_down = false;
@@ -336,17 +331,6 @@ impl Chip {
     fn lock(&mut self, sector: u16) {
         let (byte, bits) = sector_bits(sector);
         self.lockdown[byte] |= bits;
-    }
-
-    /// Counts the pages that an operation has written or made junk, whatever became
-    /// of their bytes (2.18, 7.15, 8.12). A count stops at the highest number (2.17).
-    fn wear(&mut self, part: Part, operation: &Operation) {
-        operation.each_altered_range(part, |range| {
-            let page = (range.start / part.page_size) as u16;
-            let pages = (range.len() / part.page_size) as u32;
-            let count = &mut self.tally[usize::from(sector_of(page))];
-            *count = count.saturating_add(pages);
-        });
     }
 
     /// What a cut does to the register of the operation under way.

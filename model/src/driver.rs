@@ -3,8 +3,6 @@
 //! It knows nothing of a chip but the frames that go out and the replies that
 //! come back; a [`Link`] carries both. Section 10 of the specification.
 
-use std::ops::Range;
-
 use crate::answer;
 use crate::part::{sector_bits, sector_of, Part, BUFFER_SIZE, PAGES_PER_BLOCK};
 use crate::slot::{judge_get, judge_patch, store, Head, SLOT_ROOM};
@@ -32,12 +30,12 @@ pub trait Link {
     fn send(&mut self, frame: &[u8], reply: &mut [u8]) -> Result<(), u8>;
 }
 
-/// One call on one slot or sector over a link.
+/// One call on one slot over a link.
 pub struct Driver<'a, L: Link> {
     pub link: &'a mut L,
     pub part: Part,
-    /// Those of the slot or sector, which the part has (9.1).
-    pub pages: Range<usize>,
+    /// Below the number of the part's blocks.
+    pub slot: usize,
     /// B: how many polls each wait may have (10.15).
     pub poll_limit: usize,
     /// Polls so far, of all waits (11.7).
@@ -45,11 +43,11 @@ pub struct Driver<'a, L: Link> {
 }
 
 impl<'a, L: Link> Driver<'a, L> {
-    pub fn new(link: &'a mut L, part: Part, pages: Range<usize>, poll_limit: usize) -> Self {
+    pub fn new(link: &'a mut L, part: Part, slot: usize, poll_limit: usize) -> Self {
         Driver {
             link,
             part,
-            pages,
+            slot,
             poll_limit,
             polls: 0,
         }
@@ -112,16 +110,6 @@ impl<'a, L: Link> Driver<'a, L> {
         Ok(())
     }
 
-    /// A 58 for each page of the sector, lowest first (10.4, 10.5).
-    pub fn refresh(&mut self) -> Result<(), u8> {
-        self.begin_writing()?;
-        for k in 0..self.pages.len() {
-            self.send_address(0x58, k)?;
-            self.wait()?;
-        }
-        Ok(())
-    }
-
     /// Polls until the chip is ready; the B-th busy one ends the call (10.15).
     /// The status that ended the wait.
     fn wait(&mut self) -> Result<u8, u8> {
@@ -142,7 +130,7 @@ impl<'a, L: Link> Driver<'a, L> {
     }
 
     /// The opening of a call that writes: both registers are always read
-    /// (10.3), then it is told whether the sector is sealed (10.16).
+    /// (10.3), then it is told whether the slot's sector is sealed (10.16).
     fn begin_writing(&mut self) -> Result<(), u8> {
         let status = self.wait()?;
         let protection = self.register_byte(0x32)?;
@@ -156,7 +144,7 @@ impl<'a, L: Link> Driver<'a, L> {
         Ok(())
     }
 
-    /// The byte of a register in which the sector has its bits (10.13).
+    /// The byte of a register in which the slot's sector has its bits (10.13).
     fn register_byte(&mut self, opcode: u8) -> Result<u8, u8> {
         let mut frame = [0; REGISTER_FRAME];
         frame[0] = opcode;
@@ -198,18 +186,17 @@ impl<'a, L: Link> Driver<'a, L> {
         self.link.send(&self.naming(opcode, k), &mut [0; LEAD])
     }
 
-    /// Opcode, and address of page `k` of the slot or sector (10.8).
+    /// Opcode, and address of the slot's page `k` (10.8).
     fn naming(&self, opcode: u8, k: usize) -> [u8; LEAD] {
         let [_, high, middle, low] = self.part.address_of(self.page(k)).to_be_bytes();
         [opcode, high, middle, low]
     }
 
-    /// The part's number of page `k`.
+    /// The part's number of the slot's page `k` (9.1).
     fn page(&self, k: usize) -> u16 {
-        (self.pages.start + k) as u16
+        (self.slot * PAGES_PER_BLOCK + k) as u16
     }
 
-    /// Where the sector in which the pages lie has its bits (9.11).
     fn sector_bits(&self) -> (usize, u8) {
         sector_bits(sector_of(self.page(0)))
     }

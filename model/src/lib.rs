@@ -13,8 +13,8 @@
 //! - [`date`]: the calendar, and terms
 //! - [`slot`]: what a slot holds
 //! - [`driver`]: the slot driver's frames, over any link to a chip
-//! - [`calls`]: put, patch, get, wipe, refresh and raw on the chip under a script
-//! - [`record`]: the record block of 833 bytes
+//! - [`calls`]: put, patch, get, wipe and raw on the chip under a script
+//! - [`record`]: the record block of 765 bytes
 
 pub mod answer;
 pub mod calls;
@@ -27,7 +27,7 @@ pub mod part;
 pub mod record;
 pub mod slot;
 
-pub use calls::{Call, Lent, Outcome, Target};
+pub use calls::{Call, Lent, Outcome};
 pub use chip::Chip;
 pub use date::{Date, Term};
 pub use operation::{Buffer, Operation};

@@ -138,8 +138,7 @@ impl Operation {
     }
 
     /// Visits the parts of the array that the operation writes: fetches and
-    /// compares have none, 58/59 have their page (2.5). Each of them is whole pages
-    /// of one sector.
+    /// compares have none, 58/59 have their page (2.5).
     pub fn each_altered_range(&self, part: Part, mut visit: impl FnMut(Range<usize>)) {
         match *self {
             Operation::Program { page, .. }

@@ -12,9 +12,6 @@ pub const PAGES_PER_BLOCK: usize = 8;
 /// Pages of the sectors 1 to 15; sector 0 (0a and 0b together) has as many.
 const PAGES_PER_SECTOR: usize = 256;
 
-/// The most sectors that a part has, 0a and 0b counted apart.
-pub const MAX_SECTORS: usize = 17;
-
 /// A part, told by the length of the array alone (1.1).
 #[derive(Clone, Copy, Debug, PartialEq, Eq)]
 pub struct Part {
@@ -109,22 +106,12 @@ impl Part {
         self.pages_range(usize::from(block) * PAGES_PER_BLOCK, PAGES_PER_BLOCK)
     }
 
-    /// The array bytes of a sector.
+    /// The array bytes of a sector; 0b ends where the part does (1.5, 1.6).
     pub fn sector_range(self, sector: u16) -> Range<usize> {
-        let pages = self.sector_pages(sector);
-        self.pages_range(pages.start, pages.len())
-    }
-
-    /// The pages of a sector that the part has; 0b ends where the part does (1.5,
-    /// 1.6).
-    pub fn sector_pages(self, sector: u16) -> Range<usize> {
         match sector {
-            0 => 0..8,
-            1 => 8..self.pages.min(PAGES_PER_SECTOR),
-            s => {
-                let end = usize::from(s) * PAGES_PER_SECTOR;
-                end - PAGES_PER_SECTOR..end
-            }
+            0 => self.pages_range(0, 8),
+            1 => self.pages_range(8, self.pages.min(PAGES_PER_SECTOR) - 8),
+            s => self.pages_range((usize::from(s) - 1) * PAGES_PER_SECTOR, PAGES_PER_SECTOR),
         }
     }
 

@@ -1,14 +1,13 @@
-//! The record block of 833 bytes, whose layout is the library's too (13.1),
+//! The record block of 765 bytes, whose layout is the library's too (13.1),
 //! and the chip's calls over such a block.
 
 use std::ops::Range;
 
 use crate::answer;
 use crate::operation::{Buffer, Operation};
-use crate::part::MAX_SECTORS;
 use crate::{Call, Chip, Lent, Outcome};
 
-pub const RECORD_LEN: usize = 833;
+pub const RECORD_LEN: usize = 765;
 
 /// The record as a block of bytes.
 pub type Record = [u8; RECORD_LEN];
@@ -33,7 +32,6 @@ pub mod field {
     pub const BUFFER_1: Range<usize> = 236..500;
     pub const BUFFER_2: Range<usize> = 500..764;
     pub const COMPARE: usize = 764;
-    pub const TALLY: Range<usize> = 765..833;
 }
 
 /// The tags of the operations under way; the opcodes of buffer 2 and 82/85
@@ -72,7 +70,6 @@ impl Chip {
             wp_high: record[field::WP_HIGH] != 0,
             deep_power_down: record[field::DEEP_POWER_DOWN] != 0,
             operation: read_operation(record),
-            tally: tally(record),
             buffers: [
                 bytes(record, field::BUFFER_1),
                 bytes(record, field::BUFFER_2),
@@ -96,9 +93,6 @@ impl Chip {
         record[field::BUFFER_1].copy_from_slice(&self.buffers[0]);
         record[field::BUFFER_2].copy_from_slice(&self.buffers[1]);
         record[field::COMPARE] = u8::from(self.compare);
-        for (bytes, count) in record[field::TALLY].chunks_exact_mut(4).zip(self.tally) {
-            bytes.copy_from_slice(&count.to_be_bytes());
-        }
     }
 }
 
@@ -132,14 +126,6 @@ pub fn move_pin(record: &mut Record, high: bool) -> u8 {
 /// [`Chip::cut`] over a block.
 pub fn cut(record: &mut Record, array: &mut [u8], junk: &[u8]) -> u8 {
     with_chip(record, |chip| chip.cut(array, junk))
-}
-
-/// The counts of a block: any bytes are some (13.3).
-pub fn tally(record: &Record) -> [u32; MAX_SECTORS] {
-    std::array::from_fn(|sector| {
-        let at = field::TALLY.start + 4 * sector;
-        u32::from_be_bytes(bytes(record, at..at + 4))
-    })
 }
 
 /// [`Chip::call`] over a block; a refused one leaves it as it was, byte for

@@ -24,17 +24,17 @@ static void check(int holds, const char *fact, int line)
 /* ---- The chip, and a copy of it from before a call. */
 
 /* What the header's table has of the part; and the middle bytes of the addresses
-   of pages 5, 8, 24 and 127. */
+   of pages 5 and 24. */
 #ifdef PAGES_256
 #define ARRAY SLIPKNOLL_SHORT_ARRAY_256_LEN
 enum { PAGE = 256, SLOT = 2048, MOST = 2045, TERM_MOST = 2037, JUNK = 33280 };
 enum { READY = 0xA5, BUSY = 0x25 };
-enum { PAGE_5 = 0x05, PAGE_8 = 0x08, PAGE_24 = 0x18, PAGE_127 = 0x7F };
+enum { PAGE_5 = 0x05, PAGE_24 = 0x18 };
 #else
 #define ARRAY SLIPKNOLL_SHORT_ARRAY_LEN
 enum { PAGE = 264, SLOT = 2112, MOST = 2109, TERM_MOST = 2101, JUNK = 34320 };
 enum { READY = 0xA4, BUSY = 0x24 };
-enum { PAGE_5 = 0x0A, PAGE_8 = 0x10, PAGE_24 = 0x30, PAGE_127 = 0xFE };
+enum { PAGE_5 = 0x0A, PAGE_24 = 0x30 };
 #endif
 
 static uint8_t record[SLIPKNOLL_RECORD_LEN], record_before[SLIPKNOLL_RECORD_LEN];
@@ -101,19 +101,7 @@ static void check_lengths(void)
     CHECK(SLIPKNOLL_GET_LOG_LEN(1) == 6 * 9 && SLIPKNOLL_WIPE_LOG_LEN(1) == 6 * 5);
     /* Put and patch have 17 waits. */
     CHECK(SLIPKNOLL_PUT_LOG_LEN(2) == 6 * 60 && SLIPKNOLL_PATCH_LOG_LEN(2) == 6 * 68);
-    CHECK(SLIPKNOLL_RECORD_LEN == 833 && SLIPKNOLL_AT_COMPARE + 1 == SLIPKNOLL_AT_TALLY);
-    CHECK(SLIPKNOLL_AT_TALLY + 4 * SLIPKNOLL_TALLY_LEN == SLIPKNOLL_RECORD_LEN);
-    CHECK(SLIPKNOLL_SECTORS(ARRAY) == 2 && SLIPKNOLL_SECTORS(SLIPKNOLL_ARRAY_LEN) == 17);
-    CHECK(SLIPKNOLL_SECTORS(SLIPKNOLL_ARRAY_256_LEN) == SLIPKNOLL_TALLY_LEN);
-    CHECK(SLIPKNOLL_SECTOR_PAGES(ARRAY, 0) == 8 && SLIPKNOLL_SECTOR_PAGES(ARRAY, 1) == 120);
-    CHECK(SLIPKNOLL_SECTOR_PAGES(SLIPKNOLL_ARRAY_LEN, 1) == 248);
-    CHECK(SLIPKNOLL_SECTOR_PAGES(SLIPKNOLL_ARRAY_256_LEN, 1) == 248);
-    CHECK(SLIPKNOLL_SECTOR_PAGES(SLIPKNOLL_ARRAY_256_LEN, 2) == 256);
-    /* A wait more than pages, and three frames more than two a page. */
-    CHECK(SLIPKNOLL_REFRESH_LOG_LEN(ARRAY, 0, 1) == 6 * 19);
-    CHECK(SLIPKNOLL_REFRESH_LOG_LEN(ARRAY, 1, 1) == 6 * 243);
-    CHECK(SLIPKNOLL_REFRESH_LOG_LEN(SLIPKNOLL_ARRAY_LEN, 1, 2) == 6 * (499 + 249));
-    CHECK(SLIPKNOLL_REFRESH_LOG_LEN(SLIPKNOLL_ARRAY_LEN, 16, 1000) == 1543548);
+    CHECK(SLIPKNOLL_AT_COMPARE + 1 == SLIPKNOLL_RECORD_LEN);
     CHECK(SLIPKNOLL_DRIVER_FRAME_LEN == 8 + 264);
     CHECK(SLIPKNOLL_DRIVER_LEN == 8 + 8 * 8);
     CHECK(SLIPKNOLL_DATES == 14 && SLIPKNOLL_TERM == 15 && SLIPKNOLL_MISCOMPARE == 16);
@@ -224,80 +212,6 @@ static void check_cut(void)
     CHECK(all(array, 5 * PAGE, 0xFF) && all(array + 6 * PAGE, sizeof array - 6 * PAGE, 0xFF));
 }
 
-/* ---- The tally. */
-
-/* Whether the counts are these in 0a and 0b, and 0 in all sectors that the part lacks. */
-static int tallied(uint32_t first, uint32_t second)
-{
-    uint32_t tally[SLIPKNOLL_TALLY_LEN];
-    size_t i;
-    memset(tally, 0x77, sizeof tally);
-    slipknoll_tally(record, tally);
-    for (i = 2; i < SLIPKNOLL_TALLY_LEN; i++)
-        if (tally[i] != 0)
-            return 0;
-    return tally[0] == first && tally[1] == second;
-}
-
-/* Sends a frame of four bytes that begins an operation, and ends it. */
-static void operate(uint8_t opcode, uint8_t high, uint8_t middle, uint8_t low)
-{
-    uint8_t frame[4], reply[4];
-    frame[0] = opcode;
-    frame[1] = high;
-    frame[2] = middle;
-    frame[3] = low;
-    CHECK(slipknoll_send(record, array, sizeof array, frame, 4, reply, 4) == SLIPKNOLL_ACCEPTED);
-    CHECK(record[SLIPKNOLL_AT_TAG] != SLIPKNOLL_TAG_IDLE);
-    CHECK(slipknoll_end_busy(record, array, sizeof array) == SLIPKNOLL_ACCEPTED);
-}
-
-static void check_tally(void)
-{
-    const uint8_t erase[4] = {0x7C, 0x00, PAGE_8, 0x00};
-    uint32_t tally[SLIPKNOLL_TALLY_LEN];
-    uint8_t reply[4], *bytes = record + SLIPKNOLL_AT_TALLY;
-    fresh();
-    CHECK(tallied(0, 0));
-    program_page_5();
-    CHECK(slipknoll_end_busy(record, array, 0) == SLIPKNOLL_PART);
-    CHECK(tallied(0, 0));
-    CHECK(slipknoll_end_busy(record, array, sizeof array) == SLIPKNOLL_ACCEPTED && tallied(1, 0));
-    /* Idle: nothing ends. */
-    CHECK(slipknoll_end_busy(record, array, sizeof array) == SLIPKNOLL_ACCEPTED && tallied(1, 0));
-    /* Pages that are erased already count too. */
-    operate(0x50, 0, PAGE_8, 0);
-    CHECK(tallied(1, 8));
-    operate(0x58, 0, PAGE_5, 0);
-    operate(0x88, 0, PAGE_24, 0);
-    CHECK(tallied(2, 9));
-    operate(0x53, 0, PAGE_5, 0);
-    operate(0x61, 0, PAGE_5, 0);
-    operate(0x3D, 0x2A, 0x7F, 0xCF);
-    CHECK(tallied(2, 9));
-    operate(0xC7, 0x94, 0x80, 0x9A);
-    CHECK(tallied(10, 129));
-    /* A cut counts what becomes junk. */
-    CHECK(slipknoll_send(record, array, sizeof array, erase, 4, reply, 4) == SLIPKNOLL_ACCEPTED);
-    CHECK(slipknoll_cut(record, array, sizeof array, junk, JUNK) == SLIPKNOLL_ACCEPTED);
-    CHECK(tallied(10, 249));
-    slipknoll_move_pin(record, false);
-    slipknoll_move_pin(record, true);
-    CHECK(tallied(10, 249));
-    /* A count stops at the highest number. */
-    memset(bytes, 0xFF, 4);
-    bytes[3] = 0xFE;
-    operate(0x81, 0, PAGE_5, 0);
-    CHECK(tallied(4294967295u, 249));
-    operate(0x81, 0, PAGE_5, 0);
-    CHECK(tallied(4294967295u, 249) && all(bytes, 4, 0xFF));
-    /* Any bytes are counts, with the high byte first; they are read and stay. */
-    memcpy(bytes + 4 * 16, "\x01\x02\x03\x04", 4);
-    remember();
-    slipknoll_tally(record, tally);
-    CHECK(tally[16] == 0x01020304 && tally[15] == 0 && tally[1] == 249 && kept());
-}
-
 /* ---- The slot calls, with poll limit 1. */
 
 static uint8_t lines[SLIPKNOLL_PATCH_LOG_LEN(1)];
@@ -348,15 +262,6 @@ static uint8_t wipe(size_t slot, size_t poll_limit, size_t log_len)
 {
     return slipknoll_wipe(record, array, sizeof array, slot, poll_limit, none, 0, none, 0, lines,
                           log_len, counts);
-}
-
-/* Room for the lines of a refresh of 0b. */
-static uint8_t many_lines[SLIPKNOLL_REFRESH_LOG_LEN(ARRAY, 1, 1)];
-
-static uint8_t refresh(size_t sector, const uint8_t *script, size_t script_len)
-{
-    return slipknoll_refresh(record, array, sizeof array, sector, 1, script, script_len, junk, JUNK,
-                             many_lines, sizeof many_lines, counts);
 }
 
 /* One frame of up to four bytes. */
@@ -570,68 +475,6 @@ static void check_wipe(void)
     CHECK(wipe(3, SLIPKNOLL_POLL_LIMIT_MAX + 1, sizeof lines) == SLIPKNOLL_LIMIT);
 }
 
-static void check_refresh(void)
-{
-    const uint8_t poll[6] = {0, 2, 0xD7, 0, 0xFF, 0xFF};
-    const uint8_t lockdown[6] = {0, 20, 0x35, 0, 0, 0};
-    const uint8_t first[6] = {0, 4, 0x58, 0, PAGE_8, 0};
-    const uint8_t last[6] = {0, 4, 0x58, 0, PAGE_127, 0};
-    fresh();
-    put(3, "AB", none, 0);
-    CHECK(tallied(0, 8));
-    remember();
-    CHECK(refresh(1, none, 0) == SLIPKNOLL_ACCEPTED && counted(243, 121, 0));
-    CHECK(memcmp(many_lines, poll, 6) == 0 && memcmp(many_lines + 12, lockdown, 6) == 0);
-    CHECK(memcmp(many_lines + 18, first, 6) == 0 && memcmp(many_lines + 24, poll, 6) == 0);
-    CHECK(memcmp(many_lines + 6 * 241, last, 6) == 0);
-    CHECK(memcmp(many_lines + 6 * 242, poll, 6) == 0);
-    /* The pages have their bytes, and the count is 0. */
-    CHECK(memcmp(array, array_before, sizeof array) == 0 && tallied(0, 0));
-    CHECK(get(3) == SLIPKNOLL_ACCEPTED && counted(9, 1, 2) && memcmp(buffer, "AB", 2) == 0);
-    memset(many_lines, 0x99, sizeof many_lines);
-    CHECK(refresh(0, none, 0) == SLIPKNOLL_ACCEPTED && counted(19, 9, 0));
-    CHECK(all(many_lines + 6 * 19, sizeof many_lines - 6 * 19, 0x99));
-}
-
-static void check_refresh_ends(void)
-{
-    const uint8_t three[1] = {3}, cut[6] = {0, 0, 0, 0, 0, 2}, nothing[5] = {0, 0, 0, 1, 1};
-    uint8_t reply[4];
-    fresh();
-    wipe(0, 1, sizeof lines);
-    CHECK(tallied(8, 0));
-    remember();
-    memset(many_lines, 0x99, sizeof many_lines);
-    counts[0] = counts[1] = counts[2] = 9;
-    CHECK(refresh(2, none, 0) == SLIPKNOLL_SLOT && counted(0, 0, 0));
-    CHECK(refresh(17, none, 0) == SLIPKNOLL_SLOT && refresh((size_t)-1, none, 0) == SLIPKNOLL_SLOT);
-    CHECK(refresh(0, three, 1) == SLIPKNOLL_SCRIPT && counted(0, 0, 0));
-    CHECK(slipknoll_refresh(record, array, sizeof array - 1, 0, 1, none, 0, none, 0, many_lines,
-                            sizeof many_lines, counts) == SLIPKNOLL_PART);
-    CHECK(slipknoll_refresh(record, array, sizeof array, 0, 0, none, 0, none, 0, many_lines,
-                            sizeof many_lines, counts) == SLIPKNOLL_LIMIT);
-    CHECK(slipknoll_refresh(record, array, sizeof array, 1, 1, none, 0, none, 0, many_lines,
-                            sizeof many_lines - 1, counts) == SLIPKNOLL_LOG);
-    CHECK(slipknoll_refresh(record, array, sizeof array, 0, 1, cut, 6, none, 0, many_lines,
-                            sizeof many_lines, counts) == SLIPKNOLL_SCRIPT);
-    CHECK(kept() && all(many_lines, sizeof many_lines, 0x99));
-    /* The first 58 does not end. */
-    CHECK(refresh(0, nothing, 5) == SLIPKNOLL_BUSY && counted(5, 2, 0));
-    CHECK(tallied(8, 0) && record[SLIPKNOLL_AT_TAG] == SLIPKNOLL_TAG_REWRITE);
-    slipknoll_end_busy(record, array, sizeof array);
-    CHECK(tallied(9, 0) && memcmp(array, array_before, sizeof array) == 0);
-    /* The supply goes behind the second 58: its page is junk. */
-    CHECK(refresh(0, cut, 6) == SLIPKNOLL_CUT && counted(6, 2, 0) && tallied(11, 0));
-    CHECK(all(array, PAGE, 0xFF) && memcmp(array + PAGE, junk + 3 * PAGE, PAGE) == 0);
-    CHECK(all(array + 2 * PAGE, sizeof array - 2 * PAGE, 0xFF));
-    /* Sealed by bits of the sector alone. */
-    record[SLIPKNOLL_AT_LOCKDOWN] = 0x1F;
-    CHECK(refresh(0, none, 0) == SLIPKNOLL_ACCEPTED && tallied(0, 0));
-    CHECK(refresh(1, none, 0) == SLIPKNOLL_SEALED && counted(3, 1, 0));
-    CHECK(raw(0xB9, 0, 0, 0, 1, reply) == SLIPKNOLL_ACCEPTED);
-    CHECK(refresh(0, none, 0) == SLIPKNOLL_CHIP && counted(1, 1, 0));
-}
-
 static void check_raw(void)
 {
     const uint8_t poll[6] = {0, 2, 0xD7, 0, 0xFF, 0xFF};
@@ -677,7 +520,7 @@ static unsigned carry(const char *payload, size_t *bytes)
     uint8_t last = 0; /* the opcode of the last frame that was no poll */
     size_t len = slipknoll_driver_frame(state, lent, strlen(payload), staged, frame);
     *bytes = 0;
-    while (len != 0 && frames < 300) {
+    while (len != 0 && frames < 100) {
         CHECK(slipknoll_driver_answer(state) == SLIPKNOLL_RUNNING);
         CHECK(slipknoll_driver_frame(state, lent, strlen(payload), staged, frame) == len);
         slipknoll_send(record, array, sizeof array, frame, len, reply, len);
@@ -717,25 +560,6 @@ static void check_driver(void)
     CHECK(carry("", &bytes) == 5 && bytes == 2 + 20 + 20 + 4 + 2);
     CHECK(slipknoll_driver_answer(state) == SLIPKNOLL_ACCEPTED);
     CHECK(all(array, sizeof array, 0xFF));
-}
-
-/* The frames of a refresh; the count is the caller's. */
-static void check_driver_refresh(void)
-{
-    size_t bytes;
-    fresh();
-    put(3, "salt", none, 0);
-    memcpy(array_before, array, sizeof array);
-    slipknoll_driver_start_refresh(state, sizeof array, 1, 1);
-    CHECK(carry("", &bytes) == 243 && bytes == 2 + 20 + 20 + 120 * (4 + 2));
-    CHECK(slipknoll_driver_answer(state) == SLIPKNOLL_ACCEPTED);
-    CHECK(slipknoll_driver_count(state, staged) == 0);
-    CHECK(memcmp(array, array_before, sizeof array) == 0 && tallied(0, 8 + 120));
-    slipknoll_driver_start_refresh(state, sizeof array, 0, 1);
-    CHECK(carry("", &bytes) == 19 && bytes == 2 + 20 + 20 + 8 * (4 + 2) && tallied(8, 128));
-    record[SLIPKNOLL_AT_LOCKDOWN] = 0x80;
-    slipknoll_driver_start_refresh(state, sizeof array, 0, 1);
-    CHECK(carry("", &bytes) == 3 && slipknoll_driver_answer(state) == SLIPKNOLL_SEALED);
 }
 
 /* A page that did not take: all frames are sent, and 16 is told at the end. */
@@ -810,16 +634,6 @@ static void check_driver_refused(void)
     CHECK(refused(SLIPKNOLL_SLOT));
     slipknoll_driver_start_wipe(state, 32 * sizeof array, 511, 1001);
     CHECK(refused(SLIPKNOLL_LIMIT));
-    slipknoll_driver_start_refresh(state, sizeof array + 1, 0, 1);
-    CHECK(refused(SLIPKNOLL_PART));
-    slipknoll_driver_start_refresh(state, sizeof array, 2, 1);
-    CHECK(refused(SLIPKNOLL_SLOT));
-    slipknoll_driver_start_refresh(state, 32 * sizeof array, 17, 1);
-    CHECK(refused(SLIPKNOLL_SLOT));
-    slipknoll_driver_start_refresh(state, 32 * sizeof array, (size_t)-1, 0);
-    CHECK(refused(SLIPKNOLL_SLOT));
-    slipknoll_driver_start_refresh(state, 32 * sizeof array, 16, 1001);
-    CHECK(refused(SLIPKNOLL_LIMIT));
     slipknoll_driver_start_patch(state, sizeof array, 3, 1, MOST, none, 1);
     CHECK(refused(SLIPKNOLL_SIZE));
     slipknoll_driver_start_get(state, sizeof array, 3, 1, 0, 0, 0, MOST - 1);
@@ -848,7 +662,6 @@ int main(void)
     check_end_busy();
     check_move_pin();
     check_cut();
-    check_tally();
     check_put();
     check_compared();
     check_put_refused();
@@ -858,12 +671,9 @@ int main(void)
     check_get();
     check_patch();
     check_wipe();
-    check_refresh();
-    check_refresh_ends();
     check_raw();
     check_busy();
     check_driver();
-    check_driver_refresh();
     check_driver_miscompare();
     check_driver_term();
     check_driver_refused();

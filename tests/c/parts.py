@@ -3,20 +3,18 @@
 Pages' status, answers of a put of the longest recipe and of one byte more, of
 gets into buffers for it and of one byte less, of the same puts with a term and of
 gets on days around it, of a cut with junk of the part and with junk of the part
-that has pages of the other size. Then the count of 0b, answer and frames of its
-refresh, whether all counts are 0, and answers of refreshes by the numbers 2, 16, 17
-and the highest.
+that has pages of the other size.
 """
 import ctypes as c
 
 lib = c.CDLL("./libslipknoll.so")
-for name in ("fresh", "send", "put", "put_term", "get", "cut", "refresh"):
+for name in ("fresh", "send", "put", "put_term", "get", "cut"):
     getattr(lib, "slipknoll_" + name).restype = c.c_uint8
 
 
 class Chip:
     def __init__(self, length):
-        self.record, self.array = (c.c_uint8 * 833)(), (c.c_uint8 * length)()
+        self.record, self.array = (c.c_uint8 * 765)(), (c.c_uint8 * length)()
         self.chip = (self.record, self.array, c.c_size_t(length))
         lib.slipknoll_fresh(self.record, bytes(64), self.array, c.c_size_t(length))
 
@@ -46,19 +44,6 @@ class Chip:
     def cut(self, length):
         return lib.slipknoll_cut(*self.chip, bytes(length), c.c_size_t(length))
 
-    def tally(self):
-        counts = (c.c_uint32 * 17)(*[7] * 17)
-        lib.slipknoll_tally(self.record, counts)
-        return list(counts)
-
-    def refresh(self, sector):
-        """With poll limit 1; its answer, and how many frames it sent."""
-        log, counts = (c.c_uint8 * (6 * 515))(), (c.c_uint64 * 3)()
-        none = (b"\0", c.c_size_t(0))
-        lent = (*none, *none, log, c.c_size_t(len(log)), counts)
-        answer = lib.slipknoll_refresh(*self.chip, c.c_size_t(sector), c.c_size_t(1), *lent)
-        return answer, counts[0]
-
 
 for pages in (4096, 128):
     for page, other in ((264, 256), (256, 264)):
@@ -74,6 +59,4 @@ for pages in (4096, 128):
         terms += tuple(chip.get(longest, *day)[0] for day in days)
         terms += (chip.get(longest, *term[0]) == (0, recipe[8:]),)
         cuts = chip.cut((pages + 2) * other), chip.cut((pages + 2) * page)
-        wear = (chip.tally()[1], *chip.refresh(1), chip.tally() == [0] * 17)
-        wear += tuple(chip.refresh(sector)[0] for sector in (2, 16, 17, 2**64 - 1))
-        print(pages, page, "%02X" % chip.status(), *puts, *gets, stored, *terms, *cuts, *wear)
+        print(pages, page, "%02X" % chip.status(), *puts, *gets, stored, *terms, *cuts)

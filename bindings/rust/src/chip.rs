@@ -1,7 +1,7 @@
 use crate::error::accepted;
-use crate::{ffi, Date, Error, Level, Record, Run, Tally, Term, FACTORY_LEN, TALLY_LEN};
+use crate::{ffi, Date, Error, Level, Record, Run, Term, FACTORY_LEN};
 
-/// A chip: registers, operation under way, buffers, compare bit and tally.
+/// A chip: registers, operation under way, buffers and compare bit.
 ///
 /// Its array is the caller's, and every call must be lent the same one, whose
 /// length tells the [`Part`](crate::Part). A copy of both is a copy of the chip.
@@ -106,28 +106,6 @@ impl Chip {
     /// Errors: `Part`, `Script`.
     pub fn cut(&mut self, array: &mut [u8], junk: &[u8]) -> Result<(), Error> {
         accepted(ffi::cut(&mut self.record, array, junk))
-    }
-
-    /// How many pages of each sector were erased, programmed or left as junk by a
-    /// cut, since the sector was last [refreshed](Chip::refresh) or the chip was
-    /// fresh. A count stops at 4,294,967,295. Sectors that the part lacks have counts
-    /// too, which nothing changes there.
-    ///
-    /// ```
-    /// use slipknoll::{Chip, Part, FACTORY_LEN};
-    ///
-    /// let mut array = vec![0; Part::Full.array_len()];
-    /// let mut chip = Chip::fresh(&[0; FACTORY_LEN], &mut array)?;
-    /// chip.send(&array, &[0x50, 0x00, 0x10, 0x00], &mut [0; 4])?; // block 1, in 0b
-    /// assert_eq!(chip.tally(), [0; 17]); // under way
-    /// chip.end_busy(&mut array)?;
-    /// assert_eq!(chip.tally()[..3], [0, 8, 0]);
-    /// # Ok::<(), slipknoll::Error>(())
-    /// ```
-    pub fn tally(&self) -> Tally {
-        let mut tally = [0; TALLY_LEN];
-        ffi::tally(&self.record, &mut tally);
-        tally
     }
 
     /// Stores a recipe in a slot: without a term, or with the days on which it may
@@ -288,48 +266,6 @@ impl Chip {
             &mut self.record,
             array,
             slot,
-            poll_limit,
-            run,
-        ))
-    }
-
-    /// Rewrites every page of a sector, lowest first, with the bytes that it has.
-    /// `sector` is 0 for 0a, 1 for 0b, j + 1 for sector j. With Ok its count in the
-    /// [`tally`](Chip::tally) is 0; with an error it keeps what it has.
-    ///
-    /// Errors: all but `Frame`, `Size`, `Blank`, `End`, `Dates`, `Term` and
-    /// `Miscompare`. After `Cut` a page of the sector may be junk.
-    ///
-    /// ```
-    /// # use slipknoll::{log_len, Chip, Error, Part, Run, FACTORY_LEN};
-    /// # let mut array = vec![0; Part::Short.array_len()];
-    /// # let mut chip = Chip::fresh(&[0; FACTORY_LEN], &mut array)?;
-    /// let mut log = [0; log_len::refresh(Part::Short, 1, 1)];
-    /// let mut run = Run::new(&mut log);
-    /// chip.put(&mut array, 3, 1, None, b"salt", &mut run)?; // slot 3 is in 0b
-    /// assert_eq!(chip.tally()[..2], [0, 8]);
-    ///
-    /// let before = array.clone();
-    /// chip.refresh(&mut array, 1, 1, &mut run)?;
-    /// assert_eq!((run.frames(), run.polls()), (3 + 2 * 120, 1 + 120));
-    /// assert_eq!(chip.tally()[..2], [0, 0]);
-    /// assert_eq!(array, before);
-    ///
-    /// let beyond = chip.refresh(&mut array, 2, 1, &mut run); // not in a short part
-    /// assert_eq!(beyond, Err(Error::Slot));
-    /// # Ok::<(), slipknoll::Error>(())
-    /// ```
-    pub fn refresh(
-        &mut self,
-        array: &mut [u8],
-        sector: usize,
-        poll_limit: usize,
-        run: &mut Run,
-    ) -> Result<(), Error> {
-        accepted(ffi::calls::refresh(
-            &mut self.record,
-            array,
-            sector,
             poll_limit,
             run,
         ))

@@ -64,7 +64,7 @@ use crate::{Date, Error, Part, Term, DRIVER_FRAME_LEN, SLOT_ROOM};
 ///
 /// A busy chip is asked again at once, as often as the poll limit allows: let
 /// the exchange pause before a frame that begins with D7, or choose a limit
-/// that outlasts 35 ms (put, patch and refresh) or 75 ms (wipe). Wake the chip with AB
+/// that outlasts 35 ms (put and patch) or 75 ms (wipe). Wake the chip with AB
 /// if it may be in deep power-down. Bit 0 of its status tells the part: 0 for
 /// [`Part::Full`], 1 for [`Part::Full256`].
 #[derive(Clone)]
@@ -157,33 +157,6 @@ impl<'a> Driver<'a> {
     pub fn wipe(part: Part, slot: usize, poll_limit: usize) -> Result<Driver<'static>, Error> {
         Driver::start(&[], false, |state| {
             driver::start_wipe(state, part.array_len(), slot, poll_limit)
-        })
-    }
-
-    /// Starts to rewrite every page of a sector, which is 0 for 0a, 1 for 0b, j + 1
-    /// for sector j. A chip elsewhere has no tally: who keeps one for it sets the
-    /// sector's count to 0 when the answer is Ok.
-    ///
-    /// ```
-    /// # use slipknoll::{Driver, Error, Part};
-    /// let mut refresh = Driver::refresh(Part::Full, 2, 100)?;
-    /// let mut rewritten = Vec::new();
-    /// let told = refresh.run(|frame, reply| {
-    ///     reply.fill(0x00);
-    ///     match frame[0] {
-    ///         0xD7 => reply[1] = 0xA4, // ready
-    ///         0x58 => rewritten.push(frame.to_vec()),
-    ///         _ => {}
-    ///     }
-    ///     Ok::<(), String>(())
-    /// });
-    /// assert_eq!((told, rewritten.len()), (Ok(()), 256));
-    /// assert_eq!(rewritten[0], [0x58, 0x02, 0x00, 0x00]); // page 256
-    /// # Ok::<(), Error>(())
-    /// ```
-    pub fn refresh(part: Part, sector: usize, poll_limit: usize) -> Result<Driver<'static>, Error> {
-        Driver::start(&[], false, |state| {
-            driver::start_refresh(state, part.array_len(), sector, poll_limit)
         })
     }
 

@@ -24,7 +24,7 @@ pub enum Error {
     Part = 1,
     /// The frame is empty or over 1,100 bytes, or the reply's length is another.
     Frame = 2,
-    /// The part does not have this slot, or of a refresh this sector.
+    /// The part does not have this slot.
     Slot = 3,
     /// The poll limit is 0, or over 1,000.
     Limit = 4,
@@ -41,8 +41,7 @@ pub enum Error {
     Chip = 8,
     /// As many polls as the limit allows, and not ready.
     Busy = 9,
-    /// The sector, a slot's or that of a refresh, is locked or protected; nothing was
-    /// written.
+    /// The slot's sector is locked or protected; nothing was written.
     Sealed = 10,
     /// The script cut the supply.
     Cut = 11,
@@ -72,7 +71,7 @@ const TABLE: [(Error, &str, &str); 16] = [
         "array length or operation under way fits no part",
     ),
     (Error::Frame, "frame", "frame or reply length"),
-    (Error::Slot, "slot", "no such slot or sector"),
+    (Error::Slot, "slot", "no such slot"),
     (Error::Limit, "limit", "poll limit outside 1 to 1,000"),
     (
         Error::Size,

@@ -4,9 +4,7 @@
 //!   buffers. The flash array is the caller's and is lent to each call. Frames,
 //!   busy ends, pin moves and cuts reach it one by one, recipes by
 //!   [`put`](Chip::put), [`patch`](Chip::patch), [`get`](Chip::get) and
-//!   [`wipe`](Chip::wipe). It counts the pages that are written in each sector
-//!   ([`tally`](Chip::tally)), and [`refresh`](Chip::refresh) writes a sector's
-//!   pages anew as they are.
+//!   [`wipe`](Chip::wipe).
 //! * [`Driver`] makes the same calls on a chip elsewhere, say a real one behind
 //!   a radio link: it yields frames and is given the replies.
 //!
@@ -52,13 +50,10 @@ pub use part::{Level, Part};
 pub use run::{log_len, script, Line, Run};
 
 /// Length of the chip record.
-pub const RECORD_LEN: usize = 833;
+pub const RECORD_LEN: usize = 765;
 
 /// Length of the factory bytes.
 pub const FACTORY_LEN: usize = 64;
-
-/// How many counts a tally has: one for each sector of a full part.
-pub const TALLY_LEN: usize = Part::Full.sectors();
 
 /// Room for a slot of any part; [`Part::slot_len`] is a part's own.
 pub const SLOT_ROOM: usize = Part::Full.slot_len();
@@ -74,6 +69,3 @@ pub const POLL_LIMIT_MAX: usize = 1000;
 
 /// The chip record as a block of bytes; `include/slipknoll.h` has its layout.
 pub type Record = [u8; RECORD_LEN];
-
-/// Pages written in each sector: 0 for 0a, 1 for 0b, j + 1 for sector j.
-pub type Tally = [u32; TALLY_LEN];

@@ -72,27 +72,6 @@ impl Part {
         self.array_len() / self.slot_len()
     }
 
-    /// The number of sectors: 17, or 2 in a short part. They are 0 (0a), 1 (0b)
-    /// and j + 1 (sector j).
-    pub const fn sectors(self) -> usize {
-        match self {
-            Part::Full | Part::Full256 => 17,
-            Part::Short | Part::Short256 => 2,
-        }
-    }
-
-    /// The pages of a sector: 8 of 0a, 248 of 0b or 120 in a short part, 256 of any
-    /// other; 0 if the part does not have it.
-    pub const fn sector_pages(self, sector: usize) -> usize {
-        match (self, sector) {
-            (_, 0) => 8,
-            (Part::Short | Part::Short256, 1) => 120,
-            (Part::Full | Part::Full256, 1) => 248,
-            (Part::Full | Part::Full256, 2..=16) => 256,
-            _ => 0,
-        }
-    }
-
     /// Bytes of a cut's junk: one for each of the two buffers and of the array.
     pub const fn junk_len(self) -> usize {
         2 * self.page_len() + self.array_len()
@@ -139,22 +118,5 @@ mod tests {
             assert!(part.slot_len() <= crate::SLOT_ROOM);
         }
         assert_eq!(Part::from_array_len(33_280), None);
-    }
-
-    /// Every page is in one sector.
-    #[test]
-    fn sectors() {
-        for part in Part::ALL {
-            let pages = |sector| part.sector_pages(sector);
-            assert_eq!((0..part.sectors()).map(pages).sum::<usize>(), part.pages());
-            assert!((0..part.sectors()).all(|sector| pages(sector) > 0));
-            assert_eq!([part.sectors(), 17, usize::MAX].map(pages), [0; 3]);
-            assert!(part.sectors() <= crate::TALLY_LEN);
-        }
-        assert_eq!(
-            [0, 1, 2, 16].map(|it| Part::Full.sector_pages(it)),
-            [8, 248, 256, 256]
-        );
-        assert_eq!([0, 1].map(|it| Part::Short256.sector_pages(it)), [8, 120]);
     }
 }

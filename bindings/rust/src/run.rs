@@ -12,7 +12,7 @@ pub mod script {
 /// with poll limit B.
 pub mod log_len {
     use super::LINE_LEN;
-    use crate::{Part, POLL_LIMIT_MAX};
+    use crate::POLL_LIMIT_MAX;
 
     /// A limit that is too high is refused whatever the log.
     const fn within(poll_limit: usize) -> usize {
@@ -41,14 +41,6 @@ pub mod log_len {
     /// For 2 B + 3 frames.
     pub const fn wipe(poll_limit: usize) -> usize {
         LINE_LEN * (2 * within(poll_limit) + 3)
-    }
-
-    /// For B + 2 + n (B + 1) frames, where n are the sector's pages
-    /// ([`Part::sector_pages`]). A sector that the part lacks is refused whatever the
-    /// log.
-    pub const fn refresh(part: Part, sector: usize, poll_limit: usize) -> usize {
-        let limit = within(poll_limit);
-        LINE_LEN * (limit + 2 + part.sector_pages(sector) * (limit + 1))
     }
 
     /// For one frame.

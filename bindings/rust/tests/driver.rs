@@ -2,12 +2,9 @@
 
 use slipknoll::{
     log_len, Chip, Date, DriveError, Driver, Error, Level, Line, Part, Run, Term, FACTORY_LEN,
-    RECORD_LEN,
 };
 
 const SLOT: usize = 15;
-/// 0b, in which the slot lies on every part.
-const SECTOR: usize = 1;
 const POLL_LIMIT: usize = 3;
 
 fn date(year: u32, month: u32, day: u32) -> Date {
@@ -64,7 +61,7 @@ impl Bench {
         &mut self,
         call: impl FnOnce(&mut Chip, &mut [u8], &mut Run) -> Result<Vec<u8>, Error>,
     ) -> (Result<(), Error>, Vec<u8>) {
-        let mut log = [0; log_len::refresh(Part::Full, SECTOR, POLL_LIMIT)];
+        let mut log = [0; log_len::patch(POLL_LIMIT)];
         let mut run = Run::new(&mut log);
         let result = call(&mut self.chip, &mut self.array, &mut run);
         self.outline = run.outline().collect();
@@ -73,7 +70,7 @@ impl Bench {
     }
 }
 
-/// Makes the five calls in both ways; they must do the same.
+/// Makes the four calls in both ways; they must do the same.
 fn compare(bench: &Bench, term: Option<Term>, recipe: &[u8], place: usize, bytes: &[u8]) {
     let part = Part::from_array_len(bench.array.len()).expect("a part");
     let (mut driven, mut called) = (bench.clone(), bench.clone());
@@ -104,20 +101,6 @@ fn compare(bench: &Bench, term: Option<Term>, recipe: &[u8], place: usize, bytes
         Ok(recipe.to_vec())
     });
     assert_eq!(get, expected);
-    assert!(driven == called);
-
-    let refresh = driven.drive(Driver::refresh(part, SECTOR, POLL_LIMIT).expect("a refresh"));
-    let expected = called.call(|chip, array, run| {
-        chip.refresh(array, SECTOR, POLL_LIMIT, run)?;
-        Ok(Vec::new())
-    });
-    assert_eq!(refresh, expected);
-    if refresh.0.is_ok() {
-        // The driver knows no tally: who carries its frames sets the count to 0.
-        assert!(driven.chip.tally()[SECTOR] >= part.sector_pages(SECTOR) as u32);
-        assert_eq!(called.chip.tally()[SECTOR], 0);
-        driven.chip.record_mut()[769..773].fill(0);
-    }
     assert!(driven == called);
 
     let wipe = driven.drive(Driver::wipe(part, SLOT, POLL_LIMIT).expect("a wipe"));
@@ -331,42 +314,6 @@ fn lost_program_is_told() {
     }
 }
 
-/// A recipe outlives refreshes of its sector, which write no page of another.
-#[test]
-fn refreshed_recipes_come_back() {
-    for part in Part::ALL {
-        let mut bench = Bench::new(part);
-        let recipe = vec![0x5A; part.recipe_max()];
-        let put = Driver::put(part, SLOT, POLL_LIMIT, None, &recipe).expect("a put");
-        assert_eq!(bench.drive(put).0, Ok(()));
-        let before = bench.array.clone();
-        for sector in [0, 1, part.sectors() - 1] {
-            let (mut expected, pages) = (bench.chip.tally(), part.sector_pages(sector));
-            let refresh = Driver::refresh(part, sector, POLL_LIMIT).expect("a refresh");
-            assert_eq!(bench.drive(refresh).0, Ok(()));
-            // Ready at each poll.
-            assert_eq!(bench.outline.len(), 3 + 2 * pages);
-            expected[sector] += pages as u32;
-            assert_eq!(bench.chip.tally(), expected);
-        }
-        assert!(bench.array == before);
-        let get = Driver::get(part, SLOT, POLL_LIMIT, today()).expect("a get");
-        assert_eq!(bench.drive(get), (Ok(()), recipe));
-    }
-}
-
-/// The counts are the last 68 bytes of a record, and any bytes are counts.
-#[test]
-fn tally_is_the_end_of_the_record() {
-    let bytes: [u8; RECORD_LEN] = std::array::from_fn(|i| (i * 89 / 7) as u8);
-    let chip = Chip::from_record(bytes);
-    let counts: Vec<u32> = (bytes[765..].chunks(4))
-        .map(|count| count.iter().fold(0, |n, &byte| n << 8 | u32::from(byte)))
-        .collect();
-    assert_eq!(chip.tally()[..], counts);
-    assert_eq!(*chip.record(), bytes);
-}
-
 /// A chip that is never ready is asked as often as the limit allows.
 #[test]
 fn busy() {
@@ -399,12 +346,6 @@ fn refused_starts() {
     let error = |driver: Result<Driver, Error>| driver.err();
     for (part, slots, most) in [(Part::Short, 16, 2109), (Part::Full256, 512, 2045)] {
         assert_eq!(error(Driver::wipe(part, slots, 1)), Some(Error::Slot));
-        for sector in [part.sectors(), 17, usize::MAX] {
-            let refresh = Driver::refresh(part, sector, 1);
-            assert_eq!(error(refresh), Some(Error::Slot));
-        }
-        assert_eq!(error(Driver::refresh(part, 1, 1001)), Some(Error::Limit));
-        assert_eq!(error(Driver::refresh(part, part.sectors() - 1, 1000)), None);
         assert_eq!(error(Driver::get(part, 0, 0, today())), Some(Error::Limit));
         let get = Driver::get(part, 0, 1001, today());
         assert_eq!(error(get), Some(Error::Limit));

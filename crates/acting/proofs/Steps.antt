@@ -17,7 +17,7 @@ use Rattle.slots.specs.Plans.{Asked}
 use Rattle.slots.specs.Lists.{Op, call, raw, straight, pin, busy_end, cut, put, out_of, next_of, log_of}
 use Rattle.runs.specs.Promises.{Called}
 use Rattle.words.specs.declared.Command.{Command}
-use Rattle.words.specs.declared.Command.TheVariants.{Put, Patch, Get, Wipe, Refresh, Raw, Send, End, Pin, Cut, Part, Tally, Sum}
+use Rattle.words.specs.declared.Command.TheVariants.{Put, Patch, Get, Wipe, Raw, Send, End, Pin, Cut, Part, Sum}
 use Rattle.orders.specs.declared.Order.{Order}
 use Rattle.acting.specs.declared.Totals.{Totals}
 use Rattle.lengths.specs.Lengths.{call_lengths, lengths_by, Lends}
@@ -141,14 +141,12 @@ spares-none Put o size count s e f = ap blank f
 spares-none Patch o size count s e f = ap blank f
 spares-none Get o size count s e f = tt
 spares-none Wipe o size count s e f = ap blank f
-spares-none Refresh o size count s e f = ap blank f
 spares-none Raw o size count s e f = tt
 spares-none Send o size count s e f = ap blank e
 spares-none End o size count s e f = (ap blank e, ap blank f)
 spares-none Pin o size count s e f = (ap blank e, ap blank f)
 spares-none Cut o size count s e f = (ap blank e, ap blank f)
 spares-none Part o size count s e f = subst T (sym s) tt
-spares-none Tally o size count s e f = subst T (sym s) tt
 spares-none Sum o size count s e f = subst T (sym s) tt
 
 -- a buffer that is not lent has no bytes

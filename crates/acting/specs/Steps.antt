@@ -7,29 +7,27 @@ use Rattle.state.specs.declared.Chip.{Chip}
 use Rattle.state.specs.Answers.{number_of}
 use Rattle.state.specs.Memory.{State, chip_in}
 use Rattle.blocks.specs.Promises.{held_in, stored_by, pin_moved}
-use Rattle.slots.specs.Lists.{Op, call, raw, straight, pin, busy_end, cut, put, patch, get, wipe, refresh, out_of, next_of, log_of}
+use Rattle.slots.specs.Lists.{Op, call, raw, straight, pin, busy_end, cut, put, patch, get, wipe, out_of, next_of, log_of}
 use Rattle.runs.specs.Promises.{kept_in}
 use Rattle.words.specs.declared.Command.{Command}
-use Rattle.words.specs.declared.Command.TheVariants.{Put, Patch, Get, Wipe, Refresh, Raw, Send, End, Pin, Cut, Part, Tally, Sum}
+use Rattle.words.specs.declared.Command.TheVariants.{Put, Patch, Get, Wipe, Raw, Send, End, Pin, Cut, Part, Sum}
 use Rattle.orders.specs.declared.Order.{Order}
 use Rattle.acting.specs.declared.Totals.{Totals}
 
 -- ---- the order
 
--- every command is a call or an event on the chip, but part, tally and sum
+-- every command is a call or an event on the chip, but part and sum
 abbrev pub is_step : Command → Bool
 is_step Put = true
 is_step Patch = true
 is_step Get = true
 is_step Wipe = true
-is_step Refresh = true
 is_step Raw = true
 is_step Send = true
 is_step End = true
 is_step Pin = true
 is_step Cut = true
 is_step Part = false
-is_step Tally = false
 is_step Sum = false
 
 -- the seed of the junk, by the command
@@ -38,14 +36,12 @@ seed_by Put o = o.seed
 seed_by Patch o = o.seed
 seed_by Get o = o.seed
 seed_by Wipe o = o.seed
-seed_by Refresh o = o.seed
 seed_by Raw o = o.seed
 seed_by Send o = o.seed
 seed_by End o = o.seed
 seed_by Pin o = o.seed
 seed_by Cut o = o.number
 seed_by Part o = o.seed
-seed_by Tally o = o.seed
 seed_by Sum o = o.seed
 
 -- SEED of cut, else the option junk
@@ -56,21 +52,19 @@ seed_of o = seed_by o.command o
 abbrev pub blank : ℕ → List ℕ
 blank n = replicate n 0xA5
 
--- the call or event by the command, on the bytes of HEX, the script, the junk, the log, and the get buffer or reply; part, tally and sum are none, and
+-- the call or event by the command, on the bytes of HEX, the script, the junk, the log, and the get buffer or reply; part and sum are none, and
 -- what stands there is not looked at
 abbrev pub op_by : Command → Order → (bytes script junk log out : List ℕ) → Op
 op_by Put o bytes script junk log out = put o.number o.limit o.term script bytes junk log
 op_by Patch o bytes script junk log out = patch o.number o.limit o.place script bytes junk log
 op_by Get o bytes script junk log out = get o.number o.limit o.today script junk log out
 op_by Wipe o bytes script junk log out = wipe o.number o.limit script junk log
-op_by Refresh o bytes script junk log out = refresh o.number o.limit script junk log
 op_by Raw o bytes script junk log out = raw bytes script junk log out
 op_by Send o bytes script junk log out = straight bytes out
 op_by End o bytes script junk log out = busy_end
 op_by Pin o bytes script junk log out = pin (not (eqb o.number 0))
 op_by Cut o bytes script junk log out = cut junk
 op_by Part o bytes script junk log out = busy_end
-op_by Tally o bytes script junk log out = busy_end
 op_by Sum o bytes script junk log out = busy_end
 
 -- the call or event that the order names
@@ -144,12 +138,10 @@ Spares Put log out = out ≡ []
 Spares Patch log out = out ≡ []
 Spares Get log out = Unit
 Spares Wipe log out = out ≡ []
-Spares Refresh log out = out ≡ []
 Spares Raw log out = Unit
 Spares Send log out = log ≡ []
 Spares End log out = (log ≡ []) × (out ≡ [])
 Spares Pin log out = (log ≡ []) × (out ≡ [])
 Spares Cut log out = (log ≡ []) × (out ≡ [])
 Spares Part log out = ⊥
-Spares Tally log out = ⊥
 Spares Sum log out = ⊥

@@ -10,7 +10,7 @@ use orders::{Command, Order};
 // A put, without a term or with one.
 fn store(
     term: Term,
-    block: &mut [u8; 833],
+    block: &mut [u8; 765],
     array: &mut [u8],
     slot: usize,
     limit: usize,
@@ -49,7 +49,7 @@ fn store(
 // The call or event that the order names; its answer. `counts` gets a call's frames, polls and n.
 pub fn act(
     o: Order,
-    block: &mut [u8; 833],
+    block: &mut [u8; 765],
     array: &mut [u8],
     bytes: &[u8],
     script: &[u8],
@@ -62,22 +62,22 @@ pub fn act(
     ensures { Took (seen_by (op_of o bytes.now script.now junk.now log.old out.old) block.old array.old) (told result counts.new) block.new array.new log.new out.new }
 {
     let c = o.command;
-    let unit = o.number;
+    let slot = o.number;
     let b = o.limit;
     match c {
         Command::Put => {
             let term = o.term;
             store(
-                term, block, array, unit, b, bytes, script, junk, log, counts,
+                term, block, array, slot, b, bytes, script, junk, log, counts,
             )
         }
         Command::Patch => slipknoll::slipknoll_patch(
-            block, array, unit, b, o.place, bytes, script, junk, log, counts,
+            block, array, slot, b, o.place, bytes, script, junk, log, counts,
         ),
         Command::Get => slipknoll::slipknoll_get(
             block,
             array,
-            unit,
+            slot,
             b,
             o.today.year,
             o.today.month,
@@ -89,20 +89,16 @@ pub fn act(
             counts,
         ),
         Command::Wipe => slipknoll::slipknoll_wipe(
-            block, array, unit, b, script, junk, log, counts,
-        ),
-        Command::Refresh => slipknoll::slipknoll_refresh(
-            block, array, unit, b, script, junk, log, counts,
+            block, array, slot, b, script, junk, log, counts,
         ),
         Command::Raw => slipknoll::slipknoll_raw(
             block, array, bytes, out, script, junk, log, counts,
         ),
         Command::Send => slipknoll::slipknoll_send(block, array, bytes, out),
         Command::End => slipknoll::slipknoll_end_busy(block, array),
-        Command::Pin => slipknoll::slipknoll_move_pin(block, unit != 0),
+        Command::Pin => slipknoll::slipknoll_move_pin(block, slot != 0),
         Command::Cut => slipknoll::slipknoll_cut(block, array, junk),
         Command::Part => 0,
-        Command::Tally => 0,
         Command::Sum => 0,
     }
 }

@@ -31,14 +31,12 @@ fn seed(o: Order) -> usize
         Command::Patch => o.seed,
         Command::Get => o.seed,
         Command::Wipe => o.seed,
-        Command::Refresh => o.seed,
         Command::Raw => o.seed,
         Command::Send => o.seed,
         Command::End => o.seed,
         Command::Pin => o.seed,
         Command::Cut => o.number,
         Command::Part => o.seed,
-        Command::Tally => o.seed,
         Command::Sum => o.seed,
     }
 }
@@ -55,7 +53,7 @@ fn make_ready(seed: usize, junk: &mut [u8], log: &mut [u8], out: &mut [u8])
 // The junk and the lent buffers are made ready, and the call or event is carried out.
 pub fn take_step(
     o: Order,
-    block: &mut [u8; 833],
+    block: &mut [u8; 765],
     array: &mut [u8],
     bytes: &[u8],
     script: &[u8],

@@ -15,7 +15,7 @@ fresh_short = (fresh_outcome (replicate 64 0) (replicate 33792 0)).state
 unfoldable pub fresh_short256 : State
 fresh_short256 = (fresh_outcome (replicate 64 0) (replicate 32768 0)).state
 
--- a log long enough, with poll limit 1, for any call on a slot and for a refresh of 0a
+-- a log long enough for any call with poll limit 1
 unfoldable pub log : List ℕ
 log = replicate 306 0
 

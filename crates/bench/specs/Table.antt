@@ -1,4 +1,4 @@
--- The bench table: addresses, sectors, status, pages, records, answers, frames, the program's example and the tally; then the same of pages of 256 bytes.
+-- The bench table: addresses, sectors, status, pages, records, answers, frames, and the program's example; then the same of pages of 256 bytes.
 -- Assumes nothing.
 use Rattle.std.specs.Prelude.{ℕ, ◌+◌, ◌≡◌, true, false, List, [], ◌∷◌, ◌++◌, length, take, drop, replicate}
 use Rattle.dates.specs.declared.Date.{Date}
@@ -10,10 +10,9 @@ use Rattle.geometry.specs.Parts.{row, part_of, address_at, page_at, byte_at}
 use Rattle.geometry.specs.Sectors.{sector_of}
 use Rattle.commands.specs.declared.Buffer.TheVariants.{One}
 use Rattle.registers.specs.declared.Operation.TheVariants.{Idle, Program}
-use Rattle.registers.specs.Tally.{raised}
 use Rattle.state.specs.Memory.{State}
 use Rattle.slots.specs.Calls.{Out}
-use Rattle.slots.specs.Lists.{Op, put, patch, get, wipe, refresh, straight, busy_end, out_of, next_of, left_by}
+use Rattle.slots.specs.Lists.{Op, put, patch, get, wipe, straight, busy_end, out_of, next_of, left_by}
 use Rattle.bench.specs.Start.{fresh_short, fresh_short256, log, answers}
 
 -- the reply to a frame sent straight
@@ -146,36 +145,6 @@ pub record Frames : Type 0 where
   pub wipe-polls : (out_of wipe_two fresh_short).polls ≡ 2
   pub wipe-answer : answers (wipe_two ∷ []) fresh_short ≡ 0 ∷ []
 
--- the counters of 0a, 0b and sector 1
-abbrev pub tally_in : State → List ℕ
-tally_in s = take 3 s.registers.tally.counts
-
--- `refresh 0`, B 1, with a script
-abbrev pub refresh_first : List ℕ → Op
-refresh_first script = refresh 0 1 script [] log
-
--- the tally, and refresh
-pub record Wear : Type 0 where
-  -- a put into slot 0 writes eight pages of 0a, a wipe of slot 2 eight of 0b
-  pub put-tally : tally_in (next_of (put_fresh (0x41 ∷ [])) fresh_short) ≡ 8 ∷ 0 ∷ 0 ∷ []
-  pub wipe-tally : tally_in (next_of wipe_two fresh_short) ≡ 0 ∷ 8 ∷ 0 ∷ []
-  -- 83 writes one page, and as well where no byte changes; 7C of 0b all of its 120, Chip Erase both sectors; 60 none
-  pub program_tally : tally_in (left_by (sending (0x83 ∷ 0x00 ∷ 0x10 ∷ 0x00 ∷ []) ∷ busy_end ∷ []) fresh_short) ≡ 0 ∷ 1 ∷ 0 ∷ []
-  pub sector_tally : tally_in (left_by (sending (0x7C ∷ 0x00 ∷ 0x10 ∷ 0x00 ∷ []) ∷ busy_end ∷ []) fresh_short) ≡ 0 ∷ 120 ∷ 0 ∷ []
-  pub chip-tally : tally_in (left_by (sending (0xC7 ∷ 0x94 ∷ 0x80 ∷ 0x9A ∷ []) ∷ busy_end ∷ []) fresh_short) ≡ 8 ∷ 120 ∷ 0 ∷ []
-  pub compare-tally : tally_in (left_by compared fresh_short) ≡ 0 ∷ 0 ∷ 0 ∷ []
-  -- it stops at the most
-  pub most : raised 4294967200 256 ≡ 4294967295
-  -- a refresh of 0a: 3 + 2 * 8 frames, 1 + 8 polls; the second page's 58 and its wait; it answers 0 and leaves the counter at 0
-  pub refresh-counts : counts (out_of (refresh_first []) fresh_short) ≡ 19 ∷ 9 ∷ []
-  pub refresh_page : take 12 (drop 30 (out_of (refresh_first []) fresh_short).lines) ≡ 0 ∷ 4 ∷ 0x58 ∷ 0x00 ∷ 0x02 ∷ 0x00 ∷ 0 ∷ 2 ∷ 0xD7 ∷ 0x00 ∷ 0xFF ∷ 0xFF ∷ []
-  pub refresh-tally : tally_in (next_of (refresh_first []) fresh_short) ≡ 0 ∷ 0 ∷ 0 ∷ []
-  -- with 9 at the first page the counter keeps what it has, and counts that page once its busy end comes
-  pub busy-answer : answers (refresh_first (0 ∷ 0 ∷ 0 ∷ 1 ∷ 1 ∷ []) ∷ []) fresh_short ≡ 9 ∷ []
-  pub busy-tally : tally_in (left_by (refresh_first (0 ∷ 0 ∷ 0 ∷ 1 ∷ 1 ∷ []) ∷ busy_end ∷ []) fresh_short) ≡ 1 ∷ 0 ∷ 0 ∷ []
-  -- a short part has sectors 0a and 0b
-  pub lacking : answers (refresh 2 1 [] [] log ∷ refresh 17 1 [] [] log ∷ []) fresh_short ≡ 3 ∷ 3 ∷ []
-
 -- the same of pages of 256 bytes
 pub record Binary : Type 0 where
   -- pages of 256 bytes: 83 00 05 00 names page 5; 0F FF 00 and FF FF 00 name 4,095 of 4,096
@@ -213,5 +182,4 @@ pub record Bench : Type 0 where
   pub chip : Chip
   pub records : Records
   pub frames : Frames
-  pub wear : Wear
   pub binary : Binary

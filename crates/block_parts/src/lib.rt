@@ -2,13 +2,12 @@
 // Internal to this repository: a caller here meets each `requires`; no entry point is in this crate.
 ghost use Rattle.std.specs.Prelude.{◌≡◌, ◌++◌, ◌+◌, ◌≤◌, length, replicate};
 ghost use Rattle.slices.specs.Lists.{splice};
-ghost use Rattle.slices.specs.Words.{fours_bytes};
 ghost use Rattle.registers.specs.Data.{bytes16};
 ghost use Rattle.blocks.specs.Block.{flag_byte, buffer_number, head_of, data_bytes, head_bytes, flagged};
 
 use blocks::Heading;
 use commands::Buffer;
-use registers::{Data16, Operation, Tally, Update};
+use registers::{Data16, Operation, Update};
 
 pub fn flag_byte(b: bool) -> u8
     ensures { result ≡ flag_byte b }
@@ -95,7 +94,7 @@ pub fn put(block: &mut [u8], at: usize, part: &[u8])
 }
 
 fn clear_data(block: &mut [u8])
-    requires { length block.old ≡ 833 }
+    requires { length block.old ≡ 765 }
     ensures { block.new ≡ splice 172 (replicate 64 0) block.old }
 {
     slices::fill(&mut block[172..236], 0);
@@ -103,7 +102,7 @@ fn clear_data(block: &mut [u8])
 
 // The operation's data stored.
 fn put_data(block: &mut [u8], o: Operation)
-    requires { length block.old ≡ 833 }
+    requires { length block.old ≡ 765 }
     ensures { block.new ≡ splice 172 (data_bytes o) block.old }
 {
     let u = registers::update_of(o);
@@ -122,22 +121,9 @@ fn put_data(block: &mut [u8], o: Operation)
     }
 }
 
-// The tally stored: the 68 bytes from index 765 on.
-pub fn put_tally(block: &mut [u8], t: Tally)
-    requires { length block.old ≡ 833 }
-    ensures { block.new ≡ splice 765 (fours_bytes t.counts) block.old }
-{
-    let counts = t.counts;
-    let mut i = 0;
-    while i < 17 {
-        slices::put_four(block, 765 + 4 * i, counts[i]);
-        i += 1;
-    }
-}
-
 // Marks stored, and no operation: the 76 bytes from index 160 on.
 pub fn put_idle(block: &mut [u8], used: bool, protect: bool, wp: bool, deep: bool)
-    requires { length block.old ≡ 833 }
+    requires { length block.old ≡ 765 }
     ensures { block.new ≡ splice 160 (head_bytes (flagged used protect wp deep) (head_of Operation.Idle) ++ data_bytes Operation.Idle) block.old }
 {
     let bytes = head_bytes(used, protect, wp, deep, headed(0x00, 0, 0, 0));
@@ -154,7 +140,7 @@ pub fn put_operation(
     deep: bool,
     o: Operation,
 )
-    requires { length block.old ≡ 833 }
+    requires { length block.old ≡ 765 }
     ensures { block.new ≡ splice 160 (head_bytes (flagged used protect wp deep) (head_of o) ++ data_bytes o) block.old }
 {
     if let Operation::Idle = o {

@@ -1,24 +1,21 @@
--- Every block of 833 bytes reads as a chip that a block can hold: its parts have their lengths, two bytes make a number below 65536, four
+-- Every block of 765 bytes reads as a chip that a block can hold: its parts have their lengths, two bytes make a number below 65536, four
 -- one below 2 ^ 32, eight one below 2 ^ 64. A tag or a buffer that does not fit reads as an operation that no part takes.
 -- Assumes nothing.
 use mathlib.Core.Path.{◌≡◌, refl}
 use mathlib.Core.Bool.{Bool, true, false, cond}
 use mathlib.Core.List.{List, [], ◌∷◌}
-use Prim.Native.Nat.{ℕ, zero, suc, ◌+◌, ◌*◌, ◌^◌, ◌<◌, ◌≤◌}
+use Prim.Native.Nat.{ℕ, zero, suc, ◌+◌, ◌^◌, ◌<◌, ◌≤◌}
 use native.Mathlib.Omega.{arith}
-use lib.ListN.{length, take, drop, get_or, length-take, length-drop, get_or-eq_default}
+use lib.ListN.{length, take, drop, get_or, length-take, length-drop}
 use lib.Seq.{get_or-take, get_or-drop}
-use lib.Dec.{eqb, ltb, lit<}
-use borrow.Author.Tests.{le-ltb, ltb-true, ltb-false}
-use Rattle.slices.specs.Words.{four_at, fours_at}
-use Rattle.slices.proofs.Fours.{four_small}
-use Rattle.slices.proofs.Laws.{length-tabulate, get_or-tabulate}
+use lib.Dec.{eqb, lit<}
+use borrow.Author.Tests.{le-ltb}
 use Rattle.slices.proofs.Words.{word_at-small}
 use Rattle.commands.specs.declared.Buffer.{Buffer}
 use Rattle.commands.specs.declared.Buffer.TheVariants.{One, Two}
 use Rattle.geometry.specs.declared.Part.{Part}
 use Rattle.geometry.specs.declared.Part.TheVariants.{Known, Unknown}
-use Rattle.geometry.specs.Parts.{page_room, sector_room, part_of}
+use Rattle.geometry.specs.Parts.{page_room, part_of}
 use Rattle.geometry.proofs.Pages.{sized}
 use Rattle.registers.specs.declared.Operation.{Operation}
 use Rattle.registers.specs.Data.{pack16, pack64}
@@ -33,7 +30,7 @@ use Rattle.blocks.proofs.RoundTrip.{decode_encode}
 length-field : (a n : ℕ) (xs : List ℕ) → a + n ≤ length xs → length (field a n xs) ≡ n
 length-field a n xs h = simp (length-take, length-drop) (omega arith)
 
-pub whole_decode : (block : List ℕ) → length block ≡ 833 → Whole (decode_chip block)
+pub whole_decode : (block : List ℕ) → length block ≡ 765 → Whole (decode_chip block)
 unfolding decode_chip decode_registers
 whole_decode block l =
     record {
@@ -43,7 +40,6 @@ whole_decode block l =
             lockdown = length-field 16 16 block (omega arith);
             user = length-field 32 64 block (omega arith);
             factory = length-field 96 64 block (omega arith);
-            tally = length-tabulate sector_room (λ s. four_at block (765 + 4 * s));
           };
       buffer1 = length-field 236 page_room block (omega arith);
       buffer2 = length-field 500 page_room block (omega arith);
@@ -117,18 +113,8 @@ operation-fits tag buffer n sectors xs h s b =
     (cases Fitting (eqb buffer 2) (buffered_fits tag Two n h)
     beyond-fits))
 
--- ---- the tally
-counts-small : (n : ℕ) (xs : List ℕ) (a : ℕ) → ((k : ℕ) → get_or xs k 0 < 256) → (s : ℕ) → get_or (fours_at n xs a) s 0 < 2 ^ 32
-counts-small n xs a b s = go (ltb s n) refl
-  where
-    go : (d : Bool) → ltb s n ≡ d → get_or (fours_at n xs a) s 0 < 2 ^ 32
-    go true e =
-        omega (arith, get_or-tabulate n (λ i. four_at xs (a + 4 * i)) s 0 (ltb-true s n e), four_small xs (a + 4 * s) (λ k _. b (a + 4 * s + k)))
-    go false e =
-        omega (arith, get_or-eq_default (fours_at n xs a) 0 {n = s} (omega (arith, length-tabulate n (λ i. four_at xs (a + 4 * i)), ltb-false s n e)))
-
 -- ---- the chip
-pub holds_decode : (block : List ℕ) → length block ≡ 833 → ((k : ℕ) → k < length block → get_or block k 0 < 256) → Holds (decode_chip block)
+pub holds_decode : (block : List ℕ) → length block ≡ 765 → ((k : ℕ) → k < length block → get_or block k 0 < 256) → Holds (decode_chip block)
 unfolding decode_chip decode_registers decode_operation
 holds_decode block l h =
     let b = bytes block h in
@@ -136,12 +122,11 @@ holds_decode block l h =
       whole = whole_decode block l;
       operation =
           operation-fits (get_or block 164 0) (get_or block 165 0) (number_in block) (sectors_in block) (field 172 64 block)
-          (omega (arith, b 166, b 167)) (four_small block 168 (λ k _. b (168 + k))) (bytes-field 172 64 block b);
-      counts = counts-small sector_room block 765 b;
+          (omega (arith, b 166, b 167)) (omega (arith, b 168, b 169, b 170, b 171)) (bytes-field 172 64 block b);
     }
 
 -- storing what was read changes nothing of what is read
-pub decode_encode_decode : (block : List ℕ) → length block ≡ 833 → ((k : ℕ) → k < length block → get_or block k 0 < 256)
+pub decode_encode_decode : (block : List ℕ) → length block ≡ 765 → ((k : ℕ) → k < length block → get_or block k 0 < 256)
     → decode_chip (encode_chip (decode_chip block)) ≡ decode_chip block
 decode_encode_decode block l h = decode_encode (decode_chip block) (holds_decode block l h)
 

@@ -1,14 +1,12 @@
 -- The lengths of what is stored: the head is twelve bytes and the data 64, whatever the operation is, so with arrays of their lengths the
--- registers take 236 bytes and the chip 833: its buffers 528, the compare bit one, and the tally four for each of 17 counts.
+-- registers take 236 bytes and the chip 765.
 -- Assumes nothing.
 use mathlib.Core.Path.{◌≡◌, refl, sym, ap, ◌∙◌}
 use mathlib.Core.List.{List}
 use Prim.Native.Nat.{ℕ}
 use lib.ListN.{length, length-append}
-use native.Mathlib.Omega.{arith}
 use Rattle.slices.specs.Lists.{splice}
-use Rattle.slices.specs.Words.{word_bytes, four_bytes}
-use Rattle.slices.proofs.Fours.{length-fours_bytes}
+use Rattle.slices.specs.Words.{word_bytes}
 use Rattle.registers.specs.declared.Operation.{Operation}
 use Rattle.registers.specs.declared.Registers.{Registers}
 use Rattle.registers.specs.declared.Update.{Update}
@@ -22,7 +20,7 @@ use Rattle.blocks.specs.declared.Heading.{Heading}
 use Rattle.blocks.specs.Block.{head_of, head_bytes, bytes_held, data_bytes, encode_registers, encode_chip}
 
 pub length-head_bytes : (r : Registers) (h : Heading) → length (head_bytes r h) ≡ 12
-unfolding head_bytes four_bytes
+unfolding head_bytes
 length-head_bytes r h = refl
 
 length-held : (u : Update) → length (bytes_held u) ≡ 64
@@ -42,10 +40,9 @@ unfolding encode_registers
 length-encode_registers r a =
     simp (length-append, a.protection, a.lockdown, a.user, a.factory, length-head_bytes r (head_of r.operation), length-data_bytes r.operation)
 
-pub length-encode_chip : (c : Chip) → Whole c → length (encode_chip c) ≡ 833
+pub length-encode_chip : (c : Chip) → Whole c → length (encode_chip c) ≡ 765
 unfolding encode_chip
-length-encode_chip c s =
-    simp (length-append, length-encode_registers c.registers s.registers, s.buffer1, s.buffer2) (omega (arith, length-fours_bytes c.registers.tally.counts, s.registers.tally))
+length-encode_chip c s = simp (length-append, length-encode_registers c.registers s.registers, s.buffer1, s.buffer2)
 
 -- an arm that stores the data of an operation, by its update
 pub data_stored : (o : Operation) (block : List ℕ) {u v : Update} {z : List ℕ} → u ≡ update_of o → u ≡ v → z ≡ splice 172 (bytes_held v) block → z ≡ splice 172 (data_bytes o) block

@@ -5,4 +5,3 @@ pub mod Decoded
 pub mod Stores
 pub mod Settled
 pub mod Lends
-pub mod Worn

@@ -3,25 +3,24 @@
 -- Assumes nothing.
 use mathlib.Core.Path.{◌≡◌, refl, sym, ap, ◌∙◌}
 use mathlib.Core.Bool.{Bool, true, false}
-use mathlib.Core.List.{List, [], ◌∷◌, ◌++◌, append_assoc, append-nil}
-use Prim.Native.Nat.{ℕ, ◌+◌, ◌*◌, ◌/◌, ◌%◌, ◌<◌}
+use mathlib.Core.List.{List, [], ◌∷◌, ◌++◌, append_assoc}
+use Prim.Native.Nat.{ℕ, ◌+◌, ◌*◌, ◌/◌, ◌%◌, ◌^◌, ◌<◌}
+use native.Mathlib.Nat.{mod-eq_of_lt}
 use native.Mathlib.Omega.{arith}
-use lib.ListN.{length, take, drop, get_or, replicate, length-append, get_or-append}
+use lib.ListN.{length, take, drop, get_or, replicate, get_or-append}
 use lib.Seq.{take_at, drop_at, drop-drop, get_or-drop}
 use lib.Dec.{lit<}
-use Rattle.slices.specs.Words.{four_at, four_bytes, fours_at, fours_bytes}
-use Rattle.slices.proofs.Fours.{four_back, fours_back}
-use Rattle.geometry.specs.Parts.{page_room, sector_room}
+use lib.Pow.{mod-pow-add}
+use Rattle.geometry.specs.Parts.{page_room}
 use Rattle.commands.specs.declared.Buffer.TheVariants.{One, Two}
 use Rattle.registers.specs.declared.Operation.{Operation}
 use Rattle.registers.specs.declared.Operation.TheVariants.{Idle, Program, ProgramOver, Transfer, Compare, Rewrite, ErasePage, EraseBlock, EraseSector, EraseChip, EraseProtection, ProgramProtection, LockSector, ProgramSecurity}
 use Rattle.registers.specs.Data.{pack16, bytes16}
 use Rattle.registers.proofs.Data.{length-bytes16, pack16-bytes16, pack64-bytes64}
 use Rattle.state.specs.declared.Chip.{Chip}
-use Rattle.state.specs.Whole.{Whole}
 use Rattle.blocks.specs.Block.{field, flag, flag_byte, buffered_of, plain_of, operation_of, head_of, head_bytes, data_bytes, decode_operation, decode_registers, decode_chip, encode_registers, encode_chip}
-use Rattle.blocks.specs.Holds.{Fitting, Counts, Holds}
-use Rattle.blocks.proofs.Lengths.{length-head_bytes, length-data_bytes, length-encode_registers}
+use Rattle.blocks.specs.Holds.{Fitting, Holds}
+use Rattle.blocks.proofs.Lengths.{length-head_bytes, length-data_bytes}
 
 -- ---- parts that lie one behind the other
 joined : List (List ℕ) → List ℕ
@@ -51,9 +50,9 @@ lies : (c : Chip)
     → Lies (encode_chip c) 0
     (c.registers.protection ∷ c.registers.lockdown ∷ c.registers.user ∷ c.registers.factory
     ∷ head_bytes c.registers (head_of c.registers.operation) ∷ data_bytes c.registers.operation
-    ∷ c.buffer1 ∷ c.buffer2 ∷ (flag_byte c.compare ∷ []) ∷ fours_bytes c.registers.tally.counts ∷ [])
+    ∷ c.buffer1 ∷ c.buffer2 ∷ (flag_byte c.compare ∷ []) ∷ [])
 unfolding joined encode_chip encode_registers
-lies c = record { same = simp (append_assoc, append-nil) }
+lies c = record { same = simp append_assoc }
 
 -- ---- flags and numbers
 pub flag_back : (b : Bool) → flag (flag_byte b) ≡ b
@@ -63,10 +62,14 @@ flag_back false = refl
 two_back : (n : ℕ) → n < 65536 → n / 256 % 256 * 256 + n % 256 ≡ n
 two_back n h = omega arith
 
+four_back : (n : ℕ) → n < 2 ^ 32 → n / 16777216 % 256 * 16777216 + n / 65536 % 256 * 65536 + n / 256 % 256 * 256 + n % 256 ≡ n
+four_back n h = omega (arith, mod-pow-add n 8 24, mod-pow-add n 8 16, mod-pow-add n 8 8, mod-eq_of_lt h)
+
 -- ---- the operation under way
 operation_back : (o : Operation) → Fitting o
     → operation_of (head_of o).tag (head_of o).buffer ((head_of o).number / 256 % 256 * 256 + (head_of o).number % 256)
-    (four_at (four_bytes (head_of o).sectors) 0) (data_bytes o)
+    ((head_of o).sectors / 16777216 % 256 * 16777216 + (head_of o).sectors / 65536 % 256 * 65536 + (head_of o).sectors / 256 % 256 * 256 + (head_of o).sectors % 256)
+    (data_bytes o)
     ≡ o
 unfolding operation_of plain_of buffered_of head_of data_bytes
 operation_back Idle h = refl
@@ -91,28 +94,9 @@ operation_back (LockSector s) h = ap LockSector (two_back s h.0)
 operation_back (ProgramSecurity d) h =
     ap ProgramSecurity (pack64-bytes64 d h.1.a h.1.b h.1.c h.1.d h.1.e h.1.f h.1.g h.1.h)
 
--- ---- the tally
-
--- what lies before it
-abbrev pub before_tally : Chip → List ℕ
-before_tally c = encode_registers c.registers ++ (c.buffer1 ++ (c.buffer2 ++ (flag_byte c.compare ∷ [])))
-
-pub tally_behind : (c : Chip) → encode_chip c ≡ before_tally c ++ fours_bytes c.registers.tally.counts
-unfolding encode_chip
-tally_behind c = simp append_assoc
-
-pub length_before : (c : Chip) → Whole c → length (before_tally c) ≡ 765
-length_before c s = simp (length-append, length-encode_registers c.registers s.registers, s.buffer1, s.buffer2)
-
-pub tally_back : (c : Chip) → Whole c → Counts c.registers.tally → fours_at sector_room (encode_chip c) 765 ≡ c.registers.tally.counts
-tally_back c s h =
-    let ws = c.registers.tally.counts in
-    (λ i. fours_at (sym s.registers.tally i) ((tally_behind c ∙ ap (λ (t : List ℕ). before_tally c ++ t) (sym (append-nil (fours_bytes ws)))) i) (sym (length_before c s) i))
-    ∙ fours_back (before_tally c) ws [] (λ k _. h k)
-
 -- ---- the chip
 pub decode_encode : (c : Chip) → Holds c → decode_chip (encode_chip c) ≡ c
-unfolding decode_chip decode_registers decode_operation head_bytes four_at four_bytes
+unfolding decode_chip decode_registers decode_operation head_bytes
 decode_encode c h =
     let r = c.registers in
     let o = r.operation in
@@ -146,7 +130,6 @@ decode_encode c h =
             wp = (ap flag (byte 2 (lit< tt) z4) ∙ flag_back r.wp) i;
             deep = (ap flag (byte 3 (lit< tt) z4) ∙ flag_back r.deep) i;
             operation = e i;
-            tally = record { counts = tally_back c s h.counts i };
           };
       buffer1 = here page_room s.buffer1 z6 i;
       buffer2 = here page_room s.buffer2 z7 i;

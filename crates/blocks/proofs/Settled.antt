@@ -3,19 +3,16 @@
 use mathlib.Core.Path.{◌≡◌, refl, sym, ap, ◌∙◌}
 use mathlib.Core.Bool.{Bool}
 use mathlib.Core.List.{List, [], ◌∷◌, ◌++◌, append_assoc}
-use Prim.Native.Nat.{ℕ, ◌+◌, ◌*◌, ◌≤◌, ◌<◌}
+use Prim.Native.Nat.{ℕ, ◌+◌, ◌≤◌}
 use native.Mathlib.Omega.{arith}
 use lib.ListN.{length, set, take, drop, get_or, length-set, length-append}
-use lib.Seq.{drop-set-lt}
-use lib.Dec.{lit<, lit≤}
+use lib.Dec.{lit≤}
 use Rattle.slices.specs.Lists.{splice}
-use Rattle.slices.specs.Words.{fours_at, fours_bytes}
-use Rattle.slices.proofs.Fours.{bytes_of_fours}
 use Rattle.slices.proofs.Laws.{over-whole, length-splice, splice-part, drop-splice}
-use Rattle.geometry.specs.Parts.{page_room, sector_room}
+use Rattle.geometry.specs.Parts.{page_room}
 use Rattle.registers.specs.declared.Operation.{Operation}
 use Rattle.state.specs.declared.Chip.{Chip}
-use Rattle.blocks.specs.Block.{field, flag, flag_byte, head_of, head_bytes, flagged, data_bytes, tally_in, encode_registers, encode_chip}
+use Rattle.blocks.specs.Block.{field, flag, flag_byte, head_of, head_bytes, flagged, data_bytes, encode_registers, encode_chip}
 use Rattle.blocks.proofs.Lengths.{length-head_bytes, length-data_bytes}
 use Rattle.blocks.proofs.Stored.{stored-none, stored_more, stored_there, splice_one}
 use Rattle.blocks.proofs.Stores.{part_before}
@@ -35,30 +32,29 @@ settled_chip b used protect wp deep o =
             wp = wp;
             deep = deep;
             operation = o;
-            tally = tally_in b;
           };
       buffer1 = field 236 page_room b;
       buffer2 = field 500 page_room b;
       compare = flag (get_or b 764 0);
     }
 
-last : (b : List ℕ) (x : ℕ) → length b ≡ 833 → take 1 (drop 764 (set b 764 x)) ≡ x ∷ []
+last : (b : List ℕ) (x : ℕ) → length b ≡ 765 → take 1 (drop 764 (set b 764 x)) ≡ x ∷ []
 last b x l = ap (λ (t : List ℕ). take 1 (drop 764 t)) (splice_one 764 x b) ∙ splice-part 764 (x ∷ []) b (omega arith)
 
-nine : (a b c d e f g h i j : List ℕ) → ((((((((a ++ b) ++ c) ++ d) ++ (e ++ f)) ++ g) ++ h) ++ i) ++ j) ≡ (a ++ (b ++ (c ++ (d ++ (e ++ f))))) ++ (g ++ (h ++ (i ++ j)))
-nine a b c d e f g h i j = simp append_assoc
+eight : (a b c d e f g h i : List ℕ) → (((((((a ++ b) ++ c) ++ d) ++ (e ++ f)) ++ g) ++ h) ++ i) ≡ (a ++ (b ++ (c ++ (d ++ (e ++ f))))) ++ (g ++ (h ++ i))
+eight a b c d e f g h i = simp append_assoc
 
-pub settled : (b : List ℕ) (p e w d : Bool) (o : Operation) (z : List ℕ) → length b ≡ 833 → ((k : ℕ) → get_or b k 0 < 256)
+pub settled : (b : List ℕ) (p e w d : Bool) (o : Operation) (z : List ℕ) → length b ≡ 765
     → z ≡ splice 160 (head_bytes (flagged p e w d) (head_of o) ++ data_bytes o) (set b 764 (flag_byte (flag (get_or b 764 0))))
     → z ≡ encode_chip (settled_chip b p e w d o)
 unfolding encode_chip encode_registers head_bytes
-settled b p e w d o z l u h =
+settled b p e w d o z l h =
     let x = flag_byte (flag (get_or b 764 0)) in
     let y = set b 764 x in
     let mid = head_bytes (flagged p e w d) (head_of o) ++ data_bytes o in
-    let ly : length y ≡ 833 = length-set b 764 x ∙ l in
+    let ly : length y ≡ 765 = length-set b 764 x ∙ l in
     let lm : length mid ≡ 76 = length-append (head_bytes (flagged p e w d) (head_of o)) (data_bytes o) ∙ omega (arith, length-head_bytes (flagged p e w d) (head_of o), length-data_bytes o) in
-    let lz : length z ≡ 833 = ap length h ∙ length-splice 160 mid y ∙ ly in
+    let lz : length z ≡ 765 = ap length h ∙ length-splice 160 mid y ∙ ly in
     let after : (a n k : ℕ) → a + (n + k) ≡ 764 → 236 ≤ a → field a n z ≡ field a n b =
     λ a n k s g. ap (λ (t : List ℕ). field a n t) h ∙ ap (λ (t : List ℕ). take n t) (drop-splice a 160 mid y (omega arith)) ∙ ap (λ (m : ℕ). field a n (set b m x)) (sym s) ∙ part_before a n (n + k) b x (omega arith) in
     let s4 =
@@ -73,11 +69,5 @@ settled b p e w d o z l u h =
     (stored_there (field 236 page_room b) page_room (omega arith) (after 236 page_room page_room refl (lit≤ tt))
     (stored_more mid 76 lm s4 h)))
     in
-    let s9 =
-    stored_there (fours_bytes (fours_at sector_room b 765)) (4 * sector_room) (omega arith)
-    (ap (λ (t : List ℕ). take (4 * sector_room) (drop 765 t)) h ∙ ap (λ (t : List ℕ). take (4 * sector_room) t) (drop-splice 765 160 mid y (omega arith) ∙ drop-set-lt 765 b 764 x (lit< tt))
-    ∙ sym (bytes_of_fours sector_room b 765 u (omega arith)))
-    s8
-    in
-    s9.same ∙ over-whole _ _ (s9.long ∙ sym ly)
-    ∙ nine (field 0 16 b) (field 16 16 b) (field 32 64 b) (field 96 64 b) (head_bytes (flagged p e w d) (head_of o)) (data_bytes o) (field 236 page_room b) (field 500 page_room b) (x ∷ []) (fours_bytes (fours_at sector_room b 765))
+    s8.same ∙ over-whole _ _ (s8.long ∙ sym ly)
+    ∙ eight (field 0 16 b) (field 16 16 b) (field 32 64 b) (field 96 64 b) (head_bytes (flagged p e w d) (head_of o)) (data_bytes o) (field 236 page_room b) (field 500 page_room b) (x ∷ [])

@@ -41,6 +41,9 @@ stored_there {front} {xs} {block} {n} part k h e s =
     let l : length (take k (drop n block)) ≡ k = simp (length-take, length-drop) (omega arith) in
     stored_more part k (ap length (sym e) ∙ l) s (sym (splice-same n k block h) ∙ ap (λ (t : List ℕ). splice n t block) e)
 
--- five parts with the brackets moved to the right
+-- five parts, and four, with the brackets moved to the right
 pub five : (a b c d e : List ℕ) → (((a ++ b) ++ c) ++ d) ++ e ≡ a ++ (b ++ (c ++ (d ++ e)))
 five a b c d e = simp append_assoc
+
+pub four : (a b c d : List ℕ) → ((a ++ b) ++ c) ++ d ≡ a ++ (b ++ (c ++ d))
+four a b c d = simp append_assoc

@@ -10,9 +10,7 @@ use lib.ListN.{length, set, take, drop, get_or}
 use lib.Seq.{get_or-set_same, get_or-set_other, take-set-le, drop-set-lt, drop-set-add}
 use lib.Dec.{eqb, lit<, lit≤}
 use borrow.Author.Tests.{eqb-false}
-use Rattle.slices.specs.Words.{four_at}
-use Rattle.slices.proofs.Laws.{tabulate-same}
-use Rattle.geometry.specs.Parts.{page_room, sector_room}
+use Rattle.geometry.specs.Parts.{page_room}
 use Rattle.registers.specs.Fields.{with_wp}
 use Rattle.state.specs.declared.Answer.{Answer}
 use Rattle.state.specs.declared.Answer.TheVariants as Answers
@@ -50,15 +48,8 @@ part-after a n k xs x h = ap (λ (t : List ℕ). take n t) (drop-set-lt a xs k x
 other : (k : ℕ) (xs : List ℕ) (x : ℕ) → eqb k 162 ≡ false → get_or (set xs 162 x) k 0 ≡ get_or xs k 0
 other k xs x e = get_or-set_other xs 162 k x 0 (eqb-false k 162 e)
 
--- four bytes after it, as one number
-four_after : (a k : ℕ) (xs : List ℕ) (x : ℕ) → k < a → four_at (set xs k x) a ≡ four_at xs a
-unfolding four_at
-four_after a k xs x h =
-    let after : (j : ℕ) → get_or (set xs k x) (a + j) 0 ≡ get_or xs (a + j) 0 = λ j. get_or-set_other xs k (a + j) x 0 (λ e. absurd (omega arith)) in
-    λ i. get_or-set_other xs k a x 0 (λ e. absurd (omega arith)) i * 16777216 + after 1 i * 65536 + after 2 i * 256 + after 3 i
-
 -- ---- a pin move
-pub pin-moved : (block : List ℕ) (high : Bool) → length block ≡ 833 → decode_chip (pin_moved block high) ≡ with_registers (decode_chip block) (with_wp (decode_chip block).registers high)
+pub pin-moved : (block : List ℕ) (high : Bool) → length block ≡ 765 → decode_chip (pin_moved block high) ≡ with_registers (decode_chip block) (with_wp (decode_chip block).registers high)
 unfolding pin_moved decode_chip decode_registers decode_operation
 pin-moved block high l =
     let x = flag_byte high in
@@ -76,13 +67,8 @@ pin-moved block high l =
             deep = flag (other 163 block x refl i);
             operation =
                 operation_of (other 164 block x refl i) (other 165 block x refl i) (other 166 block x refl i * 256 + other 167 block x refl i)
-                (four_after 168 162 block x (lit< tt) i) (part-after 172 64 162 block x (lit< tt) i);
-            tally =
-                record {
-                  counts =
-                      tabulate-same sector_room (λ s. four_at (set block 162 x) (765 + 4 * s)) (λ s. four_at block (765 + 4 * s))
-                      (λ s _. four_after (765 + 4 * s) 162 block x (omega arith)) i;
-                };
+                (other 168 block x refl i * 16777216 + other 169 block x refl i * 65536 + other 170 block x refl i * 256 + other 171 block x refl i)
+                (part-after 172 64 162 block x (lit< tt) i);
           };
       buffer1 = part-after 236 page_room 162 block x (lit< tt) i;
       buffer2 = part-after 500 page_room 162 block x (lit< tt) i;

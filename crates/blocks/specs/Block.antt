@@ -1,21 +1,17 @@
--- The record block of the C interface: 833 bytes that hold a chip record. `decode_chip` reads a block of any content, `encode_chip`
+-- The record block of the C interface: 765 bytes that hold a chip record. `decode_chip` reads a block of any content, `encode_chip`
 -- writes one. Offsets: protection 0, lockdown 16, user 32, factory 96, then at 160 used, protect mark, WP high, deep, at 164
--- operation tag, buffer, number (2), at 168 sector set (4), data 172, buffer 1 236, buffer 2 500, compare bit 764, at 765 the 17 counters (4 each).
+-- operation tag, buffer, number (2), at 168 sector set (4), data 172, buffer 1 236, buffer 2 500, compare bit 764.
 -- Assumes nothing.
 use Rattle.std.specs.Prelude.{ℕ, ◌+◌, ◌*◌, ◌/◌, ◌%◌, Bool, cond, not, List, [], ◌∷◌, ◌++◌, get_or, take, drop, replicate, eqb}
-use Rattle.slices.specs.Words.{four_at, four_bytes, fours_at, fours_bytes}
-use Rattle.geometry.specs.Parts.{sector_room}
 use Rattle.commands.specs.declared.Buffer.{Buffer}
 use Rattle.commands.specs.declared.Buffer.TheVariants.{One, Two}
 use Rattle.registers.specs.declared.Operation.{Operation}
 use Rattle.registers.specs.declared.Operation.TheVariants.{Idle, Program, ProgramOver, Transfer, Compare, Rewrite, ErasePage, EraseBlock, EraseSector, EraseChip, EraseProtection, ProgramProtection, LockSector, ProgramSecurity}
 use Rattle.registers.specs.declared.Registers.{Registers}
-use Rattle.registers.specs.declared.Tally.{Tally}
 use Rattle.registers.specs.declared.Update.{Update}
 use Rattle.registers.specs.declared.Update.TheVariants.{Keep, FillProtection, MaskProtection, Lock, WriteUser}
 use Rattle.registers.specs.Facts.{update_of}
 use Rattle.registers.specs.Data.{pack16, pack64, bytes16, bytes64}
-use Rattle.registers.specs.Tally.{unworn}
 use Rattle.state.specs.declared.Chip.{Chip}
 use Rattle.state.specs.Memory.{buffer_size}
 use Rattle.blocks.specs.declared.Heading.{Heading}
@@ -117,11 +113,7 @@ number_in block = get_or block 166 0 * 256 + get_or block 167 0
 
 -- (13.3) the sector set: bit i is sector i
 abbrev pub sectors_in : List ℕ → ℕ
-sectors_in block = four_at block 168
-
--- (13.3) the tally: any bytes are counts
-abbrev pub tally_in : List ℕ → Tally
-tally_in block = record { counts = fours_at sector_room block 765 }
+sectors_in block = get_or block 168 0 * 16777216 + get_or block 169 0 * 65536 + get_or block 170 0 * 256 + get_or block 171 0
 
 -- (13.4) the operation that a block holds
 unfoldable pub decode_operation : List ℕ → Operation
@@ -140,7 +132,6 @@ decode_registers block =
       wp = flag (get_or block 162 0);
       deep = flag (get_or block 163 0);
       operation = decode_operation block;
-      tally = tally_in block;
     }
 
 -- (13.1) the chip that a block holds
@@ -152,16 +143,17 @@ decode_chip block =
 unfoldable pub head_bytes : Registers → Heading → List ℕ
 head_bytes r h =
     flag_byte r.used ∷ flag_byte r.protect ∷ flag_byte r.wp ∷ flag_byte r.deep ∷
-    h.tag ∷ h.buffer ∷ h.number / 256 % 256 ∷ h.number % 256 ∷ four_bytes h.sectors
+    h.tag ∷ h.buffer ∷ h.number / 256 % 256 ∷ h.number % 256 ∷
+    h.sectors / 16777216 % 256 ∷ h.sectors / 65536 % 256 ∷ h.sectors / 256 % 256 ∷ h.sectors % 256 ∷ []
 
--- (13.1) the block up to the buffers; the tally stands behind them
+-- (13.1) the block up to the buffers
 unfoldable pub encode_registers : Registers → List ℕ
 encode_registers r =
     r.protection ++ (r.lockdown ++ (r.user ++ (r.factory ++ (head_bytes r (head_of r.operation) ++ data_bytes r.operation))))
 
 -- (13.1) the whole block
 unfoldable pub encode_chip : Chip → List ℕ
-encode_chip c = encode_registers c.registers ++ (c.buffer1 ++ (c.buffer2 ++ (flag_byte c.compare ∷ fours_bytes c.registers.tally.counts)))
+encode_chip c = encode_registers c.registers ++ (c.buffer1 ++ (c.buffer2 ++ (flag_byte c.compare ∷ [])))
 
 -- ---- Aid: registers with these marks, to give the twelve bytes their four flags
 
@@ -177,5 +169,4 @@ flagged used protect wp deep =
       wp = wp;
       deep = deep;
       operation = Idle;
-      tally = unworn;
     }

@@ -1,17 +1,15 @@
--- Aid: the chip records that a block can hold: registers and buffers of their lengths, and an operation and counts that fit their bytes. No rule of the chip:
+-- Aid: the chip records that a block can hold: registers and buffers of their lengths, and an operation whose numbers fit their bytes. No rule of the chip:
 -- every block holds such a one, and the entry points leave such a one.
 -- Assumes nothing.
-use Rattle.std.specs.Prelude.{ℕ, ◌^◌, ◌<◌}
+use Rattle.std.specs.Prelude.{◌^◌, ◌<◌}
 use Rattle.registers.specs.declared.Data16.{Data16}
 use Rattle.registers.specs.declared.Data64.{Data64}
 use Rattle.registers.specs.declared.Named.{Named}
 use Rattle.registers.specs.declared.Named.TheVariants.{Nothing, Page, Block, Sector, Sectors}
 use Rattle.registers.specs.declared.Operation.{Operation}
-use Rattle.registers.specs.declared.Tally.{Tally}
 use Rattle.registers.specs.declared.Update.{Update}
 use Rattle.registers.specs.declared.Update.TheVariants.{Keep, FillProtection, MaskProtection, Lock, WriteUser}
 use Rattle.registers.specs.Facts.{facts_of, update_of}
-use Rattle.registers.specs.Tally.{count_at}
 use Rattle.state.specs.declared.Chip.{Chip}
 use Rattle.state.specs.Whole.{Whole}
 
@@ -49,11 +47,6 @@ Worded (WriteUser d) = Words64 d
 abbrev pub Fitting : Operation → Type 0
 Fitting o = Numbered (facts_of o).names × Worded (update_of o)
 
--- each count in four bytes
-abbrev pub Counts : Tally → Type 0
-Counts t = (s : ℕ) → count_at t s < 2 ^ 32
-
 pub record Holds (c : Chip) : Type 0 where
   pub whole : Whole c
   pub operation : Fitting c.registers.operation
-  pub counts : Counts c.registers.tally

@@ -1,14 +1,14 @@
-// The record block: 833 bytes that hold a chip record.
+// The record block: 765 bytes that hold a chip record.
 ghost use Rattle.std.specs.Prelude.{◌≡◌, ◌+◌, ◌≤◌, ◌<◌, length, take};
 ghost use Rattle.geometry.specs.Parts.{page_room};
 ghost use Rattle.registers.specs.Data.{pack16, pack64};
 ghost use Rattle.control.specs.Rulings.{marks_of};
-ghost use Rattle.blocks.specs.Block.{field, flag, beyond, number_in, sectors_in, tally_in, buffered_of, plain_of, decode_operation, decode_registers, decode_chip};
+ghost use Rattle.blocks.specs.Block.{field, flag, beyond, number_in, sectors_in, buffered_of, plain_of, decode_operation, decode_registers, decode_chip};
 ghost use Rattle.blocks.specs.Holds.{Holds};
 
 use commands::Buffer;
 use control::Marks;
-use registers::{Operation, Registers, Seals, Tally};
+use registers::{Operation, Registers, Seals};
 use state::Chip;
 
 // Tag, buffer, number and sector set of the operation under way, as the block holds them.
@@ -66,7 +66,7 @@ fn beyond() -> Operation
 }
 
 fn protection_operation(block: &[u8]) -> Operation
-    requires { length block.now ≡ 833 }
+    requires { length block.now ≡ 765 }
     ensures { result ≡ Operation.ProgramProtection (pack16 (take 16 (field 172 64 block.now))) }
 {
     let bytes = part16(block, 172);
@@ -76,7 +76,7 @@ fn protection_operation(block: &[u8]) -> Operation
 }
 
 fn security_operation(block: &[u8]) -> Operation
-    requires { length block.now ≡ 833 }
+    requires { length block.now ≡ 765 }
     ensures { result ≡ Operation.ProgramSecurity (pack64 (field 172 64 block.now)) }
 {
     let bytes = part64(block, 172);
@@ -86,10 +86,26 @@ fn security_operation(block: &[u8]) -> Operation
 }
 
 fn number(block: &[u8]) -> usize
-    requires { length block.now ≡ 833 }
+    requires { length block.now ≡ 765 }
     ensures { result ≡ number_in block.now }
 {
     numbers::wide(block[166]) * 256 + numbers::wide(block[167])
+}
+
+fn wide32(x: u8) -> u32
+    ensures { (result ≡ x) × (result < 256) }
+{
+    x as u32
+}
+
+fn sector_set(block: &[u8]) -> u32
+    requires { length block.now ≡ 765 }
+    ensures { result ≡ sectors_in block.now }
+{
+    wide32(block[168]) * 16777216
+        + wide32(block[169]) * 65536
+        + wide32(block[170]) * 256
+        + wide32(block[171])
 }
 
 // The operation of a tag that goes with a buffer.
@@ -123,7 +139,7 @@ fn buffered(tag: u8, buffer: Buffer, n: usize) -> Operation
 
 // The operation of a tag that goes with none.
 fn plain(block: &[u8], tag: u8, n: usize) -> Operation
-    requires { length block.now ≡ 833 }
+    requires { length block.now ≡ 765 }
     ensures { result ≡ plain_of tag n (sectors_in block.now) (field 172 64 block.now) }
 {
     match tag {
@@ -132,7 +148,7 @@ fn plain(block: &[u8], tag: u8, n: usize) -> Operation
         0x50 => Operation::EraseBlock { block: n },
         0x7C => Operation::EraseSector { sector: n },
         0xC7 => Operation::EraseChip {
-            sectors: slices::four_at(block, 168),
+            sectors: sector_set(block),
         },
         0xCF => Operation::EraseProtection,
         0xFC => protection_operation(block),
@@ -144,7 +160,7 @@ fn plain(block: &[u8], tag: u8, n: usize) -> Operation
 
 // The operation under way, by its tag and buffer.
 fn operation_in(block: &[u8]) -> Operation
-    requires { length block.now ≡ 833 }
+    requires { length block.now ≡ 765 }
     ensures { result ≡ decode_operation block.now }
 {
     let tag = block[164];
@@ -159,7 +175,7 @@ fn operation_in(block: &[u8]) -> Operation
 
 // The operation under way. Mostly there is none, so that is told first. Whatever the block's bytes are, it holds a chip.
 pub fn operation(block: &[u8]) -> Operation
-    requires { length block.now ≡ 833 }
+    requires { length block.now ≡ 765 }
     ensures { (result ≡ decode_operation block.now) × (Holds (decode_chip block.now)) }
 {
     if block[164] == 0 {
@@ -172,7 +188,7 @@ pub fn operation(block: &[u8]) -> Operation
 
 // What of the registers decides on a frame, with the operation under way.
 pub fn marks_at(block: &[u8], o: Operation) -> Marks
-    requires { (length block.now ≡ 833) × (o ≡ decode_operation block.now) }
+    requires { (length block.now ≡ 765) × (o ≡ decode_operation block.now) }
     ensures { result ≡ marks_of (decode_registers block.now) }
 {
     let seals = Seals {
@@ -189,22 +205,8 @@ pub fn marks_at(block: &[u8], o: Operation) -> Marks
     }
 }
 
-// The tally: 17 counts of four bytes each.
-pub fn tally(block: &[u8]) -> Tally
-    requires { length block.now ≡ 833 }
-    ensures { result ≡ tally_in block.now }
-{
-    let mut counts = [0u32; 17];
-    let mut i = 0;
-    while i < 17 {
-        counts[i] = slices::four_at(block, 765 + 4 * i);
-        i += 1;
-    }
-    Tally { counts: counts }
-}
-
 fn decode_registers(block: &[u8]) -> Registers
-    requires { length block.now ≡ 833 }
+    requires { length block.now ≡ 765 }
     ensures { result ≡ decode_registers block.now }
 {
     Registers {
@@ -217,13 +219,12 @@ fn decode_registers(block: &[u8]) -> Registers
         wp: is_set(block[162]),
         deep: is_set(block[163]),
         operation: operation(block),
-        tally: tally(block),
     }
 }
 
 // The chip that a block of any content holds.
 pub fn decode(block: &[u8]) -> Chip
-    requires { length block.now ≡ 833 }
+    requires { length block.now ≡ 765 }
     ensures { (result ≡ decode_chip block.now) × (Holds (decode_chip block.now)) }
 {
     Chip {

@@ -15,10 +15,10 @@ use state::Answer;
 
 // The call of a kind.
 pub fn call(
-    block: &mut [u8; 833],
+    block: &mut [u8; 765],
     array: &mut [u8],
     kind: Kind,
-    unit: usize,
+    slot: usize,
     limit: usize,
     detail: Detail,
     payload: &[u8],
@@ -27,13 +27,13 @@ pub fn call(
     junk: &[u8],
     log: &mut [u8],
 ) -> Done
-    ensures { Promise (Op.call (asking kind unit limit) detail script.now payload.now junk.now log.old buffer.old) block.old array.old result block.new array.new log.new buffer.new }
+    ensures { Promise (Op.call (asking kind slot limit) detail script.now payload.now junk.now log.old buffer.old) block.old array.old result block.new array.new log.new buffer.new }
 {
     let o = blocks::operation(block);
     let p = registers::place(array.len(), o);
     match p {
         Part::Known(g) => call_in(
-            g, block, array, kind, unit, limit, detail, payload, buffer, script, junk, log,
+            g, block, array, kind, slot, limit, detail, payload, buffer, script, junk, log,
         ),
         Part::Unknown => endings::refuse(Answer::Part),
     }
@@ -42,10 +42,10 @@ pub fn call(
 // A call on a known part: the tests, the run, and what comes behind it.
 fn call_in(
     g: Geometry,
-    block: &mut [u8; 833],
+    block: &mut [u8; 765],
     array: &mut [u8],
     kind: Kind,
-    unit: usize,
+    slot: usize,
     limit: usize,
     detail: Detail,
     payload: &[u8],
@@ -55,13 +55,13 @@ fn call_in(
     log: &mut [u8],
 ) -> Done
     requires { part_in (held_in block.old array.old) ≡ Part.Known g }
-    ensures { Promise (Op.call (asking kind unit limit) detail script.now payload.now junk.now log.old buffer.old) block.old array.old result block.new array.new log.new buffer.new }
+    ensures { Promise (Op.call (asking kind slot limit) detail script.now payload.now junk.now log.old buffer.old) block.old array.old result block.new array.new log.new buffer.new }
 {
     let a = refusals::call_refusal(
         g,
         array.len(),
         kind,
-        unit,
+        slot,
         limit,
         detail,
         payload.len(),
@@ -76,7 +76,7 @@ fn call_in(
     let d = starts::start(
         array.len(),
         kind,
-        unit,
+        slot,
         limit,
         detail,
         payload.len(),
@@ -89,7 +89,7 @@ fn call_in(
 fn run(
     g: Geometry,
     d: Driver,
-    block: &mut [u8; 833],
+    block: &mut [u8; 765],
     array: &mut [u8],
     payload: &[u8],
     buffer: &mut [u8],
@@ -112,7 +112,6 @@ fn run(
     let a = endings::answer(e);
     let n = endings::deliver(kind, a, &staged, buffer);
     endings::lose(g, e, block, array, junk);
-    endings::settle(kind, d.unit, a, block);
     Done {
         answer: a,
         frames: e.frames,

@@ -1,9 +1,9 @@
-// The calls on the chip that go by a plan (docs/SPECIFICATION.md, 10 to 12): put, patch, get, wipe and refresh. None has a `requires`: bad input is refused, and a refusal
+// The calls on the chip that go by a plan (docs/SPECIFICATION.md, 10 to 12): put, patch, get and wipe. None has a `requires`: bad input is refused, and a refusal
 // changes nothing. Each works on the chip in its record block, in place, and takes the array as a lent slice; a script with a byte for
-// each frame, the junk that a cut takes, and a log for six bytes a frame. All take a slot, a refresh a sector, and the poll limit.
+// each frame, the junk that a cut takes, and a log for six bytes a frame. All take a slot and the poll limit.
 ghost use Rattle.std.specs.Prelude.{◌≡◌, []};
 ghost use Rattle.state.specs.Answers.{number_of};
-ghost use Rattle.slots.specs.Lists.{put, patch, get, wipe, refresh};
+ghost use Rattle.slots.specs.Lists.{put, patch, get, wipe};
 ghost use Rattle.runs.specs.Promises.{counts_of, Promise};
 
 use dates::{Date, Term};
@@ -13,7 +13,7 @@ use state::Answer;
 
 // The recipe is stored in the slot with its term.
 pub fn put(
-    block: &mut [u8; 833],
+    block: &mut [u8; 765],
     array: &mut [u8],
     slot: usize,
     limit: usize,
@@ -43,7 +43,7 @@ pub fn put(
 
 // The bytes are put at a place of the stored recipe, counted from its first byte.
 pub fn patch(
-    block: &mut [u8; 833],
+    block: &mut [u8; 765],
     array: &mut [u8],
     slot: usize,
     limit: usize,
@@ -73,7 +73,7 @@ pub fn patch(
 
 // The recipe goes to the lent buffer, and its length to the result, if today is inside its term.
 pub fn get(
-    block: &mut [u8; 833],
+    block: &mut [u8; 765],
     array: &mut [u8],
     slot: usize,
     limit: usize,
@@ -102,7 +102,7 @@ pub fn get(
 
 // The slot is erased.
 pub fn wipe(
-    block: &mut [u8; 833],
+    block: &mut [u8; 765],
     array: &mut [u8],
     slot: usize,
     limit: usize,
@@ -118,34 +118,6 @@ pub fn wipe(
         array,
         Kind::Wipe,
         slot,
-        limit,
-        starts::untold(),
-        &junk[..0],
-        &mut none[..0],
-        script,
-        junk,
-        log,
-    )
-}
-
-// Every page of the sector is rewritten, lowest first, and its counter is set to 0 if all went well.
-pub fn refresh(
-    block: &mut [u8; 833],
-    array: &mut [u8],
-    sector: usize,
-    limit: usize,
-    script: &[u8],
-    junk: &[u8],
-    log: &mut [u8],
-) -> Done
-    ensures { Promise (refresh sector limit script.now junk.now log.old) block.old array.old result block.new array.new log.new [] }
-{
-    let mut none = [0u8; 1];
-    callings::call(
-        block,
-        array,
-        Kind::Refresh,
-        sector,
         limit,
         starts::untold(),
         &junk[..0],

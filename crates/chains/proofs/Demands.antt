@@ -1,21 +1,17 @@
--- THE THREE DEMANDS OVER WHAT IS COMPILED, and what is proved of refresh and tally: lists of calls of the C functions, each as its promise says. What a caller has after each is the outcome of its
+-- THE THREE DEMANDS OVER WHAT IS COMPILED: lists of calls of the C functions, each as its promise says. What a caller has after each is the outcome of its
 -- definition, and the state is the one that block and array hold; so the theorems of crate slots say it of the C functions.
 -- Assumes nothing.
-use Prim.Native.Nat.{ℕ, ◌+◌, ◌*◌, ◌^◌, ◌<◌, ◌≤◌, min}
+use Prim.Native.Nat.{ℕ, ◌≤◌}
 use native.Mathlib.Omega.{arith}
 use mathlib.Core.Path.{◌≡◌, refl, sym, ap, subst, ◌∙◌}
 use mathlib.Core.Bool.{Bool, true, false, ◌&&◌, ◌||◌, or-true}
 use mathlib.Core.List.{List, [], ◌∷◌}
 use mathlib.Core.Logic.{◌⊎◌, inl, inr}
-use lib.ListN.{length, get_or, take}
+use lib.ListN.{length, take}
 use lib.Dec.{eqb, leb}
 use borrow.Author.Tests.{le-leb, eq-eqb, ne_eqb}
 use Rattle.slices.specs.Lists.{over}
-use Rattle.slices.specs.Words.{four_at}
-use Rattle.slices.proofs.Fours.{four_small}
-use Rattle.slices.proofs.Laws.{get_or-tabulate, over_nil}
-use Rattle.geometry.specs.Parts.{sector_room}
-use Rattle.registers.specs.Tally.{count_at, count_most}
+use Rattle.slices.proofs.Laws.{over_nil}
 use Rattle.dates.specs.declared.Date.{Date}
 use Rattle.dates.specs.declared.Term.{Term}
 use Rattle.dates.specs.Calendar.{day_of}
@@ -24,17 +20,15 @@ use Rattle.state.specs.declared.Answer.TheVariants as Answers
 use Rattle.state.specs.Answers.{number_of}
 use Rattle.state.specs.Memory.{State, chip_in}
 use Rattle.state.specs.Outcomes.{Left, pin_outcome}
-use Rattle.blocks.specs.Block.{decode_registers, decode_chip, encode_chip}
+use Rattle.blocks.specs.Block.{encode_chip}
 use Rattle.blocks.specs.Promises.{held_in, stored_by, Met}
 use Rattle.blocks.proofs.Decoded.{whole_decode}
 use Rattle.slots.specs.Calls.{Out}
-use Rattle.slots.specs.declared.Kind.TheVariants.{Refresh}
-use Rattle.slots.specs.Details.{period_of, untold}
+use Rattle.slots.specs.Details.{period_of}
 use Rattle.slots.specs.Records.{is_within}
-use Rattle.slots.specs.Lists.{Op, call, raw, straight, pin, busy_end, cut, asking, put, get, refresh, out_of, next_of, run_list, left_by, bound_of, is_refusal, log_of, NoMiscompare}
+use Rattle.slots.specs.Lists.{Op, call, raw, straight, pin, busy_end, cut, put, get, out_of, next_of, run_list, left_by, bound_of, is_refusal, log_of, NoMiscompare}
 use Rattle.slots.specs.Alike.{Twins, AlikeLists, Soft, FromData, Same, AllSame}
-use Rattle.slots.specs.Quiet.{QuietIn, ArrayKept, Refuses, Delivers, Returns}
-use Rattle.slots.specs.Wear.{since, resets}
+use Rattle.slots.specs.Quiet.{QuietIn, Refuses, Delivers, Returns}
 use Rattle.slots.proofs.Places.{never}
 use Rattle.slots.proofs.Accepted.{picked}
 use Rattle.slots.proofs.Driven.{other}
@@ -43,12 +37,10 @@ use Rattle.slots.proofs.Never.{never_miscompares}
 use Rattle.slots.proofs.TwoRuns.{two_runs}
 use Rattle.slots.proofs.Refused.{in_table, refusals}
 use Rattle.slots.proofs.ReadBack.{read_back}
-use Rattle.slots.proofs.Refreshes.{refresh_keeps}
-use Rattle.slots.proofs.Tallied.{tally_right, never_lowered}
 use Rattle.driver_blocks.specs.Block.{answer_at}
 use Rattle.driver_blocks.proofs.RoundTrip.{answer_back}
 use Rattle.runs.specs.Promises.{kept_in}
-use Rattle.chains.specs.Chains.{Seen, Does, Chain, last_in, frames_in, polls_in, SoftNumber, SameSeen, AllSeen, NoneMiscompares, DataNumber, DeliversIn, ReturnsIn, told_count, RefusalNumber, Refused}
+use Rattle.chains.specs.Chains.{Seen, Does, Chain, last_in, frames_in, polls_in, SoftNumber, SameSeen, AllSeen, NoneMiscompares, DataNumber, DeliversIn, ReturnsIn, RefusalNumber, Refused}
 use Rattle.chains.proofs.Seen.{Shows, shows}
 
 -- ---- demand 3
@@ -99,7 +91,7 @@ all_seen (o ∷ os) (u ∷ us) held xs kept ys (z ∷ zs) (w ∷ ws) c d e =
 
 -- TWO RUNS: two blocks that read as chips alike in registers, arrays of one length, arguments alike: then the written part of each log, frames, polls and
 -- answers agree
-pub two_runs_called : (os us : List Op) (held xs kept ys : List ℕ) (zs ws : List Seen) → length held ≡ 833 → length kept ≡ 833 → Chain held xs os zs → Chain kept ys us ws
+pub two_runs_called : (os us : List Op) (held xs kept ys : List ℕ) (zs ws : List Seen) → length held ≡ 765 → length kept ≡ 765 → Chain held xs os zs → Chain kept ys us ws
     → Twins (held_in held xs) (held_in kept ys) → AlikeLists os us (held_in held xs) (held_in kept ys) → AllSeen zs ws
 two_runs_called os us held xs kept ys zs ws l m c d t a =
     all_seen os us held xs kept ys zs ws c d (two_runs os us (held_in held xs) (held_in kept ys) (whole_decode held l) (whole_decode kept m) t a)
@@ -122,7 +114,7 @@ none_seen (o ∷ os) held xs (z ∷ zs) c n =
     )
 
 -- NEVER 16: no call of a list of C functions on a chip that is held answers it
-pub never_called : (os : List Op) (held xs : List ℕ) (zs : List Seen) → length held ≡ 833 → Chain held xs os zs → NoneMiscompares zs
+pub never_called : (os : List Op) (held xs : List ℕ) (zs : List Seen) → length held ≡ 765 → Chain held xs os zs → NoneMiscompares zs
 never_called os held xs zs l c = none_seen os held xs zs c (never_miscompares os (held_in held xs) (whole_decode held l))
 
 -- ---- demand 2
@@ -168,7 +160,7 @@ returns_in term today recipe buffer z a (inr h) = inr (delivers_in (is_within (p
 
 -- READ BACK: a put, with a term or without, that answered 0, then any list of calls and events none of whose frames programs or erases in its slot, then a
 -- get of it on any day
-pub read_back_called : (slot limit : ℕ) (term : Term) (script recipe junk log held xs : List ℕ) (z : Seen) → length held ≡ 833
+pub read_back_called : (slot limit : ℕ) (term : Term) (script recipe junk log held xs : List ℕ) (z : Seen) → length held ≡ 765
     → Does (put slot limit term script recipe junk log) held xs z → z.number ≡ 0
     → (os : List Op) (zs : List Seen) → Chain z.block z.array os zs → QuietIn slot os (held_in z.block z.array)
     → (limit' : ℕ) (today : Date) (script' junk' log' buffer : List ℕ) (y : Seen)
@@ -184,45 +176,10 @@ read_back_called slot limit term script recipe junk log held xs z l w n os zs c 
     (subst (λ (u : State). Returns (period_of term) (day_of today) recipe buffer (out_of o u)) (sym t)
     (read_back slot limit term script recipe junk log s (whole_decode held l) e os (subst (QuietIn slot os) a.holds q) limit' today script' junk' log' buffer))
 
--- ---- refresh and tally
-
--- a refresh that does not answer 11 leaves the array as it was, or as the end of what was under way before it has left it
-pub refresh_called : (sector limit : ℕ) (script junk log held xs : List ℕ) (z : Seen) → Does (refresh sector limit script junk log) held xs z → (z.number ≡ 11 → ⊥)
-    → ArrayKept (held_in held xs) (held_in z.block z.array)
-unfolding number_of
-refresh_called sector limit script junk log held xs z d f =
-    let s = held_in held xs in
-    let o = refresh sector limit script junk log in
-    let a = shows o held xs z d in
-    subst (ArrayKept s) (sym a.holds) (refresh_keeps (asking Refresh sector limit) untold script [] junk log [] s refl (λ e. f (a.number ∙ ap number_of e)))
-
--- counts of bytes are at most the most
-count-few : (block : List ℕ) (k : ℕ) → ((i : ℕ) → get_or block i 0 < 256) → k < sector_room → told_count block k ≤ count_most
-count-few block k h l =
-    let small : four_at block (765 + 4 * k) < 2 ^ 32 = four_small block (765 + 4 * k) (λ i _. h (765 + 4 * k + i)) in
-    omega (arith, small, get_or-tabulate sector_room (λ i. four_at block (765 + 4 * i)) k 0 l)
-
--- THE TALLY IS RIGHT: what slipknoll_tally tells after a list is what it told before, and what the operations that ended have written since the last refresh of the
--- sector that answered 0, stopped at the most
-pub tally_called : (z : Seen) (os : List Op) (zs : List Seen) (k : ℕ) → length z.block ≡ 833 → ((i : ℕ) → get_or z.block i 0 < 256)
-    → Chain z.block z.array os zs → k < sector_room
-    → told_count (last_in z zs).block k ≡ min (since k os (held_in z.block z.array) (told_count z.block k)) count_most
-unfolding decode_chip decode_registers
-tally_called z os zs k l h c few =
-    ap (λ (s : State). count_at s.registers.tally k) (left-held os z zs c)
-    ∙ tally_right os (held_in z.block z.array) k (whole_decode z.block l) few (count-few z.block k h few)
-
--- and no call or event but such a refresh lowers what it tells
-pub never_lowered_called : (o : Op) (held xs : List ℕ) (z : Seen) (k : ℕ) → length held ≡ 833 → Does o held xs z → k < sector_room → resets k o (held_in held xs) ≡ false
-    → told_count held k ≤ told_count z.block k
-unfolding decode_chip decode_registers
-never_lowered_called o held xs z k l d few e =
-    subst (λ (s : State). told_count held k ≤ count_at s.registers.tally k) (sym (shows o held xs z d).holds) (never_lowered o (held_in held xs) k (whole_decode held l) few e)
-
 -- ---- demand 1
 
 -- every answer is a number of the table, and no call sends more frames than its bound
-pub in_table_called : (o : Op) (held xs : List ℕ) (z : Seen) → Does o held xs z → (z.number ≤ 16) × (frames_in z ≤ bound_of o (held_in held xs)) × (polls_in z ≤ frames_in z)
+pub in_table_called : (o : Op) (held xs : List ℕ) (z : Seen) → Does o held xs z → (z.number ≤ 16) × (frames_in z ≤ bound_of o) × (polls_in z ≤ frames_in z)
 in_table_called o held xs z d =
     let a = shows o held xs z d in
     let w = within-bound o (held_in held xs) in

@@ -40,7 +40,6 @@ use Rattle.worlds.specs.Turns.{holding_of, step_in}
 use Rattle.worlds.specs.Start.{start_driver}
 use Rattle.worlds.specs.Step.{stage_by, stage_in, frame_by, frame_in, poll_in, took_in, staged_in, told_in}
 use Rattle.worlds.specs.Chains as W
-use Rattle.worlds.specs.Chains.{most_by, most_in}
 use Rattle.worlds.proofs.Sane.{ended_off, going-facts}
 use Rattle.worlds.proofs.Shapes.{shape_some}
 use Rattle.worlds.proofs.Chains.{any_world_called, any_state-ends, miscompares_called}
@@ -180,7 +179,7 @@ start-reads array a t payload lent staged f =
 -- ANY WORLD, over the driver's C functions: one call on one part, with any two recipes, patches, places, terms or dates of which 5 and 14 are alike, and any
 -- two sequences of replies that agree in what is heard
 pub any_world_blocks : (n : ℕ) (g : Geometry) (array : ℕ) (a : Asked) (t there : Detail) (lent room : ℕ) (payload other staged bytes : List ℕ)
-    (replies others : ℕ → List ℕ) → part_of array ≡ Known g → array < 2 ^ 64 → a.unit < 2 ^ 64 → a.limit < 2 ^ 64 → t.place < 2 ^ 64 → there.place < 2 ^ 64
+    (replies others : ℕ → List ℕ) → part_of array ≡ Known g → array < 2 ^ 64 → a.slot < 2 ^ 64 → a.limit < 2 ^ 64 → t.place < 2 ^ 64 → there.place < 2 ^ 64
     → flaws_in a.kind g t (length payload) lent ≡ flaws_in a.kind g there (length other) room
     → Agree n g payload replies others (begun (encode_driver (start_driver array a t (length payload) lent)) staged)
     → Same (chain n payload replies (begun (encode_driver (start_driver array a t (length payload) lent)) staged))
@@ -233,31 +232,29 @@ exactly_number es a m = record { only = λ e. m.only (sym (answer_back a) ∙ ap
 
 -- EXACTLY 16, over the driver's C functions: a call on a part, whatever it is told and lent, and any sequence of replies
 pub miscompares_blocks : (g : Geometry) (array : ℕ) (a : Asked) (t : Detail) (lent : ℕ) (payload staged : List ℕ) (replies : ℕ → List ℕ)
-    → part_of array ≡ Known g → array < 2 ^ 64 → a.unit < 2 ^ 64 → a.limit < 2 ^ 64 → t.place < 2 ^ 64
-    → ExactlyTold (exchanged (stated a.kind g a.unit a.limit) payload replies (begun (encode_driver (start_driver array a t (length payload) lent)) staged))
-    (told_of (chain (stated a.kind g a.unit a.limit) payload replies (begun (encode_driver (start_driver array a t (length payload) lent)) staged)))
-unfolding told_in told_number start_driver most_by
+    → part_of array ≡ Known g → array < 2 ^ 64 → a.slot < 2 ^ 64 → a.limit < 2 ^ 64 → t.place < 2 ^ 64
+    → ExactlyTold (exchanged (stated a.kind a.limit) payload replies (begun (encode_driver (start_driver array a t (length payload) lent)) staged))
+    (told_of (chain (stated a.kind a.limit) payload replies (begun (encode_driver (start_driver array a t (length payload) lent)) staged)))
+unfolding told_in told_number start_driver
 miscompares_blocks g array a t lent payload staged replies p na ns nl np =
     let d = start_driver array a t (length payload) lent in
-    let n = stated a.kind g a.unit a.limit in
-    let ends : is_ended (stage_in (W.chain n payload replies (W.begun d staged)).driver) ≡ true =
-    subst (λ (m : ℕ). is_ended (stage_in (W.chain m payload replies (W.begun d staged)).driver) ≡ true) (ap (λ (q : Part). most_by q d) p) (any_state-ends d payload staged replies) in
+    let n = stated a.kind a.limit in
     let z = W.chain n payload replies (W.begun d staged) in
     let f = fits-start array a t (length payload) lent na ns nl np in
     let s = start-reads array a t (length payload) lent staged f in
     let r = chain-reads payload replies n (begun (encode_driver d) staged) (W.begun d staged) s f in
     subst (λ (es : List Exchange). ExactlyTold es (told_of (chain n payload replies (begun (encode_driver d) staged)))) (sym (exchanged-reads payload replies n (begun (encode_driver d) staged) (W.begun d staged) s f))
     (subst (λ (k : Driver). ExactlyTold (W.exchanged n payload replies (W.begun d staged)) (told_number (told_in k))) (sym r.block)
-    (told-answer (stage_in z.driver) z.driver.verdict ends (λ k. ExactlyTold (W.exchanged n payload replies (W.begun d staged)) (told_number k))
+    (told-answer (stage_in z.driver) z.driver.verdict (any_state-ends d payload staged replies) (λ k. ExactlyTold (W.exchanged n payload replies (W.begun d staged)) (told_number k))
     (λ x e. exactly_number (W.exchanged n payload replies (W.begun d staged)) x
-    (subst (λ (m : ℕ). told_in (W.chain m payload replies (W.begun d staged)).driver ≡ Answered x → MiscompareExactly (W.exchanged m payload replies (W.begun d staged)) x) (bounds a.kind g a.unit a.limit)
+    (subst (λ (m : ℕ). told_in (W.chain m payload replies (W.begun d staged)).driver ≡ Answered x → MiscompareExactly (W.exchanged m payload replies (W.begun d staged)) x) (bounds a.kind g a.slot a.limit)
     (miscompares_called g array a t lent payload staged replies p x) e))))
 
 -- EVERY BLOCK ENDS: any 72 bytes are a state that comes to an end within the bound of its call, whatever comes back
 pub any_block-ends : (block payload staged : List ℕ) (replies : ℕ → List ℕ) → ((k : ℕ) → k < length block → get_or block k 0 < 256)
-    → sends payload (chain (most_in (decode_driver block)) payload replies (begun block staged)) ≡ []
+    → sends payload (chain (stated (decode_driver block).kind (decode_driver block).limit) payload replies (begun block staged)) ≡ []
 any_block-ends block payload staged replies bytes =
     let d = decode_driver block in
-    let n = most_in d in
+    let n = stated d.kind d.limit in
     let r = chain-reads payload replies n (begun block staged) (W.begun d staged) (record { block = refl; staged = refl; lines = refl; frames = refl; polls = refl }) (fits_decode block bytes) in
     (λ i. frame_in (r.block i) payload (r.staged i)) ∙ frame-ended (W.chain n payload replies (W.begun d staged)).driver payload (W.chain n payload replies (W.begun d staged)).staged (any_state-ends d payload staged replies)

@@ -21,7 +21,7 @@ use Rattle.slots.specs.Plans.{Asked, stated, bound}
 use Rattle.slots.specs.Driver.{is_ended}
 use Rattle.slots.specs.Refusals.{raw_refusal}
 use Rattle.slots.specs.Calls.{Out, Request, Secret, Open, Closed, refused, outline, sends, open_after, step_open, step_closed, run, refusal_of, start_open, start_closed, ran, out_from, call_out, raw_sent, raw_out}
-use Rattle.slots.specs.Lists.{Op, call, raw, straight, pin, busy_end, cut, asks, secret, call_by, raw_by, out_of, bound_by, log_of}
+use Rattle.slots.specs.Lists.{Op, call, raw, straight, pin, busy_end, cut, asks, secret, call_by, raw_by, out_of, bound_of, log_of}
 use Rattle.slots.proofs.Parts.{cases}
 use Rattle.slots.proofs.Counts.{bounds}
 use Rattle.slots.proofs.Accepted.{picked, accepted}
@@ -62,7 +62,7 @@ none-fits log o e f = record { six = ap length e ∙ omega (arith, f); room = om
 
 call_fits : (g : Geometry) (a : Asked) (detail : Detail) (script payload junk log lent : List ℕ) (s : State) → part_in s ≡ Known g
     → Fits (length log) (call_out g (asks g a detail script payload junk log lent) (secret payload detail junk lent) s)
-unfolding call_out out_from out_of call_by bound_by
+unfolding call_out out_from out_of call_by bound_of
 call_fits g a detail script payload junk log lent s p = go (eqb (number_of (refusal_of g n v)) 0) refl
   where
     n : ℕ
@@ -74,15 +74,15 @@ call_fits g a detail script payload junk log lent s p = go (eqb (number_of (refu
     x : Secret
     x = secret payload detail junk lent
 
-    few : (call_out g v x s).frames ≤ stated a.kind g a.unit a.limit
+    few : (call_out g v x s).frames ≤ stated a.kind a.limit
     few =
-        subst (λ (q : Part). (call_by q a detail script payload junk log lent s).frames ≤ bound_by q (call a detail script payload junk log lent)) p
+        subst (λ (q : Part). (call_by q a detail script payload junk log lent s).frames ≤ stated a.kind a.limit) p
         (within-bound (call a detail script payload junk log lent) s).frames
 
     go : (b : Bool) → eqb (number_of (refusal_of g n v)) 0 ≡ b → Fits (length log) (call_out g v x s)
     go true e =
         let w = accepted g n v e in
-        record { six = ran_six g v x s; room = omega (arith, few, w.lent.room, bounds a.kind g a.unit a.limit) }
+        record { six = ran_six g v x s; room = omega (arith, few, w.lent.room, bounds a.kind g a.slot a.limit) }
     go false e =
         let w = refused-call g v x s e in
         none-fits (length log) (call_out g v x s) (ap (λ (o : Out). o.lines) w.out) (ap (λ (o : Out). o.frames) w.out)

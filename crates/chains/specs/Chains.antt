@@ -6,8 +6,6 @@ use Rattle.dates.specs.declared.Date.{Date}
 use Rattle.dates.specs.declared.Term.{Term}
 use Rattle.dates.specs.Calendar.{day_of}
 use Rattle.state.specs.Outcomes.{send_outcome, end_outcome, cut_outcome}
-use Rattle.registers.specs.Tally.{count_at}
-use Rattle.blocks.specs.Block.{tally_in}
 use Rattle.blocks.specs.Promises.{held_in, Met, MetPin}
 use Rattle.slots.specs.Details.{period_of}
 use Rattle.slots.specs.Records.{is_within}
@@ -29,7 +27,7 @@ abbrev pub Bare : Seen → Type 0
 Bare z = (z.log ≡ []) × (z.counts ≡ [])
 
 -- (14.4) the promise of the function that is called: slipknoll_put (a put without a term), _put_term (one between its two dates), _patch, _get (on its date),
--- _wipe, _refresh, _raw, _send, _move_pin, _end_busy, _cut
+-- _wipe, _raw, _send, _move_pin, _end_busy, _cut
 abbrev pub Does : Op → (held xs : List ℕ) → Seen → Type 0
 Does (call a detail script payload junk log lent) held xs z =
     Called (call a detail script payload junk log lent) held xs z.number z.block z.array z.log z.counts z.lent
@@ -109,12 +107,6 @@ abbrev pub ReturnsIn : Term → Date → (recipe buffer : List ℕ) → Seen →
 ReturnsIn term today recipe buffer z =
     ((((1 ≤ z.number) × (z.number ≤ 9)) ⊎ (z.number ≡ 14)) ⊎ (z.number ≡ 11))
     ⊎ DeliversIn (is_within (period_of term) (day_of today)) recipe buffer z
-
--- ---- the tally
-
--- (14.34) what slipknoll_tally tells of a sector
-abbrev pub told_count : (block : List ℕ) (sector : ℕ) → ℕ
-told_count block sector = count_at (tally_in block) sector
 
 -- ---- demand 1: as a refusal leaves it
 

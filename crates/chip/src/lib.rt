@@ -6,14 +6,13 @@ ghost use Rattle.state.specs.Memory.{state_of};
 ghost use Rattle.state.specs.Outcomes.{Leaves, fresh_outcome, send_outcome, end_outcome, pin_outcome, cut_outcome};
 
 use geometry::Part;
-use registers::{Operation, Registers, Tally};
+use registers::{Operation, Registers};
 use state::{Answer, Chip, Outcome};
 
 // A fresh chip with these factory bytes; the array becomes FFh. Answer 1 for an array of another length, which keeps its bytes.
 pub fn fresh(factory: [u8; 64], array: &mut [u8]) -> Outcome
     ensures { Leaves (fresh_outcome factory array.old) result array.new [] }
 {
-    let tally = Tally { counts: [0u32; 17] };
     let registers = Registers {
         protection: [0u8; 16],
         lockdown: [0u8; 16],
@@ -24,7 +23,6 @@ pub fn fresh(factory: [u8; 64], array: &mut [u8]) -> Outcome
         wp: true,
         deep: false,
         operation: Operation::Idle,
-        tally: tally,
     };
     let chip = Chip {
         registers: registers,

@@ -7,7 +7,7 @@ use native.Mathlib.Omega.{arith}
 use lib.ListN.{length}
 use lib.Dec.{lit<}
 use Rattle.commands.specs.declared.Buffer.TheVariants.{One}
-use Rattle.commands.specs.declared.Effect.TheVariants.{ReadPage, WriteBuffer, Program, EraseBlock, Compare, Rewrite, ReadProtection, ReadLockdown, ReadStatus}
+use Rattle.commands.specs.declared.Effect.TheVariants.{ReadPage, WriteBuffer, Program, EraseBlock, Compare, ReadProtection, ReadLockdown, ReadStatus}
 use Rattle.commands.specs.declared.Found.TheVariants.{Row}
 use Rattle.commands.specs.Table.{commands, row_at}
 use Rattle.commands.specs.Decode.{unlisted, opened, decode_of}
@@ -64,10 +64,6 @@ decode_erase a b c t = decode_row 16 (a ∷ b ∷ c ∷ t) (lit< tt) (four (leng
 pub decode_compare : (a b c : ℕ) (t : List ℕ) → decode_of (0x60 ∷ a ∷ b ∷ c ∷ t) ≡ record { lead = 4; effect = Compare One }
 unfolding row_at commands
 decode_compare a b c t = decode_row 20 (a ∷ b ∷ c ∷ t) (lit< tt) (four (length t))
-
-pub decode_rewrite : (a b c : ℕ) (t : List ℕ) → decode_of (0x58 ∷ a ∷ b ∷ c ∷ t) ≡ record { lead = 4; effect = Rewrite One }
-unfolding row_at commands
-decode_rewrite a b c t = decode_row 22 (a ∷ b ∷ c ∷ t) (lit< tt) (four (length t))
 
 pub decode_page : (a b c d e f g : ℕ) (t : List ℕ)
     → decode_of (0xD2 ∷ a ∷ b ∷ c ∷ d ∷ e ∷ f ∷ g ∷ t) ≡ record { lead = 8; effect = ReadPage }

@@ -1,5 +1,4 @@
--- Busy ends and cuts: both leave an idle chip, and a tally that has counted what was under way; a busy end of an idle chip changes nothing; the registers keep
--- their lengths.
+-- Busy ends and cuts: both leave an idle chip; a busy end of an idle chip changes nothing; the registers keep their lengths.
 -- Assumes nothing.
 use mathlib.Core.Path.{◌≡◌, refl, sym, ◌∙◌, ap}
 use mathlib.Core.Bool.{Bool, true, false, cond}
@@ -11,23 +10,17 @@ use Rattle.slices.specs.Lists.{over, and_over}
 use Rattle.slices.proofs.Laws.{length_over, length-and_over}
 use Rattle.geometry.specs.declared.Geometry.{Geometry}
 use Rattle.geometry.specs.Parts.{register_room}
-use Rattle.registers.specs.declared.Named.TheVariants.{Nothing}
-use Rattle.registers.specs.declared.Operation.{Operation}
-use Rattle.registers.specs.declared.Operation.TheVariants.{Idle}
+use Rattle.commands.specs.declared.Buffer.{Buffer}
+use Rattle.registers.specs.declared.Operation.TheVariants.{Idle, Program, EraseBlock}
 use Rattle.registers.specs.declared.Registers.{Registers}
-use Rattle.registers.specs.declared.Tally.{Tally}
 use Rattle.registers.specs.declared.Update.{Update}
 use Rattle.registers.specs.declared.Update.TheVariants.{Keep, FillProtection, MaskProtection, Lock, WriteUser}
 use Rattle.registers.specs.Data.{bytes16, bytes64}
 use Rattle.registers.specs.Facts.{update_of}
-use Rattle.registers.specs.Fields.{with_protection, with_lockdown, with_user, with_operation, with_tally}
-use Rattle.registers.specs.Operations.{target_of, written_in}
+use Rattle.registers.specs.Fields.{with_protection, with_lockdown, with_user, with_operation}
 use Rattle.registers.specs.Protection.{locked_bytes}
-use Rattle.registers.specs.Tally.{tallied, worn}
 use Rattle.registers.proofs.Data.{length-bytes64}
 use Rattle.registers.proofs.Protection.{length-locked}
-use Rattle.registers.proofs.Counters.{length-raised, raised-nothing}
-use Rattle.registers.proofs.Wear.{written-nothing}
 use Rattle.control.specs.Completion.{updated, completed_by, completed}
 use Rattle.control.specs.PowerLoss.{spoilt, lost_by, lost}
 use Rattle.control.specs.Starts.{Ready, Lengths}
@@ -42,19 +35,21 @@ pub lost-operation : (g : Geometry) (r : Registers) (w : List ℕ) → (lost g r
 unfolding lost
 lost-operation g r w = refl
 
--- the busy end of an operation that keeps the registers, but for the tally
-pub completed-keep : (g : Geometry) (r : Registers) → update_of r.operation ≡ Keep → completed g r ≡ with_operation (worn g r.operation r) Idle
+-- the busy end of an operation that keeps the registers
+pub completed_keep : (g : Geometry) (r : Registers) → update_of r.operation ≡ Keep → completed g r ≡ with_operation r Idle
 unfolding completed completed_by
-completed-keep g r e = λ i. with_operation (worn g r.operation (updated g (e i) r)) Idle
-
--- an operation that writes nothing leaves the tally
-pub worn-nothing : (g : Geometry) (o : Operation) (r : Registers) → target_of o ≡ Nothing → worn g o r ≡ r
-worn-nothing g o r e = λ i. with_tally r (raised-nothing (written_in g o) r.tally (written-nothing g o e) i)
+completed_keep g r e = λ i. with_operation (updated g (e i) r) Idle
 
 -- in an idle chip a busy end keeps the registers
 pub completed_idle : (g : Geometry) (r : Registers) → r.operation ≡ Idle → completed g r ≡ r
-completed_idle g r e =
-    completed-keep g r (ap update_of e) ∙ (λ i. with_operation (worn-nothing g r.operation r (ap target_of e) i) Idle) ∙ (λ i. with_operation r (sym e i))
+completed_idle g r e = completed_keep g r (ap update_of e) ∙ (λ i. with_operation r (sym e i))
+
+-- a page's program, a block's erase
+pub completed_program : (g : Geometry) (r : Registers) (b : Buffer) (page : ℕ) → r.operation ≡ Program b page → completed g r ≡ with_operation r Idle
+completed_program g r b page e = completed_keep g r (ap update_of e)
+
+pub completed-block : (g : Geometry) (r : Registers) (block : ℕ) → r.operation ≡ EraseBlock block → completed g r ≡ with_operation r Idle
+completed-block g r block e = completed_keep g r (ap update_of e)
 
 -- ---- what an update may do to the registers, once: it sets the bytes of one of them
 
@@ -67,20 +62,19 @@ pub record Spares (r n : Registers) : Type 0 where
   pub protection : length r.protection ≡ register_room → length n.protection ≡ register_room
   pub lockdown : length n.lockdown ≡ length r.lockdown
   pub user : length r.user ≡ 64 → length n.user ≡ 64
-  pub tally : n.tally ≡ r.tally
 
 module _ (g : Geometry) (r : Registers) where
   same : Spares r r
-  same = record { factory = refl; protect = refl; wp = refl; deep = refl; protection = λ l. l; lockdown = refl; user = λ l. l; tally = refl }
+  same = record { factory = refl; protect = refl; wp = refl; deep = refl; protection = λ l. l; lockdown = refl; user = λ l. l }
 
   lists : (bytes : List ℕ) → (length r.protection ≡ register_room → length bytes ≡ register_room) → Spares r (with_protection r bytes)
-  lists bytes h = record { factory = refl; protect = refl; wp = refl; deep = refl; protection = h; lockdown = refl; user = λ l. l; tally = refl }
+  lists bytes h = record { factory = refl; protect = refl; wp = refl; deep = refl; protection = h; lockdown = refl; user = λ l. l }
 
   locks : (s : ℕ) → Spares r (with_lockdown r (locked_bytes g r.lockdown s))
-  locks s = record { factory = refl; protect = refl; wp = refl; deep = refl; protection = λ l. l; lockdown = length-locked g r.lockdown s; user = λ l. l; tally = refl }
+  locks s = record { factory = refl; protect = refl; wp = refl; deep = refl; protection = λ l. l; lockdown = length-locked g r.lockdown s; user = λ l. l }
 
   fills : (bytes : List ℕ) → (length r.user ≡ 64 → length bytes ≡ 64) → Spares r (with_user r bytes)
-  fills bytes h = record { factory = refl; protect = refl; wp = refl; deep = refl; protection = λ l. l; lockdown = refl; user = h; tally = refl }
+  fills bytes h = record { factory = refl; protect = refl; wp = refl; deep = refl; protection = λ l. l; lockdown = refl; user = h }
 
   updated-spares : (u : Update) → Spares r (updated g u r)
   updated-spares Keep = same
@@ -128,11 +122,6 @@ module _ (g : Geometry) (r : Registers) where
   pub completed-ready : r.deep ≡ false → Ready (completed g r)
   completed-ready h = (completed-operation g r, completed_deep ∙ h)
 
-  -- the tally counts what the operation has written
-  pub completed-tally : (completed g r).tally ≡ tallied g r.operation r.tally
-  unfolding completed
-  completed-tally = ap (tallied g r.operation) ended.tally
-
   pub completed-lengths : Lengths r → Lengths (completed g r)
   unfolding completed
   completed-lengths k =
@@ -141,7 +130,6 @@ module _ (g : Geometry) (r : Registers) where
         lockdown = ended.lockdown ∙ k.lockdown;
         user = ended.user k.user;
         factory = ap (length {A = ℕ}) ended.factory ∙ k.factory;
-        tally = ap (λ (t : Tally). length t.counts) completed-tally ∙ length-raised (written_in g r.operation) r.tally ∙ k.tally;
       }
 
 -- ---- and a cut
@@ -171,10 +159,6 @@ module _ (g : Geometry) (r : Registers) (w : List ℕ) where
   pub lost-ready : Ready (lost g r w)
   lost-ready = (lost-operation g r w, lost_deep)
 
-  pub lost-tally : (lost g r w).tally ≡ tallied g r.operation r.tally
-  unfolding lost
-  lost-tally = ap (tallied g r.operation) spoils.tally
-
   pub lost-lengths : Lengths r → Lengths (lost g r w)
   unfolding lost
   lost-lengths k =
@@ -183,5 +167,4 @@ module _ (g : Geometry) (r : Registers) (w : List ℕ) where
         lockdown = spoils.lockdown ∙ k.lockdown;
         user = spoils.user k.user;
         factory = ap (length {A = ℕ}) spoils.factory ∙ k.factory;
-        tally = ap (λ (t : Tally). length t.counts) lost-tally ∙ length-raised (written_in g r.operation) r.tally ∙ k.tally;
       }

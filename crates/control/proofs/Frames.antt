@@ -94,10 +94,10 @@ pub page_obeyed : (g : Geometry) (r : Registers) (a b c h i j k : ℕ) (t : List
 unfolding row_decided
 page_obeyed g r a b c h i j k t y = ready-row g r (0xD2 ∷ a ∷ b ∷ c ∷ h ∷ i ∷ j ∷ k ∷ t) 8 E.ReadPage (decode_page a b c h i j k t) y
 
-pub load-obeyed : (g : Geometry) (r : Registers) (a b c : ℕ) (t : List ℕ) → Ready r
+pub load_obeyed : (g : Geometry) (r : Registers) (a b c : ℕ) (t : List ℕ) → Ready r
     → control g r (0x84 ∷ a ∷ b ∷ c ∷ t) ≡ decided r (A.WriteBuffer One (byte_at g (address_at (0x84 ∷ a ∷ b ∷ c ∷ t) 1))) 4
 unfolding row_decided
-load-obeyed g r a b c t y = ready-row g r (0x84 ∷ a ∷ b ∷ c ∷ t) 4 (E.WriteBuffer One) (decode_write a b c t) y
+load_obeyed g r a b c t y = ready-row g r (0x84 ∷ a ∷ b ∷ c ∷ t) 4 (E.WriteBuffer One) (decode_write a b c t) y
 
 pub program_obeyed : (g : Geometry) (r : Registers) (a b c : ℕ) (t : List ℕ) → Ready r
     → control g r (0x83 ∷ a ∷ b ∷ c ∷ t)

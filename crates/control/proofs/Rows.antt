@@ -21,7 +21,6 @@ use Rattle.commands.specs.Decode.{decode_of}
 use Rattle.registers.specs.declared.Operation.{Operation}
 use Rattle.registers.specs.declared.Operation.TheVariants as O
 use Rattle.registers.specs.declared.Registers.{Registers}
-use Rattle.registers.specs.declared.Tally.{Tally}
 use Rattle.registers.specs.declared.Usage.{Usage}
 use Rattle.registers.specs.declared.Usage.TheVariants.{Free, NoBuffer, Uses, Exclusive}
 use Rattle.registers.specs.Fields.{with_operation, with_protect, with_deep}
@@ -181,14 +180,14 @@ pub control-operation : (g : Geometry) (r : Registers) (f : List ℕ) (Q : Opera
     → ((o : Operation) → Ready r → Starts g r f o → Q o) → Q (control g r f).registers.operation
 control-operation g r f Q u s = control-registers g r f (λ n. Q n.operation) u s (λ on y. u) (λ on y. u)
 
--- no frame changes the bytes of a register, the used mark, the pin's level or the tally
+-- no frame changes the bytes of a register, the used mark or the pin's level
 pub control_fixed : (g : Geometry) (r : Registers) (f : List ℕ) → Fixed r (control g r f).registers
 control_fixed g r f =
     control-registers g r f (Fixed r)
-    (record { protection = refl; lockdown = refl; user = refl; factory = refl; used = refl; wp = refl; tally = refl })
-    (λ o y s. record { protection = refl; lockdown = refl; user = refl; factory = refl; used = refl; wp = refl; tally = refl })
-    (λ on y. record { protection = refl; lockdown = refl; user = refl; factory = refl; used = refl; wp = refl; tally = refl })
-    (λ on y. record { protection = refl; lockdown = refl; user = refl; factory = refl; used = refl; wp = refl; tally = refl })
+    (record { protection = refl; lockdown = refl; user = refl; factory = refl; used = refl; wp = refl })
+    (λ o y s. record { protection = refl; lockdown = refl; user = refl; factory = refl; used = refl; wp = refl })
+    (λ on y. record { protection = refl; lockdown = refl; user = refl; factory = refl; used = refl; wp = refl })
+    (λ on y. record { protection = refl; lockdown = refl; user = refl; factory = refl; used = refl; wp = refl })
 
 pub control-lengths : (g : Geometry) (r : Registers) (f : List ℕ) → Lengths r → Lengths (control g r f).registers
 control-lengths g r f l =
@@ -198,7 +197,6 @@ control-lengths g r f l =
       lockdown = ap (length {A = ℕ}) k.lockdown ∙ l.lockdown;
       user = ap (length {A = ℕ}) k.user ∙ l.user;
       factory = ap (length {A = ℕ}) k.factory ∙ l.factory;
-      tally = ap (λ (t : Tally). length t.counts) k.tally ∙ l.tally;
     }
 
 -- a busy chip's registers stay as they are, whatever the frame

@@ -13,7 +13,6 @@ use Rattle.registers.specs.Data.{bytes16, bytes64}
 use Rattle.registers.specs.Facts.{update_of}
 use Rattle.registers.specs.Fields.{with_protection, with_lockdown, with_user, with_operation}
 use Rattle.registers.specs.Protection.{locked_bytes}
-use Rattle.registers.specs.Tally.{worn}
 
 -- (7.11) CF fills the protection bytes
 -- (7.12) FC clears protection bits by the data that it holds
@@ -31,6 +30,5 @@ unfoldable pub completed_by : Geometry → Operation → Registers → Registers
 completed_by g o r = updated g (update_of o) r
 
 -- (7.1) the registers after a busy end: the operation has taken effect, and is none any more
--- (7.15) the tally counts what it has written
 unfoldable pub completed : Geometry → Registers → Registers
-completed g r = with_operation (worn g r.operation (completed_by g r.operation r)) Idle
+completed g r = with_operation (completed_by g r.operation r) Idle

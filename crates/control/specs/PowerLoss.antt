@@ -10,7 +10,6 @@ use Rattle.registers.specs.declared.Update.TheVariants.{Keep, FillProtection, Ma
 use Rattle.registers.specs.Facts.{update_of}
 use Rattle.registers.specs.Fields.{with_protection, with_lockdown, with_user, restarted}
 use Rattle.registers.specs.Protection.{locked_bytes}
-use Rattle.registers.specs.Tally.{worn}
 
 -- (8.6) the junk behind the two buffers'
 abbrev pub after_buffers : Geometry → List ℕ → List ℕ
@@ -43,6 +42,5 @@ unfoldable pub lost_by : Geometry → Operation → List ℕ → Registers → R
 lost_by g o w r = spoilt g (update_of o) w r
 
 -- (8.11) the registers after a cut, given what of the junk reaches one
--- (8.12) the tally counts what has become junk
 unfoldable pub lost : Geometry → Registers → List ℕ → Registers
-lost g r w = restarted (worn g r.operation (lost_by g r.operation w r))
+lost g r w = restarted (lost_by g r.operation w r)

@@ -3,7 +3,7 @@
 -- Assumes nothing.
 use Rattle.std.specs.Prelude.{ℕ, ◌/◌, ◌≡◌, true, false, List, length}
 use Rattle.geometry.specs.declared.Geometry.{Geometry}
-use Rattle.geometry.specs.Parts.{page_at, register_room, sector_room}
+use Rattle.geometry.specs.Parts.{page_at, register_room}
 use Rattle.geometry.specs.Sectors.{sector_of}
 use Rattle.commands.specs.declared.Buffer.{Buffer}
 use Rattle.registers.specs.declared.Operation.{Operation}
@@ -44,12 +44,10 @@ pub record Fixed (r n : Registers) : Type 0 where
   pub factory : n.factory ≡ r.factory
   pub used : n.used ≡ r.used
   pub wp : n.wp ≡ r.wp
-  pub tally : n.tally ≡ r.tally
 
--- (2.3) how many bytes each register has, and how many counters the tally
+-- (2.3) how many bytes each register has
 pub record Lengths (r : Registers) : Type 0 where
   pub protection : length r.protection ≡ register_room
   pub lockdown : length r.lockdown ≡ register_room
   pub user : length r.user ≡ 64
   pub factory : length r.factory ≡ 64
-  pub tally : length r.tally.counts ≡ sector_room

@@ -47,12 +47,12 @@ first_byte g reply r =
     ∙ get_or-tabulate g.register (λ j. get_or reply (4 + j) 255) 0 0 (omega arith)
 
 -- a course by its step
-pub by-step : (g : Geometry) {x y : Step} {last : Bool} {r : Course} (c : Course) (limit sector : ℕ) (reply : List ℕ) → x ≡ y
+pub by_step : (g : Geometry) {x y : Step} {last : Bool} {r : Course} (c : Course) (limit sector : ℕ) (reply : List ℕ) → x ≡ y
     → ((next : Step) → is_end next ≡ last → r ≡ course_by y next limit c (heard g y sector reply))
     → (next : Step) → is_end next ≡ last → r ≡ course_by x next limit c (heard g x sector reply)
-by-step g c limit sector reply e h next l = h next l ∙ ap (λ (z : Step). course_by z next limit c (heard g z sector reply)) (sym e)
+by_step g c limit sector reply e h next l = h next l ∙ ap (λ (z : Step). course_by z next limit c (heard g z sector reply)) (sym e)
 
 -- the compare bit by a status and what its bit 7 tells
-pub compare-by : (reply : List ℕ) {s : ℕ} {ready : Bool} → s ≡ get_or reply 1 255 → eqb (s / 128 % 2) 1 ≡ ready → ready && eqb (s / 64 % 2) 1 ≡ compare_in reply
+pub compare_by : (reply : List ℕ) {s : ℕ} {ready : Bool} → s ≡ get_or reply 1 255 → eqb (s / 128 % 2) 1 ≡ ready → ready && eqb (s / 64 % 2) 1 ≡ compare_in reply
 unfolding compare_in
-compare-by reply {s} e f = (λ i. sym f i && eqb (s / 64 % 2) 1) ∙ ap (λ (x : ℕ). eqb (x / 128 % 2) 1 && eqb (x / 64 % 2) 1) e
+compare_by reply {s} e f = (λ i. sym f i && eqb (s / 64 % 2) 1) ∙ ap (λ (x : ℕ). eqb (x / 128 % 2) 1 && eqb (x / 64 % 2) 1) e

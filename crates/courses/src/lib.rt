@@ -48,7 +48,7 @@ fn next_stage(last: bool) -> Stage
 
 // On to the next step, with what is noted of the sector.
 fn go_on(c: Course, last: bool, limit: usize, listed: bool, guarded: bool) -> Course
-    requires { c.place < 10000 }
+    requires { c.place < 1000 }
     ensures { (next : Step) → is_end next ≡ last → result ≡ moved next limit (marking guarded (noted listed c)) }
 {
     Course {
@@ -62,7 +62,7 @@ fn go_on(c: Course, last: bool, limit: usize, listed: bool, guarded: bool) -> Co
 
 // One poll of a wait: the status tells a foreign chip, ready, busy for the last time, or busy.
 fn poll(c: Course, last: bool, limit: usize, status: u8) -> Course
-    requires { c.place < 10000 }
+    requires { c.place < 1000 }
     ensures { (x : Bool) (next : Step) → is_end next ≡ last → result ≡ course_by (Step.Wait x) next limit c (status_heard status) }
 {
     if status / 4 % 16 != 9 {
@@ -118,7 +118,7 @@ fn is_sealed(c: Course, held: bool) -> bool
 
 // 10, or on.
 fn check(c: Course, last: bool, limit: usize, held: bool) -> Course
-    requires { c.place < 10000 }
+    requires { c.place < 1000 }
     ensures { (next : Step) → is_end next ≡ last → result ≡ course_by Step.Lockdown next limit c (register_heard held) }
 {
     if is_sealed(c, held) {
@@ -136,7 +136,7 @@ pub fn take_course(
     sector: usize,
     reply: &[u8],
 ) -> Course
-    requires { (c.place < 10000) × (sector < register_room + 1) }
+    requires { (c.place < 1000) × (sector < register_room + 1) }
     ensures { (g : Geometry) → Roomed g → (next : Step) → is_end next ≡ last → result ≡ course_by x next limit c (heard g x sector reply.now) }
 {
     match x {

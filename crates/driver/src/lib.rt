@@ -33,7 +33,7 @@ fn write_on(g: Geometry, d: Driver, payload: &[u8], staged: &[u8], frame: &mut [
     }
     let c = d.course;
     let k = d.kind;
-    let x = steps::step_at(g, k, d.unit, c.place);
+    let x = steps::step_at(k, d.slot, c.place);
     turns::write_step(g, d, x, payload, staged, frame)
 }
 
@@ -59,7 +59,7 @@ fn poll_on(g: Geometry, d: Driver) -> bool
     }
     let c = d.course;
     let k = d.kind;
-    turns::poll_count(steps::step_at(g, k, d.unit, c.place)) == 1
+    turns::poll_count(steps::step_at(k, d.slot, c.place)) == 1
 }
 
 // Whether the next frame is a poll: a status frame sent by a wait.
@@ -88,7 +88,7 @@ fn take_on(g: Geometry, d: Driver, payload: &[u8], reply: &[u8], staged: &mut [u
     turns::take_step(
         g,
         d,
-        steps::step_at(g, k, d.unit, c.place),
+        steps::step_at(k, d.slot, c.place),
         payload,
         reply,
         staged,

@@ -1,5 +1,5 @@
 -- Every state of a call fits its block, so the block carries the driver from call to call and loses nothing: a start fits where its numbers do, a block
--- of bytes reads as a state that fits, and a reply keeps it so. The plan has fewer than 65,536 steps, and the polls left become fewer, or the limit.
+-- of bytes reads as a state that fits, and a reply keeps it so. The plan has fewer than 256 steps, and the polls left become fewer, or the limit.
 -- Assumes nothing.
 use mathlib.Core.Path.{◌≡◌, refl, sym, subst}
 use mathlib.Core.Bool.{Bool, true, false}
@@ -16,7 +16,6 @@ use Rattle.geometry.specs.declared.Geometry.{Geometry}
 use Rattle.geometry.specs.declared.Part.{Part}
 use Rattle.geometry.specs.declared.Part.TheVariants.{Known, Unknown}
 use Rattle.geometry.specs.Parts.{part_of}
-use Rattle.geometry.proofs.Pages.{sized}
 use Rattle.slots.specs.declared.Course.{Course}
 use Rattle.slots.specs.declared.Detail.{Detail}
 use Rattle.slots.specs.declared.Driver.{Driver}
@@ -45,14 +44,14 @@ unfolding period_of first_of last_of
 days_fit Unlimited = (lit< tt, lit< tt)
 days_fit (Between first last) = (omega (arith, day_most first), omega (arith, day_most last))
 
-pub fits-start : (array : ℕ) (a : Asked) (d : Detail) (payload lent : ℕ) → array < 2 ^ 64 → a.unit < 2 ^ 64 → a.limit < 2 ^ 64 → d.place < 2 ^ 64
+pub fits-start : (array : ℕ) (a : Asked) (d : Detail) (payload lent : ℕ) → array < 2 ^ 64 → a.slot < 2 ^ 64 → a.limit < 2 ^ 64 → d.place < 2 ^ 64
     → Fits (start_driver array a d payload lent)
 unfolding start_driver first_course aim_of
 fits-start array a d payload lent n s l p =
     let days = days_fit d.term in
     record {
       array = n;
-      unit = s;
+      slot = s;
       limit = l;
       place = p;
       left = l;
@@ -81,34 +80,33 @@ fits_decode block h =
     let days = period_fits (get_or block 7 0) (word_at block 48) (word_at block 56) (word_at-small block 48 (λ k _. b (48 + k))) (word_at-small block 56 (λ k _. b (56 + k))) in
     record {
       array = word_at-small block 8 (λ k _. b (8 + k));
-      unit = word_at-small block 16 (λ k _. b (16 + k));
+      slot = word_at-small block 16 (λ k _. b (16 + k));
       limit = word_at-small block 24 (λ k _. b (24 + k));
       place = word_at-small block 32 (λ k _. b (32 + k));
       left = word_at-small block 40 (λ k _. b (40 + k));
       first = days.0;
       last = days.1;
       today = word_at-small block 64 (λ k _. b (64 + k));
-      step = omega (arith, b 4, b 5);
+      step = b 4;
     }
 
 -- ---- a reply
 
 abbrev Short : Course → Type 0
-Short c = (c.place < 65536) × (c.left < 2 ^ 64)
+Short c = (c.place < 256) × (c.left < 2 ^ 64)
 
-after-short : (g : Geometry) (d : Driver) (o : Heard) → part_of d.array ≡ Known g → Facts g d → Fits d → Short (after g (asked_of d) d.course o)
-after-short g d o p w h =
-    let i = place-few d.kind g d.unit d.course.place w.step in
-    let few = (sized d.array g p).few in
+after-short : (g : Geometry) (d : Driver) (o : Heard) → Facts g d → Fits d → Short (after g (asked_of d) d.course o)
+after-short g d o w h =
+    let i : d.course.place < 51 = place-few d.kind g d.slot d.course.place w.step in
     course_cases Short (step_in g d) (step_at (plan_of g (asked_of d)) (suc d.course.place)) d.limit d.course o w.step
-    (λ _ _. (h.step, h.left)) (λ _ _. (h.step, omega (arith, h.left))) (λ _ _. (omega (arith, i, few), h.limit))
+    (λ _ _. (h.step, h.left)) (λ _ _. (h.step, omega (arith, h.left))) (λ _ _. (omega (arith, i), h.limit))
 
 -- the numbers that a reply does not change
 with-fits : (d : Driver) (v : Verdict) (c : Course) → Fits d → Short c → Fits (with d v c)
 with-fits d v c h s =
     record {
       array = h.array;
-      unit = h.unit;
+      slot = h.slot;
       limit = h.limit;
       place = h.place;
       left = s.1;
@@ -127,7 +125,7 @@ fits_took d payload staged reply h = go (part_of d.array) refl
         subst Fits (sym (took_ended g d payload staged reply p e))
         (with-fits d _ _ h (h.step, h.left))
     on g p false e =
-        let c = after-short g d (heard g (step_in g d) _ reply) p (going-facts g d e).1 h in
+        let c = after-short g d (heard g (step_in g d) _ reply) (going-facts g d e).1 h in
         subst Fits (sym (took_going g d payload staged reply p e))
         (with-fits d _ _ h c)
 

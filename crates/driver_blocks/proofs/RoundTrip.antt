@@ -1,10 +1,10 @@
--- What is stored is read back: each byte and each word of the block lies where its offset says, a place below 65,536 is its two bytes, and a
+-- What is stored is read back: each byte and each word of the block lies where its offset says, a place below 256 is its byte, and a
 -- number below 2 ^ 64 is the number that its eight bytes make.
 -- Assumes nothing.
-use Prim.Native.Nat.{ℕ, ◌+◌, ◌*◌, ◌/◌, ◌%◌, ◌<◌}
+use Prim.Native.Nat.{ℕ}
 use mathlib.Core.Path.{◌≡◌, refl, ap, ◌∙◌}
 use mathlib.Core.Bool.{Bool, true, false, ◌&&◌}
-use native.Mathlib.Omega.{arith}
+use native.Mathlib.Nat.{mod-eq_of_lt}
 use lib.Dec.{leb}
 use borrow.Author.Tests.{le-leb}
 use Rattle.slices.specs.Words.{word_at, word_bytes}
@@ -13,7 +13,7 @@ use Rattle.state.specs.declared.Answer.{Answer}
 use Rattle.state.specs.declared.Answer.TheVariants as Answers
 use Rattle.state.specs.Answers.{number_of}
 use Rattle.slots.specs.declared.Kind.{Kind}
-use Rattle.slots.specs.declared.Kind.TheVariants.{Put, Patch, Get, Wipe, Refresh}
+use Rattle.slots.specs.declared.Kind.TheVariants.{Put, Patch, Get, Wipe}
 use Rattle.slots.specs.declared.Period.{Period}
 use Rattle.slots.specs.declared.Period.TheVariants.{Always, Days}
 use Rattle.slots.specs.declared.Stage.{Stage}
@@ -22,7 +22,7 @@ use Rattle.slots.specs.declared.Verdict.{Verdict}
 use Rattle.slots.specs.declared.Verdict.TheVariants.{Good, Blank, Beyond, Outside, Miscompared}
 use Rattle.slots.specs.declared.Driver.{Driver}
 use Rattle.slots.proofs.Refused.{in_table}
-use Rattle.driver_blocks.specs.Block.{kind_of, verdict_of, answer_at, is_kind, is_ours, stage_of, listed_in, guarded_in, period_at, kind_number, verdict_number, stage_number, end_number, heard_byte, dated_number, first_of, last_of, decode_course, decode_aim, decode_driver, head_bytes, day_words, encode_driver, Fits}
+use Rattle.driver_blocks.specs.Block.{kind_of, verdict_of, answer_at, is_kind, is_ours, stage_of, flag, period_at, kind_number, verdict_number, stage_number, end_number, flag_byte, dated_number, first_of, last_of, decode_course, decode_aim, decode_driver, head_bytes, day_words, encode_driver, Fits}
 
 -- ---- bytes
 kind_back : (k : Kind) → kind_of (kind_number k) ≡ k
@@ -31,7 +31,6 @@ kind_back Put = refl
 kind_back Patch = refl
 kind_back Get = refl
 kind_back Wipe = refl
-kind_back Refresh = refl
 
 verdict_back : (v : Verdict) → verdict_of (verdict_number v) ≡ v
 unfolding verdict_of verdict_number
@@ -73,7 +72,6 @@ kind_ours Put = refl
 kind_ours Patch = refl
 kind_ours Get = refl
 kind_ours Wipe = refl
-kind_ours Refresh = refl
 
 verdict_ours : (v : Verdict) → leb (verdict_number v) 4 ≡ true
 unfolding verdict_number
@@ -88,14 +86,9 @@ unfolding stage_of stage_number end_number
 stage_back Going = refl
 stage_back (Ended a) = ap Ended (answer_back a)
 
-heard_back : (l d : Bool) → (listed_in (heard_byte l d) ≡ l) × (guarded_in (heard_byte l d) ≡ d)
-heard_back true true = (refl, refl)
-heard_back true false = (refl, refl)
-heard_back false true = (refl, refl)
-heard_back false false = (refl, refl)
-
-place_back : (n : ℕ) → n < 65536 → n / 256 % 256 * 256 + n % 256 ≡ n
-place_back n l = omega arith
+flag_back : (b : Bool) → flag (flag_byte b) ≡ b
+flag_back true = refl
+flag_back false = refl
 
 -- the term, whatever numbers are read for days that are none
 period_back : (p : Period) (first last : ℕ) → first ≡ first_of p → last ≡ last_of p → period_at (dated_number p) first last ≡ p
@@ -114,7 +107,7 @@ decode_encode d h = λ i.
     record {
       array = word_at-word_bytes d.array h.array i;
       kind = kind_back d.kind i;
-      unit = word_at-word_bytes d.unit h.unit i;
+      slot = word_at-word_bytes d.slot h.slot i;
       limit = word_at-word_bytes d.limit h.limit i;
       aim =
           record {
@@ -127,10 +120,10 @@ decode_encode d h = λ i.
       verdict = verdict_back d.verdict i;
       course =
           record {
-            place = place_back d.course.place h.step i;
+            place = mod-eq_of_lt h.step i;
             left = word_at-word_bytes d.course.left h.left i;
             stage = ((λ j. stage_of (ours d j) (stage_number d.course.stage) (end_number d.course.stage)) ∙ stage_back d.course.stage) i;
-            listed = (heard_back d.course.listed d.course.guarded).0 i;
-            guarded = (heard_back d.course.listed d.course.guarded).1 i;
+            listed = flag_back d.course.listed i;
+            guarded = flag_back d.course.guarded i;
           };
     }

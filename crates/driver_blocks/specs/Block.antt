@@ -1,8 +1,8 @@
 -- The slot driver's state in the C interface: a block of 72 bytes. `decode_driver` reads a block of any content, `encode_driver` writes one.
--- Offsets: call 0, verdict 1, stage 2, answer 3, place in the plan 4 (2, high byte first), what was heard 6, dated 7, then numbers of eight bytes, high byte
--- first: array's length 8, slot or sector 16, poll limit 24, patch's place 32, polls left 40, first day 48, last day 56, today 64.
+-- Offsets: call 0, verdict 1, stage 2, answer 3, place in the plan 4, listed 5, guarded 6, dated 7, then numbers of eight bytes, high byte first:
+-- array's length 8, slot 16, poll limit 24, patch's place 32, polls left 40, first day 48, last day 56, today 64.
 -- Assumes nothing.
-use Rattle.std.specs.Prelude.{ℕ, ◌+◌, ◌*◌, ◌/◌, ◌%◌, ◌^◌, ◌<◌, Bool, cond, ◌&&◌, ◌||◌, List, [], ◌∷◌, ◌++◌, get_or, eqb, leb}
+use Rattle.std.specs.Prelude.{ℕ, ◌%◌, ◌^◌, ◌<◌, Bool, cond, not, ◌&&◌, ◌||◌, List, [], ◌∷◌, ◌++◌, get_or, eqb, leb}
 use Rattle.slices.specs.Words.{word_at, word_bytes}
 use Rattle.state.specs.declared.Answer.{Answer}
 use Rattle.state.specs.declared.Answer.TheVariants as Answers
@@ -11,7 +11,7 @@ use Rattle.slots.specs.declared.Aim.{Aim}
 use Rattle.slots.specs.declared.Course.{Course}
 use Rattle.slots.specs.declared.Driver.{Driver}
 use Rattle.slots.specs.declared.Kind.{Kind}
-use Rattle.slots.specs.declared.Kind.TheVariants.{Put, Patch, Get, Wipe, Refresh}
+use Rattle.slots.specs.declared.Kind.TheVariants.{Put, Patch, Get, Wipe}
 use Rattle.slots.specs.declared.Period.{Period}
 use Rattle.slots.specs.declared.Period.TheVariants.{Always, Days}
 use Rattle.slots.specs.declared.Stage.{Stage}
@@ -29,7 +29,6 @@ kind_number Put = 0x0F
 kind_number Patch = 0x33
 kind_number Get = 0x55
 kind_number Wipe = 0xF0
-kind_number Refresh = 0x3C
 
 -- (13.14) the verdict
 unfoldable pub verdict_number : Verdict → ℕ
@@ -49,9 +48,9 @@ unfoldable pub end_number : Stage → ℕ
 end_number Going = 0
 end_number (Ended a) = number_of a
 
--- (13.18) what was heard of the sector: bit 0 listed, bit 1 guarded
-abbrev pub heard_byte : Bool → Bool → ℕ
-heard_byte listed guarded = cond listed 1 0 + cond guarded 2 0
+-- (13.15) 0 or 1
+abbrev pub flag_byte : Bool → ℕ
+flag_byte b = cond b 1 0
 
 -- (13.15) 1 with a term, 0 without
 unfoldable pub dated_number : Period → ℕ
@@ -77,7 +76,7 @@ told_number (Answered a) = number_of a
 
 -- (13.13) a byte that is no call's reads as a get, which changes nothing
 unfoldable pub kind_of : ℕ → Kind
-kind_of n = cond (eqb n 0x0F) Put (cond (eqb n 0x33) Patch (cond (eqb n 0xF0) Wipe (cond (eqb n 0x3C) Refresh Get)))
+kind_of n = cond (eqb n 0x0F) Put (cond (eqb n 0x33) Patch (cond (eqb n 0xF0) Wipe Get))
 
 -- (13.14) the verdict that a byte reads as; every byte over 3 as a page that differs
 unfoldable pub verdict_of : ℕ → Verdict
@@ -104,13 +103,9 @@ answer_at n =
     (cond (eqb n 15) Answers.Term
     Answers.Miscompare)))))))))))))))
 
--- (13.18) whether the sector is listed; the other bits are not looked at
-abbrev pub listed_in : ℕ → Bool
-listed_in x = eqb (x % 2) 1
-
--- (13.18) whether the chip is guarded
-abbrev pub guarded_in : ℕ → Bool
-guarded_in x = eqb (x / 2 % 2) 1
+-- (13.15) 0 is off, any other byte on
+abbrev pub flag : ℕ → Bool
+flag x = not (eqb x 0)
 
 -- (13.15) the term that a byte and two numbers read as: under 0 there is none, whatever the numbers
 unfoldable pub period_at : ℕ → (first last : ℕ) → Period
@@ -120,7 +115,7 @@ period_at n first last = cond (eqb n 0) Always (Days first last)
 
 -- (13.16) the byte is a call's
 unfoldable pub is_kind : ℕ → Bool
-is_kind n = (eqb n 0x0F || eqb n 0x33) || (eqb n 0x55 || (eqb n 0xF0 || eqb n 0x3C))
+is_kind n = (eqb n 0x0F || eqb n 0x33) || (eqb n 0x55 || eqb n 0xF0)
 
 -- (13.16) a block's first four bytes are such as a state is written with: a call, a verdict, a stage and an answer
 unfoldable pub is_ours : List ℕ → Bool
@@ -134,11 +129,11 @@ stage_of ours n a = cond ours (cond (eqb n 0) Going (Ended (answer_at a))) (Ende
 unfoldable pub decode_course : List ℕ → Course
 decode_course block =
     record {
-      place = get_or block 4 0 * 256 + get_or block 5 0;
+      place = get_or block 4 0;
       left = word_at block 40;
       stage = stage_of (is_ours block) (get_or block 2 0) (get_or block 3 0);
-      listed = listed_in (get_or block 6 0);
-      guarded = guarded_in (get_or block 6 0);
+      listed = flag (get_or block 5 0);
+      guarded = flag (get_or block 6 0);
     }
 
 -- (13.12) what the call that a block holds aims at
@@ -155,7 +150,7 @@ unfoldable pub decode_driver : List ℕ → Driver
 decode_driver block =
     record {
       array = word_at block 8;
-      unit = word_at block 16;
+      slot = word_at block 16;
       limit = word_at block 24;
       aim = decode_aim block;
       kind = kind_of (get_or block 0 0);
@@ -163,11 +158,11 @@ decode_driver block =
       course = decode_course block;
     }
 
--- (13.12) the first eight bytes; the place modulo 65,536
+-- (13.12) the first eight bytes; the place modulo 256
 unfoldable pub head_bytes : Kind → Verdict → Course → Period → List ℕ
 head_bytes k v c p =
     kind_number k ∷ verdict_number v ∷ stage_number c.stage ∷ end_number c.stage ∷
-    c.place / 256 % 256 ∷ c.place % 256 ∷ heard_byte c.listed c.guarded ∷ dated_number p ∷ []
+    c.place % 256 ∷ flag_byte c.listed ∷ flag_byte c.guarded ∷ dated_number p ∷ []
 
 -- (13.12) the last three numbers
 unfoldable pub day_words : Aim → List ℕ
@@ -177,18 +172,18 @@ day_words a = word_bytes (first_of a.period) ++ (word_bytes (last_of a.period) +
 unfoldable pub encode_driver : Driver → List ℕ
 encode_driver d =
     head_bytes d.kind d.verdict d.course d.aim.period
-    ++ (word_bytes d.array ++ (word_bytes d.unit ++ (word_bytes d.limit ++ (word_bytes d.aim.place
+    ++ (word_bytes d.array ++ (word_bytes d.slot ++ (word_bytes d.limit ++ (word_bytes d.aim.place
     ++ (word_bytes d.course.left ++ day_words d.aim)))))
 
--- ---- Aid: the states that a block can hold: the place in the plan in two bytes, the numbers in eight
+-- ---- Aid: the states that a block can hold: the place in the plan in one byte, the numbers in eight
 
 pub record Fits (d : Driver) : Type 0 where
   pub array : d.array < 2 ^ 64
-  pub unit : d.unit < 2 ^ 64
+  pub slot : d.slot < 2 ^ 64
   pub limit : d.limit < 2 ^ 64
   pub place : d.aim.place < 2 ^ 64
   pub left : d.course.left < 2 ^ 64
   pub first : first_of d.aim.period < 2 ^ 64
   pub last : last_of d.aim.period < 2 ^ 64
   pub today : d.aim.today < 2 ^ 64
-  pub step : d.course.place < 65536
+  pub step : d.course.place < 256

@@ -2,7 +2,7 @@
 // Internal to this repository: the entry points are in crate slipknoll.
 ghost use Rattle.std.specs.Prelude.{◌≡◌, ◌+◌, ◌≤◌, length};
 ghost use Rattle.slices.specs.Words.{word_at};
-ghost use Rattle.driver_blocks.specs.Block.{kind_of, verdict_of, answer_at, is_kind, is_ours, stage_of, period_at, decode_course, decode_aim, decode_driver};
+ghost use Rattle.driver_blocks.specs.Block.{kind_of, verdict_of, answer_at, is_kind, is_ours, stage_of, flag, period_at, decode_course, decode_aim, decode_driver};
 
 use slots::{Aim, Course, Driver, Kind, Period, Stage, Verdict};
 use state::Answer;
@@ -14,7 +14,6 @@ fn kind(n: u8) -> Kind
         0x0F => Kind::Put,
         0x33 => Kind::Patch,
         0xF0 => Kind::Wipe,
-        0x3C => Kind::Refresh,
         _ => Kind::Get,
     }
 }
@@ -64,7 +63,6 @@ fn is_kind(n: u8) -> bool
         0x33 => true,
         0x55 => true,
         0xF0 => true,
-        0x3C => true,
         _ => false,
     }
 }
@@ -101,6 +99,12 @@ fn stage(ours: bool, n: u8, a: u8) -> Stage
     }
 }
 
+fn is_set(x: u8) -> bool
+    ensures { result ≡ flag x }
+{
+    x != 0
+}
+
 // No term under 0, whatever the two numbers.
 fn period(n: u8, first: usize, last: usize) -> Period
     ensures { result ≡ period_at n first last }
@@ -123,11 +127,11 @@ fn decode_course(block: &[u8; 72]) -> Course
     ensures { result ≡ decode_course block.now }
 {
     Course {
-        place: numbers::wide(block[4]) * 256 + numbers::wide(block[5]),
+        place: numbers::wide(block[4]),
         left: number_at(block, 40),
         stage: stage(is_ours(block), block[2], block[3]),
-        listed: block[6] % 2 == 1,
-        guarded: block[6] / 2 % 2 == 1,
+        listed: is_set(block[5]),
+        guarded: is_set(block[6]),
     }
 }
 
@@ -147,7 +151,7 @@ pub fn decode(block: &[u8; 72]) -> Driver
 {
     Driver {
         array: number_at(block, 8),
-        unit: number_at(block, 16),
+        slot: number_at(block, 16),
         limit: number_at(block, 24),
         aim: decode_aim(block),
         kind: kind(block[0]),

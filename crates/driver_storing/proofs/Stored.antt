@@ -19,7 +19,7 @@ more front part xs n l b e = e ∙ (λ i. splice (sym l i) part (b i)) ∙ sym (
 pub all-stored : (d : Driver) (xs : List ℕ) {b₀ b₁ b₂ b₃ b₄ b₅ b₆ b₇ b₈ : List ℕ} → length xs ≡ 72
     → b₀ ≡ over (head_bytes d.kind d.verdict d.course d.aim.period) xs
     → b₁ ≡ splice 8 (word_bytes d.array) b₀
-    → b₂ ≡ splice 16 (word_bytes d.unit) b₁
+    → b₂ ≡ splice 16 (word_bytes d.slot) b₁
     → b₃ ≡ splice 24 (word_bytes d.limit) b₂
     → b₄ ≡ splice 32 (word_bytes d.aim.place) b₃
     → b₅ ≡ splice 40 (word_bytes d.course.left) b₄
@@ -31,7 +31,7 @@ unfolding head_bytes word_bytes day_words encode_driver
 all-stored d xs l e₀ e₁ e₂ e₃ e₄ e₅ e₆ e₇ e₈ =
     let h = head_bytes d.kind d.verdict d.course d.aim.period in
     let a = word_bytes d.array in
-    let s = word_bytes d.unit in
+    let s = word_bytes d.slot in
     let m = word_bytes d.limit in
     let p = word_bytes d.aim.place in
     let r = word_bytes d.course.left in

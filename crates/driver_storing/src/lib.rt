@@ -3,7 +3,7 @@
 ghost use Rattle.std.specs.Prelude.{◌≡◌, ◌+◌, ◌≤◌, length};
 ghost use Rattle.slices.specs.Lists.{over, splice};
 ghost use Rattle.slices.specs.Words.{word_bytes};
-ghost use Rattle.driver_blocks.specs.Block.{kind_number, verdict_number, stage_number, end_number, heard_byte, dated_number, first_of, last_of, head_bytes, encode_driver, told_number};
+ghost use Rattle.driver_blocks.specs.Block.{kind_number, verdict_number, stage_number, end_number, flag_byte, dated_number, first_of, last_of, head_bytes, encode_driver, told_number};
 
 use slots::{Course, Driver, Kind, Period, Stage, Told, Verdict};
 
@@ -15,7 +15,6 @@ fn kind_number(k: Kind) -> u8
         Kind::Patch => 0x33,
         Kind::Get => 0x55,
         Kind::Wipe => 0xF0,
-        Kind::Refresh => 0x3C,
     }
 }
 
@@ -50,20 +49,10 @@ fn end_number(s: Stage) -> u8
     }
 }
 
-// What was heard of the sector: bit 0 listed, bit 1 guarded.
-fn heard_byte(listed: bool, guarded: bool) -> u8
-    ensures { result ≡ heard_byte listed guarded }
+fn flag_byte(b: bool) -> u8
+    ensures { result ≡ flag_byte b }
 {
-    if listed {
-        if guarded {
-            return 3;
-        }
-        return 1;
-    }
-    if guarded {
-        return 2;
-    }
-    0
+    if b { 1 } else { 0 }
 }
 
 // 1 with a term, 0 without.
@@ -105,9 +94,9 @@ fn head_bytes(k: Kind, v: Verdict, c: Course, p: Period) -> [u8; 8]
         verdict_number(v),
         stage_number(s),
         end_number(s),
-        (c.place / 256 % 256) as u8,
         (c.place % 256) as u8,
-        heard_byte(c.listed, c.guarded),
+        flag_byte(c.listed),
+        flag_byte(c.guarded),
         dated_number(p),
     ]
 }
@@ -140,7 +129,7 @@ pub fn encode(block: &mut [u8; 72], d: Driver)
     let p = a.period;
     put_head(block, k, v, c, p);
     put_number(block, 8, d.array);
-    put_number(block, 16, d.unit);
+    put_number(block, 16, d.slot);
     put_number(block, 24, d.limit);
     put_number(block, 32, a.place);
     put_number(block, 40, c.left);

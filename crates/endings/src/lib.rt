@@ -1,11 +1,9 @@
-// What a call does when its run has ended: a get's recipe goes to the lent buffer, a cut takes the supply, a refresh sets its counter to 0.
+// What a call does when its run has ended: a get's recipe goes to the lent buffer, and a cut takes the supply.
 // Internal to this repository: a caller here meets each `requires`; no entry point is in this crate.
-ghost use Rattle.std.specs.Prelude.{◌≡◌, true, List, ℕ, ◌+◌, ◌<◌, length, take, drop};
+ghost use Rattle.std.specs.Prelude.{◌≡◌, true, ◌+◌, length, take, drop};
 ghost use Rattle.slices.specs.Lists.{over};
-ghost use Rattle.geometry.specs.Parts.{sector_room};
 ghost use Rattle.state.specs.Outcomes.{part_in, cut_fits};
-ghost use Rattle.slots.specs.Calls.{count_of, delivered, answer_in, is_refreshed, refreshed};
-ghost use Rattle.slots.specs.Lists.{asking};
+ghost use Rattle.slots.specs.Calls.{count_of, delivered, answer_in};
 ghost use Rattle.blocks.specs.Promises.{held_in};
 ghost use Rattle.runs.specs.Exchange.{Canonical};
 ghost use Rattle.runs.specs.Runs.{last_of, answer_of};
@@ -68,21 +66,8 @@ pub fn deliver(kind: Kind, a: Answer, staged: &[u8; 2112], buffer: &mut [u8]) ->
     n
 }
 
-// A refresh that answers 0 sets its sector's counter to 0.
-pub fn settle(kind: Kind, unit: usize, a: Answer, block: &mut [u8])
-    requires { (length block.old ≡ 833) × (Canonical block.old) × (is_refreshed kind a ≡ true → unit < sector_room) }
-    ensures { ((xs : List ℕ) (limit : ℕ) → held_in block.new xs ≡ record { registers = refreshed (asking kind unit limit) a (held_in block.old xs).registers; memory = (held_in block.old xs).memory }) × (Canonical block.new) }
-{
-    if state::number(a) != 0 {
-        return;
-    }
-    if let Kind::Refresh = kind {
-        storing::clear(block, unit);
-    }
-}
-
 // The cut, if the script has come to one.
-pub fn lose(g: Geometry, s: Session, block: &mut [u8; 833], array: &mut [u8], junk: &[u8])
+pub fn lose(g: Geometry, s: Session, block: &mut [u8; 765], array: &mut [u8], junk: &[u8])
     requires { (part_in (held_in block.old array.old) ≡ Part.Known g) × (Canonical block.old) × (s.cut ≡ true → cut_fits g (length array.old) (length junk.now) ≡ true) }
     ensures { (held_in block.new array.new ≡ last_of g s junk.now (held_in block.old array.old)) × (Canonical block.new) }
 {

@@ -25,7 +25,7 @@ fn put_outline(log: &mut [u8], at: usize, frame: &[u8])
 }
 
 // The script's byte acts: 0 ends a busy period, if there is one. A cut, 2, is left to the call's end.
-fn settle(g: Geometry, block: &mut [u8; 833], array: &mut [u8], b: u8)
+fn settle(g: Geometry, block: &mut [u8; 765], array: &mut [u8], b: u8)
     requires { (part_in (held_in block.old array.old) ≡ Part.Known g) × (Canonical block.old) }
     ensures { (held_in block.new array.new ≡ state_after g b (held_in block.old array.old)) × (Canonical block.new) }
 {
@@ -42,7 +42,7 @@ fn settle(g: Geometry, block: &mut [u8; 833], array: &mut [u8], b: u8)
 // The frame sent, its reply in the lent buffer, its outline in the log from index `at` on, and its script byte b.
 pub fn exchange(
     g: Geometry,
-    block: &mut [u8; 833],
+    block: &mut [u8; 765],
     array: &mut [u8],
     frame: &[u8],
     reply: &mut [u8],
@@ -61,7 +61,7 @@ pub fn exchange(
 // The same with the first n bytes of `frame` and `reply`.
 pub fn exchange_first(
     g: Geometry,
-    block: &mut [u8; 833],
+    block: &mut [u8; 765],
     array: &mut [u8],
     frame: &[u8],
     reply: &mut [u8],
@@ -77,7 +77,7 @@ pub fn exchange_first(
 }
 
 // The supply is cut, with junk as long as it has to be.
-pub fn cut(g: Geometry, block: &mut [u8; 833], array: &mut [u8], junk: &[u8])
+pub fn cut(g: Geometry, block: &mut [u8; 765], array: &mut [u8], junk: &[u8])
     requires { (part_in (held_in block.old array.old) ≡ Part.Known g) × (cut_fits g (length array.old) (length junk.now) ≡ true) }
     ensures { (held_in block.new array.new ≡ cut_state g junk.now (held_in block.old array.old)) × (Canonical block.new) }
 {

@@ -33,13 +33,13 @@ name_text Name.Level = bytes "level"
 name_text Name.Part = bytes "part"
 name_text (Name.Option k) = key_text k
 
--- ` is over 65536`; of junklen ` is over 1114112`, of log ` is over 1543548`
+-- ` is over 65536`; of junklen ` is over 1114112`, of log ` is over 102204`
 unfoldable pub over_text : Key → List ℕ
 over_text Key.Limit = bytes " is over 65536"
 over_text Key.Script = bytes " is over 65536"
 over_text Key.Seed = bytes " is over 65536"
 over_text Key.Junk = bytes " is over 1114112"
-over_text Key.Log = bytes " is over 1543548"
+over_text Key.Log = bytes " is over 102204"
 over_text Key.Buffer = bytes " is over 65536"
 over_text Key.Reply = bytes " is over 65536"
 over_text Key.First = bytes " is over 65536"

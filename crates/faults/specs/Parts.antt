@@ -13,15 +13,15 @@ use Rattle.faults.specs.declared.Fault.TheVariants as Fault
 
 -- the texts, one after the other
 unfoldable pub texts : List ℕ
-texts = bytes "SPLACEHEXSEEDlevelpartbscriptjunkjunklenlogbufferreplyfirstlasttodaylonger than 8192 charactersno commandunknown command is missing is not a number is not a date is too large has a character that is not a hexadecimal digit has an odd number of digitslevel is not 0 or 1part is not 128, 4096, 128x256 or 4096x256unknown optiontoo many wordsoption given twice is over 65536 is over 1114112 is over 1543548"
+texts = bytes "SPLACEHEXSEEDlevelpartbscriptjunkjunklenlogbufferreplyfirstlasttodaylonger than 8192 charactersno commandunknown command is missing is not a number is not a date is too large has a character that is not a hexadecimal digit has an odd number of digitslevel is not 0 or 1part is not 128, 4096, 128x256 or 4096x256unknown optiontoo many wordsoption given twice is over 65536 is over 1114112 is over 102204"
 
 -- part i lies from entry i to entry i + 1
 unfoldable pub starts : List ℕ
-starts = 0 ∷ 0 ∷ 1 ∷ 6 ∷ 9 ∷ 13 ∷ 18 ∷ 22 ∷ 23 ∷ 29 ∷ 33 ∷ 40 ∷ 43 ∷ 49 ∷ 54 ∷ 59 ∷ 63 ∷ 68 ∷ 95 ∷ 105 ∷ 120 ∷ 131 ∷ 147 ∷ 161 ∷ 174 ∷ 222 ∷ 250 ∷ 269 ∷ 311 ∷ 325 ∷ 339 ∷ 357 ∷ 371 ∷ 387 ∷ 403 ∷ []
+starts = 0 ∷ 0 ∷ 1 ∷ 6 ∷ 9 ∷ 13 ∷ 18 ∷ 22 ∷ 23 ∷ 29 ∷ 33 ∷ 40 ∷ 43 ∷ 49 ∷ 54 ∷ 59 ∷ 63 ∷ 68 ∷ 95 ∷ 105 ∷ 120 ∷ 131 ∷ 147 ∷ 161 ∷ 174 ∷ 222 ∷ 250 ∷ 269 ∷ 311 ∷ 325 ∷ 339 ∷ 357 ∷ 371 ∷ 387 ∷ 402 ∷ []
 
 -- where part i lies
 unfoldable pub part_at : ℕ → Span
-part_at i = record { start = min (get_or starts i 0) (min (get_or starts (i + 1) 0) 403); end = min (get_or starts (i + 1) 0) 403 }
+part_at i = record { start = min (get_or starts i 0) (min (get_or starts (i + 1) 0) 402); end = min (get_or starts (i + 1) 0) 402 }
 
 -- the name of an option
 abbrev pub key_part : Key → ℕ

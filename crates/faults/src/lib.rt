@@ -39,8 +39,8 @@ pub enum Fault {
 }
 
 // What the messages are made of, one after the other: names, then what is said of them.
-const TEXTS: [u8; 403] =
-    *b"SPLACEHEXSEEDlevelpartbscriptjunkjunklenlogbufferreplyfirstlasttodaylonger than 8192 charactersno commandunknown command is missing is not a number is not a date is too large has a character that is not a hexadecimal digit has an odd number of digitslevel is not 0 or 1part is not 128, 4096, 128x256 or 4096x256unknown optiontoo many wordsoption given twice is over 65536 is over 1114112 is over 1543548";
+const TEXTS: [u8; 402] =
+    *b"SPLACEHEXSEEDlevelpartbscriptjunkjunklenlogbufferreplyfirstlasttodaylonger than 8192 charactersno commandunknown command is missing is not a number is not a date is too large has a character that is not a hexadecimal digit has an odd number of digitslevel is not 0 or 1part is not 128, 4096, 128x256 or 4096x256unknown optiontoo many wordsoption given twice is over 65536 is over 1114112 is over 102204";
 
 // Part i lies from entry i to entry i + 1. Part 0 is empty.
 const STARTS: [usize; 35] = [
@@ -76,8 +76,8 @@ const STARTS: [usize; 35] = [
     339, // 30: option given twice
     357, // 31: is over 65536
     371, // 32: is over 1114112
-    387, // 33: is over 1543548
-    403,
+    387, // 33: is over 102204
+    402,
 ];
 
 fn key_part(k: Key) -> usize
@@ -174,7 +174,7 @@ fn said_part(f: Fault) -> usize
     }
 }
 
-fn text_table() -> [u8; 403]
+fn text_table() -> [u8; 402]
     ensures { result ≡ texts }
 {
     TEXTS
@@ -191,9 +191,9 @@ fn start_of(i: usize) -> usize
 // Where part `i` lies in the table.
 fn part(i: usize) -> Span
     requires { i < 34 }
-    ensures { Within 403 result × (result ≡ part_at i) }
+    ensures { Within 402 result × (result ≡ part_at i) }
 {
-    let end = numbers::lesser(start_of(i + 1), 403);
+    let end = numbers::lesser(start_of(i + 1), 402);
     let start = numbers::lesser(start_of(i), end);
     Span {
         start: start,

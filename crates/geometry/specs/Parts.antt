@@ -35,10 +35,6 @@ slot_room = 8 * page_room
 abbrev pub register_room : ℕ
 register_room = 16
 
--- Aid: the sectors that such registers serve: two in the first byte, one in each other
-abbrev pub sector_room : ℕ
-sector_room = register_room + 1
-
 -- (3.7) the address that three bytes of a frame from index a on make, the most significant first
 unfoldable pub address_at : List ℕ → ℕ → ℕ
 address_at f a = get_or f a 0 * 65536 + get_or f (a + 1) 0 * 256 + get_or f (a + 2) 0

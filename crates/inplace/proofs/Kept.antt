@@ -1,6 +1,6 @@
 -- What an entry point leaves in a block is read back as it is: the chip stays one that a block can hold. Registers and buffers keep their
 -- lengths; an operation that a frame starts names something of the part, or has data made of the frame's bytes; any other entry point leaves
--- the operation or none. No counter grows beyond its four bytes.
+-- the operation or none.
 -- Assumes nothing.
 use mathlib.Core.Path.{◌≡◌, refl, sym, ap, subst, subst⁻¹, ◌∙◌}
 use mathlib.Core.Bool.{Bool, true}
@@ -26,13 +26,13 @@ use Rattle.registers.specs.declared.Operation.{Operation}
 use Rattle.registers.specs.declared.Registers.{Registers}
 use Rattle.registers.specs.Data.{padded, pack16, pack64}
 use Rattle.registers.specs.Facts.{facts_of, update_of}
-use Rattle.registers.specs.Operations.{has, within, written_in}
+use Rattle.registers.specs.Operations.{has, within}
 use Rattle.registers.proofs.Places.{placed_sized}
 use Rattle.control.specs.Control.{protection_data, security_data, control}
 use Rattle.control.specs.PowerLoss.{reaching}
 use Rattle.control.specs.Starts.{Starts, programs, programs-over, transfers, compares, rewrites, erases_page, erases_block, erases_sector, erases_chip, erases_protection, programs-protection, locks_sector, programs_security}
-use Rattle.control.proofs.Rows.{control-operation, control_fixed, starts-within}
-use Rattle.control.proofs.Ends.{completed-operation, completed-tally, lost-operation, lost-tally}
+use Rattle.control.proofs.Rows.{control-operation, starts-within}
+use Rattle.control.proofs.Ends.{completed-operation, lost-operation}
 use Rattle.state.specs.declared.Answer.{Answer}
 use Rattle.state.specs.declared.Answer.TheVariants as Answers
 use Rattle.state.specs.declared.Chip.{Chip}
@@ -44,11 +44,10 @@ use Rattle.state.proofs.Accepted.{end_cases, cut_cases}
 use Rattle.state.specs.Whole.{Whole}
 use Rattle.state.proofs.Whole.{sent-whole, ended-whole, cut-whole}
 use Rattle.blocks.specs.Block.{decode_chip, encode_chip}
-use Rattle.blocks.specs.Holds.{Words16, Words64, Numbered, Worded, Fitting, Counts, Holds}
+use Rattle.blocks.specs.Holds.{Words16, Words64, Numbered, Worded, Fitting, Holds}
 use Rattle.blocks.specs.Promises.{held_in, stored_by, stored_in, Met, MetFresh, pin_moved, MetPin}
 use Rattle.blocks.proofs.RoundTrip.{decode_encode}
 use Rattle.blocks.proofs.Stores.{stored-done, stored_same, pin-moved}
-use Rattle.blocks.proofs.Worn.{counts-unworn, counts-raised}
 
 -- ---- bytes
 abbrev pub Bytes : List ℕ → Type 0
@@ -128,17 +127,11 @@ module _ (s : State) (h : Holds (chip_in s)) (g : Geometry) where
       record {
         whole = sent-whole s h.whole g f;
         operation = control-fits g _ (placed_sized (length s.memory.array) s.registers.operation g p) s.registers f b h.operation;
-        counts = subst⁻¹ Counts (control_fixed g s.registers f).tally h.counts;
       }
 
   pub ended-holds : Holds (chip_in (ended_state g s))
   unfolding ended_state
-  ended-holds =
-      record {
-        whole = ended-whole s h.whole g;
-        operation = subst⁻¹ Fitting (completed-operation g s.registers) (tt, tt);
-        counts = subst⁻¹ Counts (completed-tally g s.registers) (counts-raised (written_in g s.registers.operation) s.registers.tally h.counts);
-      }
+  ended-holds = record { whole = ended-whole s h.whole g; operation = subst⁻¹ Fitting (completed-operation g s.registers) (tt, tt) }
 
   pub cut_holds : (junk : List ℕ) → Holds (chip_in (cut_state g junk s))
   unfolding cut_state
@@ -146,9 +139,6 @@ module _ (s : State) (h : Holds (chip_in s)) (g : Geometry) where
       record {
         whole = cut-whole s h.whole g junk;
         operation = subst⁻¹ Fitting (lost-operation g s.registers (reaching g s.registers.operation junk)) (tt, tt);
-        counts =
-            subst⁻¹ Counts (lost-tally g s.registers (reaching g s.registers.operation junk))
-            (counts-raised (written_in g s.registers.operation) s.registers.tally h.counts);
       }
 
 -- ---- the block that is left
@@ -205,9 +195,9 @@ met_fresh held factory array w l a b =
   where
     go : (p : Part) → Whole (chip_in (fresh_by p factory array).state) → number_of (fresh_by p factory array).answer ≡ 0 → Back held (fresh_by p factory array)
     go Unknown v z = absurd (omega arith)
-    go (Known g) v z = done_back held (fresh_state factory (replicate (length array) 255)) [] (record { whole = v; operation = (tt, tt); counts = counts-unworn })
+    go (Known g) v z = done_back held (fresh_state factory (replicate (length array) 255)) [] (record { whole = v; operation = (tt, tt) })
 
 -- a pin move
-pub met-pin : {kept : List ℕ} (held : List ℕ) (high : Bool) → length held ≡ 833 → kept ≡ pin_moved held high → MetPin held high 0 kept
+pub met-pin : {kept : List ℕ} (held : List ℕ) (high : Bool) → length held ≡ 765 → kept ≡ pin_moved held high → MetPin held high 0 kept
 unfolding pin_outcome pinned_state
 met-pin held high l e = record { answer = refl; block = e; holds = λ xs. (λ i. state_of ((ap decode_chip e ∙ pin-moved held high l) i) xs) }

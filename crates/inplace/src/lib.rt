@@ -24,7 +24,7 @@ fn send_in(
     frame: &[u8],
     reply: &mut [u8],
 )
-    requires { (Sized g (length array.now)) × (length block.old ≡ 833) × (o ≡ decode_operation block.old) × (length frame.now ≡ length reply.old) }
+    requires { (Sized g (length array.now)) × (length block.old ≡ 765) × (o ≡ decode_operation block.old) × (length frame.now ≡ length reply.old) }
     ensures { (block.new ≡ encode_chip (chip_in (sent_state g frame.now (held_in block.old array.now)))) × (reply.new ≡ reply_of g (decode_registers block.old) (memory_of (decode_chip block.old) array.now) frame.now) }
 {
     let compare = blocks::is_set(block[764]);
@@ -49,7 +49,7 @@ fn send_in(
 }
 
 // A frame sent straight to the chip; the reply is as long. Answers 0, 1, 2.
-pub fn send(block: &mut [u8; 833], array: &[u8], frame: &[u8], reply: &mut [u8]) -> u8
+pub fn send(block: &mut [u8; 765], array: &[u8], frame: &[u8], reply: &mut [u8]) -> u8
     ensures { Met block.old (send_outcome (held_in block.old array.now) frame.now reply.old) result block.new array.now reply.new }
 {
     let o = blocks::operation(block);
@@ -68,7 +68,7 @@ pub fn send(block: &mut [u8; 833], array: &[u8], frame: &[u8], reply: &mut [u8])
 
 // ---- busy ends
 
-// The operation's end changes no register but one counter, at most.
+// The operation's end keeps every register.
 fn is_plain(o: Operation) -> bool
     ensures { result ≡ is_plain o }
 {
@@ -82,7 +82,7 @@ fn is_plain(o: Operation) -> bool
         Operation::ErasePage { page: _ } => true,
         Operation::EraseBlock { block: _ } => true,
         Operation::EraseSector { sector: _ } => true,
-        Operation::EraseChip { sectors: _ } => false,
+        Operation::EraseChip { sectors: _ } => true,
         Operation::EraseProtection => false,
         Operation::ProgramProtection { data: _ } => false,
         Operation::LockSector { sector: _ } => false,
@@ -92,19 +92,17 @@ fn is_plain(o: Operation) -> bool
 
 // Such an end.
 fn end_in(g: Geometry, block: &mut [u8], o: Operation, array: &mut [u8])
-    requires { (Sized g (length array.old)) × (length block.old ≡ 833) × (o ≡ decode_operation block.old) × (within g o ≡ true) × (is_plain o ≡ true) }
+    requires { (Sized g (length array.old)) × (length block.old ≡ 765) × (o ≡ decode_operation block.old) × (within g o ≡ true) × (is_plain o ≡ true) }
     ensures { (block.new ≡ encode_chip (chip_in (ended_state g (held_in block.old array.old)))) × (array.new ≡ (ended_state g (held_in block.old array.old)).memory.array) }
 {
     let compare = blocks::is_set(block[764]);
-    let w = tallies::wear_of(g, o);
     settling::rest(block);
-    storing::wear(block, w.sector, w.pages);
     let bit = completion::complete_memory(g, compare, &mut block[236..764], array, o);
     block[764] = block_parts::flag_byte(bit);
 }
 
 // The operation under way ends and takes effect. Answers 0, 1.
-pub fn end_busy(block: &mut [u8; 833], array: &mut [u8]) -> u8
+pub fn end_busy(block: &mut [u8; 765], array: &mut [u8]) -> u8
     ensures { Met block.old (end_outcome (held_in block.old array.old)) result block.new array.new [] }
 {
     let o = blocks::operation(block);
@@ -126,7 +124,7 @@ pub fn end_busy(block: &mut [u8; 833], array: &mut [u8]) -> u8
 // ---- the others
 
 // A fresh chip with these factory bytes; the array becomes FFh. Answers 0, 1.
-pub fn fresh(block: &mut [u8; 833], factory: &[u8; 64], array: &mut [u8]) -> u8
+pub fn fresh(block: &mut [u8; 765], factory: &[u8; 64], array: &mut [u8]) -> u8
     ensures { MetFresh block.old (fresh_outcome factory.now array.old) result block.new array.new }
 {
     let bytes = *factory;
@@ -135,7 +133,7 @@ pub fn fresh(block: &mut [u8; 833], factory: &[u8; 64], array: &mut [u8]) -> u8
 }
 
 // The WP pin is moved. Answer 0.
-pub fn move_pin(block: &mut [u8; 833], high: bool) -> u8
+pub fn move_pin(block: &mut [u8; 765], high: bool) -> u8
     ensures { MetPin block.old high result block.new }
 {
     storing::move_pin(block, high);
@@ -143,7 +141,7 @@ pub fn move_pin(block: &mut [u8; 833], high: bool) -> u8
 }
 
 // The supply is cut, with junk. Answers 0, 1, 7.
-pub fn cut(block: &mut [u8; 833], array: &mut [u8], junk: &[u8]) -> u8
+pub fn cut(block: &mut [u8; 765], array: &mut [u8], junk: &[u8]) -> u8
     ensures { Met block.old (cut_outcome junk.now (held_in block.old array.old)) result block.new array.new [] }
 {
     let c = blocks::decode(block);

@@ -30,7 +30,7 @@ fn keep(filled: usize, byte: u8, line: &mut [u8]) -> usize
 // The line is whole: what it says is done.
 fn end_line(
     r: Reader,
-    block: &mut [u8; 833],
+    block: &mut [u8; 765],
     array: &mut [u8],
     junk: &mut [u8],
     log: &mut [u8],
@@ -53,7 +53,7 @@ fn end_line(
 fn feed(
     r: Reader,
     byte: u8,
-    block: &mut [u8; 833],
+    block: &mut [u8; 765],
     array: &mut [u8],
     junk: &mut [u8],
     log: &mut [u8],
@@ -85,7 +85,7 @@ fn behind(piece: &[u8], at: usize) -> usize
 pub fn take_piece(
     start: Reader,
     piece: &[u8],
-    block: &mut [u8; 833],
+    block: &mut [u8; 765],
     array: &mut [u8],
     junk: &mut [u8],
     log: &mut [u8],
@@ -108,7 +108,7 @@ pub fn take_piece(
 // The end of the input: a line that no LF ends.
 pub fn finish(
     r: Reader,
-    block: &mut [u8; 833],
+    block: &mut [u8; 765],
     array: &mut [u8],
     junk: &mut [u8],
     log: &mut [u8],

@@ -1,7 +1,6 @@
 -- The lengths that a step lends (docs/OUTLINE.md): as the line gives them or as the call needs them, and at most the room that there is.
 -- Assumes nothing.
 use Rattle.std.specs.Prelude.{ℕ, ◌+◌, ◌*◌, min, ◌≡◌}
-use Rattle.geometry.specs.declared.Geometry.{Geometry}
 use Rattle.geometry.specs.declared.Part.{Part}
 use Rattle.geometry.specs.declared.Part.TheVariants.{Known, Unknown}
 use Rattle.geometry.specs.Parts.{part_of}
@@ -23,7 +22,7 @@ array_room = 1081344
 
 -- for a log: six bytes for each of the most frames that a call sends
 abbrev pub log_room : ℕ
-log_room = 1543548
+log_room = 102204
 
 -- for a get buffer or a reply
 abbrev pub out_room : ℕ
@@ -40,26 +39,23 @@ lent_by (Given n) needed room = min n room
 
 -- ---- what is needed
 
--- the most frames that a call sends on a part, with b polls a wait: of a refresh by the pages of the sector; events are no calls
-unfoldable pub frames_for : Command → Geometry → (unit b : ℕ) → ℕ
-frames_for Command.Put g unit b = stated Kind.Put g unit b
-frames_for Command.Patch g unit b = stated Kind.Patch g unit b
-frames_for Command.Get g unit b = stated Kind.Get g unit b
-frames_for Command.Wipe g unit b = stated Kind.Wipe g unit b
-frames_for Command.Refresh g unit b = stated Kind.Refresh g unit b
-frames_for Command.Raw g unit b = 1
-frames_for Command.Send g unit b = 0
-frames_for Command.End g unit b = 0
-frames_for Command.Pin g unit b = 0
-frames_for Command.Cut g unit b = 0
-frames_for Command.Part g unit b = 0
-frames_for Command.Tally g unit b = 0
-frames_for Command.Sum g unit b = 0
+-- the most frames that a call sends, with b polls a wait; events are no calls
+unfoldable pub frames_for : Command → ℕ → ℕ
+frames_for Command.Put b = stated Kind.Put b
+frames_for Command.Patch b = stated Kind.Patch b
+frames_for Command.Get b = stated Kind.Get b
+frames_for Command.Wipe b = stated Kind.Wipe b
+frames_for Command.Raw b = 1
+frames_for Command.Send b = 0
+frames_for Command.End b = 0
+frames_for Command.Pin b = 0
+frames_for Command.Cut b = 0
+frames_for Command.Part b = 0
+frames_for Command.Sum b = 0
 
 -- the log: six bytes for each frame; a poll limit over 1,000 counts as 1,000
-unfoldable pub log_for : Part → Command → (unit b : ℕ) → ℕ
-log_for (Known g) c unit b = 6 * frames_for c g unit (min b 1000)
-log_for Unknown c unit b = 0
+unfoldable pub log_for : Command → ℕ → ℕ
+log_for c b = 6 * frames_for c (min b 1000)
 
 -- the junk that a cut takes: for both buffers and for the array, which has n bytes
 unfoldable pub junk_for : Part → ℕ → ℕ
@@ -86,7 +82,7 @@ unfoldable pub call_lengths : Order → ℕ → ℕ → Lengths
 call_lengths o size out =
     record {
       junk = lent_by o.junk (junk_for (part_of size) size) junk_room;
-      log = lent_by o.log (log_for (part_of size) o.command o.number o.limit) log_room;
+      log = lent_by o.log (log_for o.command o.limit) log_room;
       out = out;
     }
 
@@ -96,14 +92,12 @@ lengths_by Command.Put o size count = call_lengths o size 0
 lengths_by Command.Patch o size count = call_lengths o size 0
 lengths_by Command.Get o size count = call_lengths o size (lent_by o.buffer (buffer_for (part_of size)) out_room)
 lengths_by Command.Wipe o size count = call_lengths o size 0
-lengths_by Command.Refresh o size count = call_lengths o size 0
 lengths_by Command.Raw o size count = call_lengths o size (lent_by o.reply count out_room)
 lengths_by Command.Send o size count = reply_alone (min count out_room)
 lengths_by Command.End o size count = reply_alone 0
 lengths_by Command.Pin o size count = reply_alone 0
 lengths_by Command.Cut o size count = junk_alone (junk_for (part_of size) size)
 lengths_by Command.Part o size count = reply_alone 0
-lengths_by Command.Tally o size count = reply_alone 0
 lengths_by Command.Sum o size count = reply_alone 0
 
 -- the lengths that an order lends: the chip's array has `size` bytes, HEX `count`

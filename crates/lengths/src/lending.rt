@@ -1,57 +1,39 @@
 // The lengths that a step lends.
-ghost use Rattle.std.specs.Prelude.{◌≡◌, ◌*◌, ◌≤◌};
-ghost use Rattle.geometry.specs.Parts.{part_of, Sized};
-ghost use Rattle.slots.specs.Plans.{stated};
+ghost use Rattle.std.specs.Prelude.{◌≡◌, ◌≤◌};
+ghost use Rattle.geometry.specs.Parts.{part_of};
 ghost use Rattle.lengths.specs.Lengths.{log_room, out_room, junk_room, frames_for, log_for, junk_for, buffer_for, reply_alone, junk_alone, call_lengths, lengths_of};
 
 use crate::room;
 use crate::room::{JUNK_ROOM, LOG_ROOM, Lengths, OUT_ROOM};
-use geometry::{Geometry, Part};
+use geometry::Part;
 use orders::{Command, Order};
 use slots::Kind;
 
-// The most frames of a refresh. A sector that the part lacks has no pages.
-fn refresh_frames(g: Geometry, sector: usize, limit: usize) -> usize
-    requires { (Sized g (g.pages * g.size)) × (limit ≤ 1000) }
-    ensures { (result ≡ stated Kind.Refresh g sector limit) × (result ≤ 4101098) }
-{
-    if geometry::sector_count(g) <= sector {
-        return limit + 2;
-    }
-    steps::bound_of(g, Kind::Refresh, sector, limit)
-}
-
-// The most frames that a call with this poll limit sends; only a refresh goes by its number.
-fn frames_for(g: Geometry, c: Command, unit: usize, limit: usize) -> usize
-    requires { (Sized g (g.pages * g.size)) × (limit ≤ 1000) }
-    ensures { (result ≡ frames_for c g unit limit) × (result ≤ 4101098) }
+// The most frames that a call with this poll limit sends.
+fn frames_for(c: Command, limit: usize) -> usize
+    requires { limit ≤ 1000 }
+    ensures { (result ≡ frames_for c limit) × (result ≤ 17034) }
 {
     match c {
-        Command::Put => steps::bound_of(g, Kind::Put, 0, limit),
-        Command::Patch => steps::bound_of(g, Kind::Patch, 0, limit),
-        Command::Get => steps::bound_of(g, Kind::Get, 0, limit),
-        Command::Wipe => steps::bound_of(g, Kind::Wipe, 0, limit),
-        Command::Refresh => refresh_frames(g, unit, limit),
+        Command::Put => steps::bound_of(Kind::Put, limit),
+        Command::Patch => steps::bound_of(Kind::Patch, limit),
+        Command::Get => steps::bound_of(Kind::Get, limit),
+        Command::Wipe => steps::bound_of(Kind::Wipe, limit),
         Command::Raw => 1,
         Command::Send => 0,
         Command::End => 0,
         Command::Pin => 0,
         Command::Cut => 0,
         Command::Part => 0,
-        Command::Tally => 0,
         Command::Sum => 0,
     }
 }
 
-// Six bytes for each frame, on the part whose array has `size` bytes; a limit over 1,000 counts as 1,000.
-fn log_for(size: usize, c: Command, unit: usize, limit: usize) -> usize
-    ensures { result ≡ log_for (part_of size) c unit limit }
+// Six bytes for each frame; a limit over 1,000 counts as 1,000.
+fn log_for(c: Command, limit: usize) -> usize
+    ensures { result ≡ log_for c limit }
 {
-    let p = geometry::part_of(size);
-    match p {
-        Part::Known(g) => 6 * frames_for(g, c, unit, numbers::lesser(limit, 1000)),
-        Part::Unknown => 0,
-    }
+    6 * frames_for(c, numbers::lesser(limit, 1000))
 }
 
 // The junk that a cut takes: for both buffers and the array, which has `size` bytes.
@@ -107,7 +89,7 @@ fn call_lengths(o: Order, size: usize, out: usize) -> Lengths
     let l = o.log;
     Lengths {
         junk: room::lent(j, junk_for(size), JUNK_ROOM),
-        log: room::lent(l, log_for(size, c, o.number, o.limit), LOG_ROOM),
+        log: room::lent(l, log_for(c, o.limit), LOG_ROOM),
         out: out,
     }
 }
@@ -125,7 +107,6 @@ pub fn lengths(o: Order, size: usize, count: usize) -> Lengths
             call_lengths(o, size, room::lent(b, buffer_for(size), OUT_ROOM))
         }
         Command::Wipe => call_lengths(o, size, 0),
-        Command::Refresh => call_lengths(o, size, 0),
         Command::Raw => {
             let r = o.reply;
             call_lengths(o, size, room::lent(r, count, OUT_ROOM))
@@ -135,7 +116,6 @@ pub fn lengths(o: Order, size: usize, count: usize) -> Lengths
         Command::Pin => reply_alone(0),
         Command::Cut => junk_alone(junk_for(size)),
         Command::Part => reply_alone(0),
-        Command::Tally => reply_alone(0),
         Command::Sum => reply_alone(0),
     }
 }

@@ -5,7 +5,7 @@ ghost use Rattle.lengths.specs.Lengths.{lent_by};
 use orders::Lent;
 
 // For a log: six bytes for each of the most frames that a call sends.
-pub const LOG_ROOM: usize = 1543548;
+pub const LOG_ROOM: usize = 102204;
 // For a get buffer or a reply.
 pub const OUT_ROOM: usize = 65536;
 // For junk.

@@ -35,10 +35,6 @@ count_text name n = name ++ decimal n
 unfoldable pub check_text : List ℕ → ℕ → List ℕ
 check_text name n = name ++ word_text n
 
--- a number in decimal, and what stands behind it
-unfoldable pub number_text : ℕ → List ℕ → List ℕ
-number_text n end = decimal n ++ end
-
 -- a frame, from the six bytes that the log keeps of it
 unfoldable pub frame_text : List ℕ → List ℕ
 frame_text entry = line_text entry ++ bytes "\n"

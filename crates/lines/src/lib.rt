@@ -3,7 +3,7 @@
 ghost use Rattle.std.specs.Prelude.{◌≡◌, ◌+◌, ◌/◌, ◌≤◌, ◌<◌, min, length};
 ghost use Rattle.io.specs.Counts.{IsPrefixLen};
 ghost use Rattle.text.specs.Hexadecimal.{digit_of};
-ghost use Rattle.lines.specs.Texts.{Stands, decimal, word_text, count_text, check_text, number_text, frame_text, answer_text, totals_text, sum_text, fault_text};
+ghost use Rattle.lines.specs.Texts.{Stands, decimal, word_text, count_text, check_text, frame_text, answer_text, totals_text, sum_text, fault_text};
 
 // How many of `part`'s bytes the first `n` are: all of them, where it has fewer.
 pub fn count(n: usize, part: &[u8]) -> usize
@@ -73,15 +73,6 @@ fn put_check(out: &mut [u8], at: usize, name: &[u8], n: u32) -> usize
 {
     let a = put(out, at, name);
     put_word(out, a, n)
-}
-
-// A number in decimal, and `end` behind it.
-pub fn write_number(out: &mut [u8], n: u64, end: &[u8]) -> usize
-    requires { (length out.old ≡ 128) × (length end.now ≤ 64) }
-    ensures { Stands 0 (number_text n end.now) result out.old out.new × IsPrefixLen result out.new }
-{
-    let a = put_decimal(out, 0, n);
-    put(out, a, end)
 }
 
 pub fn write_frame(out: &mut [u8], entry: &[u8]) -> usize

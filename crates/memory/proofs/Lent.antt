@@ -52,8 +52,8 @@ module _ (g : Geometry) (r : Run) {a e : ℕ} (at : a ≡ page_start g r.first) 
   run_long xs h = omega (arith, run_end, part_length a e xs (omega (arith, run_end)) h)
 
   -- as many bytes of another list, from `base` and the run's start on
-  pub run-from : (base : ℕ) (js : List ℕ) → take (base + e - (base + a)) (drop (base + a) js) ≡ take (r.count * g.size) (drop (base + page_start g r.first) js)
-  run-from base js =
+  pub run_from : (base : ℕ) (js : List ℕ) → take (base + e - (base + a)) (drop (base + a) js) ≡ take (r.count * g.size) (drop (base + page_start g r.first) js)
+  run_from base js =
       let k : base + e - (base + a) ≡ r.count * g.size = omega (arith, run_end) in
       rw (k, at)
 

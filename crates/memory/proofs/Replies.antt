@@ -40,9 +40,9 @@ module _ (n lead : ℕ) where
       go i l false t = e (i - lead) (omega (arith, ltb-false i lead t))
 
   -- no data
-  pub replied-nothing : replied n lead no_data ≡ replicate n 255
+  pub replied_nothing : replied n lead no_data ≡ replicate n 255
   unfolding replied
-  replied-nothing = tabulate-same n (byte lead no_data) no_data (λ i h. always (ltb i lead)) ∙ tabulate_const n 255
+  replied_nothing = tabulate-same n (byte lead no_data) no_data (λ i h. always (ltb i lead)) ∙ tabulate_const n 255
     where
       always : (b : Bool) → ◌≡◌ {A = ℕ} (cond b 255 255) 255
       always true = refl

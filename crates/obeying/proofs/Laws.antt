@@ -19,7 +19,7 @@ use Rattle.state.specs.Answers.{number_of}
 use Rattle.state.specs.Memory.{State, chip_in}
 use Rattle.state.specs.declared.Answer.TheVariants as Answers
 use Rattle.state.specs.Outcomes.{Left, left, fresh_state, fresh_by, fresh_outcome}
-use Rattle.blocks.specs.Block.{tally_in, encode_chip}
+use Rattle.blocks.specs.Block.{encode_chip}
 use Rattle.blocks.specs.Promises.{stored_by, stored_in}
 use Rattle.words.specs.declared.Command.{Command}
 use Rattle.words.specs.declared.Command.TheVariants as Command
@@ -39,18 +39,16 @@ use Rattle.slices.proofs.Laws.{length-splice}
 use Rattle.lines.specs.Texts.{Stands, fault_text}
 use Rattle.printing.specs.declared.Output.{Output}
 use Rattle.printing.specs.Held.{Printed}
-use Rattle.printing.specs.Texts.{sum_line, tally_line}
+use Rattle.printing.specs.Texts.{sum_line}
 use Rattle.printing.proofs.Laws.{printed_as, printed_none}
 use Rattle.acting.specs.declared.Totals.{Totals}
 use Rattle.contents.specs.Junk.{junk_of}
 use Rattle.lengths.specs.declared.room.Lengths.{Lengths}
 use Rattle.lengths.specs.Lengths.{Lends, lengths_of, array_room}
 use Rattle.acting.specs.Steps.{is_step, seed_of, blank, op_of, Seen, seen_by, Took}
-use Rattle.obeying.specs.declared.Report.{Report}
-use Rattle.obeying.specs.declared.Report.TheVariants as Report
 use Rattle.obeying.specs.declared.Session.{Session}
 use Rattle.obeying.specs.Desk.{Desk, desk_of, counted, Whole, fresh_part, renewed, begun}
-use Rattle.obeying.specs.Orders.{report_of, seen_with, seen_on, seen_in, stepped, shown_by, shown_of, summed, tallied, resting, reported, obeyed, shown, after_reading, reading_text, after_line, line_text}
+use Rattle.obeying.specs.Orders.{is_sum, seen_with, seen_on, seen_in, stepped, shown_by, shown_of, summed, obeyed, shown, after_reading, reading_text, after_line, line_text}
 use Rattle.obeying.specs.Promises.{Obeyed, Ran, after_step, with_output}
 
 -- a count past the end takes all
@@ -185,37 +183,37 @@ obeyed_as k e f = record { desk = k.desk ∙ e; shows = printed_as k.shows f }
 
 pub step-obeyed : (o : Order) (line : List ℕ) (d : Desk) → is_step o.command ≡ true → stepped (seen_in o line d) d ≡ obeyed o line d
 unfolding obeyed
-step-obeyed o line d e = sym (ap (λ (b : Bool). cond b (stepped (seen_in o line d) d) (resting (report_of o.command) o.number d)) e)
+step-obeyed o line d e = sym (ap (λ (b : Bool). cond b (stepped (seen_in o line d) d) (cond (is_sum o.command) d (renewed o.number d))) e)
 
 pub step-shown : (o : Order) (line : List ℕ) (d : Desk) → is_step o.command ≡ true → shown_of o.command (seen_in o line d) ≡ shown o line d
 unfolding shown
-step-shown o line d e = sym (ap (λ (b : Bool). cond b (shown_of o.command (seen_in o line d)) (reported (report_of o.command) d)) e)
+step-shown o line d e = sym (ap (λ (b : Bool). cond b (shown_of o.command (seen_in o line d)) (cond (is_sum o.command) (summed d) [])) e)
 
--- no step, and this report
-module _ (o : Order) (line : List ℕ) {r : Report} (e : is_step o.command ≡ false) (f : report_of o.command ≡ r) where
-  other_obeyed : (d : Desk) → resting r o.number d ≡ obeyed o line d
-  unfolding obeyed
-  other_obeyed d = sym (λ i. cond (e i) (stepped (seen_in o line d) d) (resting (f i) o.number d))
+-- neither a step nor (b) a sum
+other_obeyed : (o : Order) (line : List ℕ) (d : Desk) (b : Bool) → is_step o.command ≡ false → is_sum o.command ≡ b
+    → cond b d (renewed o.number d) ≡ obeyed o line d
+unfolding obeyed
+other_obeyed o line d b e f = sym (λ i. cond (e i) (stepped (seen_in o line d) d) (cond (f i) d (renewed o.number d)))
 
-  other_shown : (d : Desk) → reported r d ≡ shown o line d
-  unfolding shown
-  other_shown d = sym (λ i. cond (e i) (shown_of o.command (seen_in o line d)) (reported (f i) d))
+other_shown : (o : Order) (line : List ℕ) (d : Desk) (b : Bool) → is_step o.command ≡ false → is_sum o.command ≡ b → cond b (summed d) [] ≡ shown o line d
+unfolding shown
+other_shown o line d b e f = sym (λ i. cond (e i) (shown_of o.command (seen_in o line d)) (cond (f i) (summed d) []))
 
-  pub report_done : (s : Session) {r' : Session} (l : List ℕ) {text block array log out text' : List ℕ} → resting r o.number (desk_of s block array log out) ≡ desk_of s block array log out
-      → l ≡ reported r (desk_of s block array log out) → r' ≡ with_output s r'.output → Printed l s.output text r'.output text'
-      → Obeyed (obeyed o line (desk_of s block array log out)) (shown o line (desk_of s block array log out)) s text r' block array log out text'
-  report_done s {r'} l {text} {block} {array} {log} {out} {text'} same is k p =
-      record {
-        desk = same-desk s block array log out k ∙ sym same ∙ other_obeyed (desk_of s block array log out);
-        shows = printed_as p (is ∙ other_shown (desk_of s block array log out));
-      }
+pub sum_done : (o : Order) (line : List ℕ) (s : Session) {r : Session} {text block array log out text' : List ℕ} → is_step o.command ≡ false → is_sum o.command ≡ true
+    → r ≡ with_output s r.output → Printed (summed (desk_of s block array log out)) s.output text r.output text'
+    → Obeyed (obeyed o line (desk_of s block array log out)) (shown o line (desk_of s block array log out)) s text r block array log out text'
+sum_done o line s {r} {text} {block} {array} {log} {out} {text'} e f k p =
+    record {
+      desk = same-desk s block array log out k ∙ other_obeyed o line (desk_of s block array log out) true e f;
+      shows = printed_as p (other_shown o line (desk_of s block array log out) true e f);
+    }
 
-pub part-done : (o : Order) (line : List ℕ) (s : Session) {r : Session} (d : Desk) {text block array log out : List ℕ} → is_step o.command ≡ false → report_of o.command ≡ Report.Neither
+pub part-done : (o : Order) (line : List ℕ) (s : Session) {r : Session} (d : Desk) {text block array log out : List ℕ} → is_step o.command ≡ false → is_sum o.command ≡ false
     → desk_of r block array log out ≡ renewed o.number d → r.output ≡ s.output → Obeyed (obeyed o line d) (shown o line d) s text r block array log out text
 part-done o line s {r} d {text} {block} {array} {log} {out} e f k h =
     record {
-      desk = k ∙ other_obeyed o line e f d;
-      shows = printed_as (subst (λ (x : Output). Printed [] s.output text x text) (sym h) (printed_none s.output text)) (other_shown o line e f d);
+      desk = k ∙ other_obeyed o line d false e f;
+      shows = printed_as (subst (λ (x : Output). Printed [] s.output text x text) (sym h) (printed_none s.output text)) (other_shown o line d false e f);
     }
 
 -- ---- a line
@@ -263,21 +261,19 @@ unfolding counted
 line-counted s n e block array log out =
     λ i. record { block = block; array = take s.size array; log = take s.log log; out = take s.out out; given = s.given; lines = e i }
 
--- what is neither a step nor a report is a part
-pub part-whole : (c : Command) (n : ℕ) → is_step c ≡ false → report_of c ≡ Report.Neither → Ranged (first_of c) n → Whole n
+-- what is neither a step nor a sum is a part
+pub part-whole : (c : Command) (n : ℕ) → is_step c ≡ false → is_sum c ≡ false → Ranged (first_of c) n → Whole n
 part-whole Command.Put n e f h = absurd (true≢false e)
 part-whole Command.Patch n e f h = absurd (true≢false e)
 part-whole Command.Get n e f h = absurd (true≢false e)
 part-whole Command.Wipe n e f h = absurd (true≢false e)
-part-whole Command.Refresh n e f h = absurd (true≢false e)
 part-whole Command.Raw n e f h = absurd (true≢false e)
 part-whole Command.Send n e f h = absurd (true≢false e)
 part-whole Command.End n e f h = absurd (true≢false e)
 part-whole Command.Pin n e f h = absurd (true≢false e)
 part-whole Command.Cut n e f h = absurd (true≢false e)
 part-whole Command.Part n e f h = h
-part-whole Command.Tally n e f h = let z : ◌≡◌ {A = ℕ} 0 1 = cc in absurd (omega arith)
-part-whole Command.Sum n e f h = let z : ◌≡◌ {A = ℕ} 0 1 = cc in absurd (omega arith)
+part-whole Command.Sum n e f h = absurd (true≢false f)
 
 -- there is room for it
 pub whole_room : (n : ℕ) → Whole n → n ≤ array_room

@@ -3,7 +3,7 @@
 use Rattle.std.specs.Prelude.{Bool, true, false, cond, List, [], ℕ, length}
 use Rattle.text.specs.Hexadecimal.{bytes_of}
 use Rattle.words.specs.declared.Command.{Command}
-use Rattle.words.specs.declared.Command.TheVariants.{Put, Patch, Get, Wipe, Refresh, Raw, Send, End, Pin, Cut, Part, Tally, Sum}
+use Rattle.words.specs.declared.Command.TheVariants.{Put, Patch, Get, Wipe, Raw, Send, End, Pin, Cut, Part, Sum}
 use Rattle.orders.specs.declared.Order.{Order}
 use Rattle.orders.specs.declared.Reading.{Reading}
 use Rattle.orders.specs.declared.Reading.TheVariants as Reading
@@ -11,15 +11,12 @@ use Rattle.words.specs.Words.{is_call, part_of}
 use Rattle.orders.specs.Lines.{read_of}
 use Rattle.faults.specs.Messages.{text_of}
 use Rattle.lines.specs.Texts.{answer_text, fault_text}
-use Rattle.printing.specs.Texts.{call_text, sum_line, tally_line}
-use Rattle.blocks.specs.Block.{tally_in}
+use Rattle.printing.specs.Texts.{call_text, sum_line}
 use Rattle.lengths.specs.declared.room.Lengths.{Lengths}
 use Rattle.contents.specs.Junk.{junk_of}
 use Rattle.lengths.specs.Lengths.{lengths_of}
 use Rattle.acting.specs.Steps.{is_step, seed_of, blank, op_of, Seen, seen_by}
 use Rattle.obeying.specs.Desk.{Desk, counted, renewed}
-use Rattle.obeying.specs.declared.Report.{Report}
-use Rattle.obeying.specs.declared.Report.TheVariants as Report
 
 -- ---- a step: a call, or an event on the chip
 
@@ -59,49 +56,33 @@ shown_of c z = shown_by (is_call c) z.log z.frames z.polls z.answer
 
 -- ---- an order
 
--- which report it is, if it is one: `sum` and `tally` report, and change nothing
-abbrev pub report_of : Command → Report
-report_of Put = Report.Neither
-report_of Patch = Report.Neither
-report_of Get = Report.Neither
-report_of Wipe = Report.Neither
-report_of Refresh = Report.Neither
-report_of Raw = Report.Neither
-report_of Send = Report.Neither
-report_of End = Report.Neither
-report_of Pin = Report.Neither
-report_of Cut = Report.Neither
-report_of Part = Report.Neither
-report_of Tally = Report.Tally
-report_of Sum = Report.Sum
+-- it is `sum`
+abbrev pub is_sum : Command → Bool
+is_sum Put = false
+is_sum Patch = false
+is_sum Get = false
+is_sum Wipe = false
+is_sum Raw = false
+is_sum Send = false
+is_sum End = false
+is_sum Pin = false
+is_sum Cut = false
+is_sum Part = false
+is_sum Sum = true
 
 -- the line of `sum`: the checksums of the last step
 unfoldable pub summed : Desk → List ℕ
 summed d = sum_line d.block d.array d.log d.out d.given
 
--- the line of `tally`: the chip's counts
-unfoldable pub tallied : Desk → List ℕ
-tallied d = tally_line (tally_in d.block).counts
-
--- the desk after an order that is no step: `part`, which is no report either, brings a fresh part
-abbrev pub resting : Report → ℕ → Desk → Desk
-resting Report.Sum n d = d
-resting Report.Tally n d = d
-resting Report.Neither n d = renewed n d
-
--- what such an order prints: of `part` nothing
-abbrev pub reported : Report → Desk → List ℕ
-reported Report.Sum d = summed d
-reported Report.Tally d = tallied d
-reported Report.Neither d = []
-
--- the desk after an order of a line
+-- the desk after an order of a line: `sum` changes nothing, `part` brings a fresh part
 unfoldable pub obeyed : Order → List ℕ → Desk → Desk
-obeyed o line d = cond (is_step o.command) (stepped (seen_in o line d) d) (resting (report_of o.command) o.number d)
+obeyed o line d = cond (is_step o.command) (stepped (seen_in o line d) d) (cond (is_sum o.command) d (renewed o.number d))
 
--- what it prints
+-- what it prints: of `part` nothing
 unfoldable pub shown : Order → List ℕ → Desk → List ℕ
-shown o line d = cond (is_step o.command) (shown_of o.command (seen_in o line d)) (reported (report_of o.command) d)
+shown o line d =
+    cond (is_step o.command) (shown_of o.command (seen_in o line d))
+    (cond (is_sum o.command) (summed d) [])
 
 -- ---- a line
 

@@ -3,16 +3,16 @@
 ghost use Rattle.std.specs.Prelude.{◌≡◌, true, false, List, [], ℕ, ◌+◌, ◌≤◌, min, length, take};
 ghost use Rattle.printing.specs.Held.{Printed};
 ghost use Rattle.lines.specs.Texts.{fault_text};
-ghost use Rattle.printing.specs.Texts.{sum_line, tally_line};
+ghost use Rattle.printing.specs.Texts.{sum_line};
 ghost use Rattle.lengths.specs.Lengths.{Lends, lengths_of, array_room, junk_room, log_room};
 ghost use Rattle.acting.specs.Steps.{is_step, Seen};
 ghost use Rattle.orders.specs.Bounds.{Sound, SoundReading};
 ghost use Rattle.faults.specs.Messages.{text_of};
 ghost use Rattle.words.specs.Words.{is_call};
 ghost use Rattle.state.specs.Memory.{chip_in};
-ghost use Rattle.blocks.specs.Block.{tally_in, encode_chip};
+ghost use Rattle.blocks.specs.Block.{encode_chip};
 ghost use Rattle.obeying.specs.Desk.{desk_of, counted, fresh_part, Whole, renewed, begun};
-ghost use Rattle.obeying.specs.Orders.{seen_on, seen_in, stepped, shown_by, shown_of, report_of, summed, obeyed, shown, after_line, line_text};
+ghost use Rattle.obeying.specs.Orders.{is_sum, seen_on, seen_in, stepped, shown_by, shown_of, summed, obeyed, shown, after_line, line_text};
 ghost use Rattle.obeying.specs.Promises.{Roomy, Obeyed, Ran, after_step, with_output};
 
 use acting::Totals;
@@ -35,14 +35,6 @@ pub struct Session {
     // How many lines have been read.
     pub lines: u64,
     pub output: Output,
-}
-
-// Which report an order is.
-#[derive(Drop)]
-pub enum Report {
-    Sum,
-    Tally,
-    Neither,
 }
 
 // ---- sessions
@@ -107,7 +99,7 @@ fn show(c: Command, o: Output, text: &mut [u8], log: &[u8], t: Totals) -> Output
 fn run(
     o: Order,
     s: Session,
-    block: &mut [u8; 833],
+    block: &mut [u8; 765],
     array: &mut [u8],
     bytes: &[u8],
     script: &[u8],
@@ -130,7 +122,7 @@ fn run(
 fn lend(
     o: Order,
     s: Session,
-    block: &mut [u8; 833],
+    block: &mut [u8; 765],
     array: &mut [u8],
     bytes: &[u8],
     script: &[u8],
@@ -166,7 +158,7 @@ fn step(
     o: Order,
     s: Session,
     line: &[u8],
-    block: &mut [u8; 833],
+    block: &mut [u8; 765],
     array: &mut [u8],
     junk: &mut [u8],
     log: &mut [u8],
@@ -199,7 +191,7 @@ fn step(
 // ---- the other orders
 
 // The chip becomes a fresh part of `n` bytes; its factory bytes are 0.
-fn renew(n: usize, block: &mut [u8; 833], array: &mut [u8])
+fn renew(n: usize, block: &mut [u8; 765], array: &mut [u8])
     requires { (length array.old ≡ n) × Whole n }
     ensures { (block.new ≡ encode_chip (chip_in (fresh_part n).state)) × (array.new ≡ (fresh_part n).state.memory.array) }
 {
@@ -208,7 +200,7 @@ fn renew(n: usize, block: &mut [u8; 833], array: &mut [u8])
 }
 
 // A fresh part of `n` bytes; nothing was lent.
-fn part(s: Session, n: usize, block: &mut [u8; 833], array: &mut [u8]) -> Session
+fn part(s: Session, n: usize, block: &mut [u8; 765], array: &mut [u8]) -> Session
     requires { (length array.old ≡ array_room) × Whole n }
     ensures { ((log out : List ℕ) → desk_of result block.new array.new log out ≡ renewed n (desk_of s block.old array.old log out)) × (result.output ≡ s.output) }
 {
@@ -217,7 +209,7 @@ fn part(s: Session, n: usize, block: &mut [u8; 833], array: &mut [u8]) -> Sessio
 }
 
 // The program starts with a fresh short part.
-pub fn start(block: &mut [u8; 833], array: &mut [u8]) -> Session
+pub fn start(block: &mut [u8; 765], array: &mut [u8]) -> Session
     requires { length array.old ≡ array_room }
     ensures { ((log out : List ℕ) → desk_of result block.new array.new log out ≡ begun) × (result.output ≡ record { waiting = 0; written = 0; failed = false }) }
 {
@@ -235,7 +227,7 @@ pub fn start(block: &mut [u8; 833], array: &mut [u8]) -> Session
 // The checksums of the last step.
 fn sum(
     s: Session,
-    block: &[u8; 833],
+    block: &[u8; 765],
     array: &[u8],
     log: &[u8],
     out: &[u8],
@@ -256,17 +248,6 @@ fn sum(
         &out[..o],
         s.given,
     );
-    with_output(s, p)
-}
-
-// The chip's tally.
-fn tally(s: Session, block: &[u8; 833], text: &mut [u8]) -> Session
-    requires { 128 ≤ length text.old }
-    ensures { (result ≡ with_output s result.output) × Printed (tally_line (tally_in block.now).counts) s.output text.old result.output text.new }
-{
-    let t = blocks::tally(block);
-    let counts = t.counts;
-    let p = printing::print_tally(s.output, text, &counts);
     with_output(s, p)
 }
 
@@ -291,35 +272,31 @@ fn is_step(c: Command) -> bool
         Command::Patch => true,
         Command::Get => true,
         Command::Wipe => true,
-        Command::Refresh => true,
         Command::Raw => true,
         Command::Send => true,
         Command::End => true,
         Command::Pin => true,
         Command::Cut => true,
         Command::Part => false,
-        Command::Tally => false,
         Command::Sum => false,
     }
 }
 
-fn report_of(c: Command) -> Report
-    ensures { result ≡ report_of c }
+fn is_sum(c: Command) -> bool
+    ensures { result ≡ is_sum c }
 {
     match c {
-        Command::Put => Report::Neither,
-        Command::Patch => Report::Neither,
-        Command::Get => Report::Neither,
-        Command::Wipe => Report::Neither,
-        Command::Refresh => Report::Neither,
-        Command::Raw => Report::Neither,
-        Command::Send => Report::Neither,
-        Command::End => Report::Neither,
-        Command::Pin => Report::Neither,
-        Command::Cut => Report::Neither,
-        Command::Part => Report::Neither,
-        Command::Tally => Report::Tally,
-        Command::Sum => Report::Sum,
+        Command::Put => false,
+        Command::Patch => false,
+        Command::Get => false,
+        Command::Wipe => false,
+        Command::Raw => false,
+        Command::Send => false,
+        Command::End => false,
+        Command::Pin => false,
+        Command::Cut => false,
+        Command::Part => false,
+        Command::Sum => true,
     }
 }
 
@@ -328,7 +305,7 @@ fn obey(
     o: Order,
     s: Session,
     line: &[u8],
-    block: &mut [u8; 833],
+    block: &mut [u8; 765],
     array: &mut [u8],
     junk: &mut [u8],
     log: &mut [u8],
@@ -342,19 +319,17 @@ fn obey(
     if is_step(command) {
         return step(o, s, line, block, array, junk, log, out, text);
     }
-    let r = report_of(command);
-    match r {
-        Report::Sum => sum(s, block, array, log, out, text),
-        Report::Tally => tally(s, block, text),
-        Report::Neither => part(s, o.number, block, array),
+    if is_sum(command) {
+        return sum(s, block, array, log, out, text);
     }
+    part(s, o.number, block, array)
 }
 
 // A line is whole: it is acted on, or what is wrong with it is printed.
 pub fn act_on(
     s: Session,
     line: &[u8],
-    block: &mut [u8; 833],
+    block: &mut [u8; 765],
     array: &mut [u8],
     junk: &mut [u8],
     log: &mut [u8],

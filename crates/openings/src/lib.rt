@@ -38,10 +38,3 @@ pub fn start_wipe(array: usize, slot: usize, limit: usize) -> Driver
     let detail = starts::untold();
     starts::start(array, Kind::Wipe, slot, limit, detail, 0, 0)
 }
-
-pub fn start_refresh(array: usize, sector: usize, limit: usize) -> Driver
-    ensures { result ≡ start_driver array (asking Kind.Refresh sector limit) untold 0 0 }
-{
-    let detail = starts::untold();
-    starts::start(array, Kind::Refresh, sector, limit, detail, 0, 0)
-}

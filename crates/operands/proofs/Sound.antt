@@ -33,9 +33,9 @@ use Rattle.operands.specs.declared.Step.TheVariants as Step
 use Rattle.words.proofs.Spans.{word-within}
 
 -- a fact of both arms holds of the one that a test picks
-pick-step : (n : ℕ) (k : First) (b : Bool) (s t : Step) → SoundStep n k s → SoundStep n k t → SoundStep n k (cond b s t)
-pick-step n k true s t p q = p
-pick-step n k false s t p q = q
+pick_step : (n : ℕ) (k : First) (b : Bool) (s t : Step) → SoundStep n k s → SoundStep n k t → SoundStep n k (cond b s t)
+pick_step n k true s t p q = p
+pick_step n k false s t p q = q
 
 -- ---- numbers
 any_slot : (n : Numbered) → SoundNumber First.Slot n
@@ -46,20 +46,20 @@ reduced-seed : (n : Numbered) → SoundNumber First.Seed (reduced n)
 reduced-seed (Numbered.Value v) = omega arith
 reduced-seed (Numbered.Fault f) = tt
 
-pick-number : (k : First) (b : Bool) (m n : Numbered) → SoundNumber k m → SoundNumber k n → SoundNumber k (cond b m n)
-pick-number k true m n p q = p
-pick-number k false m n p q = q
+pick_number : (k : First) (b : Bool) (m n : Numbered) → SoundNumber k m → SoundNumber k n → SoundNumber k (cond b m n)
+pick_number k true m n p q = p
+pick_number k false m n p q = q
 
 -- what a table gives is in the range that holds all its numbers
 table_sound : (k : First) (word : List ℕ) (rs : List Row) (f : Fault) → ((n : ℕ) → Among n rs → Ranged k n) → SoundNumber k (in_table word rs f)
 table_sound k word [] f h = tt
 table_sound k word (r ∷ rs) f h =
-    pick-number k (same word r.word) (Numbered.Value r.number) (in_table word rs f) (h r.number (inl refl))
+    pick_number k (same word r.word) (Numbered.Value r.number) (in_table word rs f) (h r.number (inl refl))
     (table_sound k word rs f (λ n m. h n (inr m)))
 
 given-sound : (k : First) (word : List ℕ) (name : Name) (rs : List Row) (f : Fault) → ((n : ℕ) → Among n rs → Ranged k n) → SoundNumber k (if_given word name (in_table word rs f))
 given-sound k word name rs f h =
-    pick-number k (eqb (length word) 0) (Numbered.Fault (Fault.Missing name)) (in_table word rs f) tt (table_sound k word rs f h)
+    pick_number k (eqb (length word) 0) (Numbered.Fault (Fault.Missing name)) (in_table word rs f) tt (table_sound k word rs f h)
 
 level_most : (n : ℕ) → Among n levels → n ≤ 1
 level_most n (inl e) = omega arith
@@ -98,7 +98,7 @@ place-sound : (xs : List ℕ) (c : Command) (k : First) (s : Step) → SoundStep
 unfolding take_place
 place-sound xs c k (Step.More t) h =
     let w = word_from xs t.at in
-    pick-step (length xs) k (takes_place c) (with_place_to t w.end (decimal_of (part_of xs w) Name.Place)) (Step.More t)
+    pick_step (length xs) k (takes_place c) (with_place_to t w.end (decimal_of (part_of xs w) Name.Place)) (Step.More t)
     (placed-sound (length xs) k t w.end (decimal_of (part_of xs w) Name.Place) h) h
 place-sound xs c k (Step.Fault f) h = tt
 
@@ -111,8 +111,8 @@ unfolding take_bytes
 bytes-sound xs c k (Step.More t) h =
     let w = word_from xs t.at in
     let v = with_bytes_to t w (test_hex (part_of xs w) Name.Hex) in
-    pick-step (length xs) k (takes_bytes c) (cond (eqb w.start w.end) (Step.Fault (Fault.Missing Name.Hex)) v) (Step.More t)
-    (pick-step (length xs) k (eqb w.start w.end) (Step.Fault (Fault.Missing Name.Hex)) v tt
+    pick_step (length xs) k (takes_bytes c) (cond (eqb w.start w.end) (Step.Fault (Fault.Missing Name.Hex)) v) (Step.More t)
+    (pick_step (length xs) k (eqb w.start w.end) (Step.Fault (Fault.Missing Name.Hex)) v tt
     (hexed_sound (length xs) k t w (test_hex (part_of xs w) Name.Hex) (word-within xs t.at) h)) h
 bytes-sound xs c k (Step.Fault f) h = tt
 

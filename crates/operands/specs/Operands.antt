@@ -26,14 +26,12 @@ first_of Command.Put = First.Slot
 first_of Command.Patch = First.Slot
 first_of Command.Get = First.Slot
 first_of Command.Wipe = First.Slot
-first_of Command.Refresh = First.Slot
 first_of Command.Raw = First.Nothing
 first_of Command.Send = First.Nothing
 first_of Command.End = First.Nothing
 first_of Command.Pin = First.Level
 first_of Command.Cut = First.Seed
 first_of Command.Part = First.Part
-first_of Command.Tally = First.Nothing
 first_of Command.Sum = First.Nothing
 
 -- PLACE stands behind S of patch alone
@@ -42,14 +40,12 @@ takes_place Command.Put = false
 takes_place Command.Patch = true
 takes_place Command.Get = false
 takes_place Command.Wipe = false
-takes_place Command.Refresh = false
 takes_place Command.Raw = false
 takes_place Command.Send = false
 takes_place Command.End = false
 takes_place Command.Pin = false
 takes_place Command.Cut = false
 takes_place Command.Part = false
-takes_place Command.Tally = false
 takes_place Command.Sum = false
 
 -- HEX is the last word of put, patch, raw and send
@@ -58,14 +54,12 @@ takes_bytes Command.Put = true
 takes_bytes Command.Patch = true
 takes_bytes Command.Get = false
 takes_bytes Command.Wipe = false
-takes_bytes Command.Refresh = false
 takes_bytes Command.Raw = true
 takes_bytes Command.Send = true
 takes_bytes Command.End = false
 takes_bytes Command.Pin = false
 takes_bytes Command.Cut = false
 takes_bytes Command.Part = false
-takes_bytes Command.Tally = false
 takes_bytes Command.Sum = false
 
 -- ---- the words in their places

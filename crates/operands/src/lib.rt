@@ -29,14 +29,12 @@ fn first_of(c: Command) -> First
         Command::Patch => First::Slot,
         Command::Get => First::Slot,
         Command::Wipe => First::Slot,
-        Command::Refresh => First::Slot,
         Command::Raw => First::Nothing,
         Command::Send => First::Nothing,
         Command::End => First::Nothing,
         Command::Pin => First::Level,
         Command::Cut => First::Seed,
         Command::Part => First::Part,
-        Command::Tally => First::Nothing,
         Command::Sum => First::Nothing,
     }
 }
@@ -49,14 +47,12 @@ fn takes_place(c: Command) -> bool
         Command::Patch => true,
         Command::Get => false,
         Command::Wipe => false,
-        Command::Refresh => false,
         Command::Raw => false,
         Command::Send => false,
         Command::End => false,
         Command::Pin => false,
         Command::Cut => false,
         Command::Part => false,
-        Command::Tally => false,
         Command::Sum => false,
     }
 }
@@ -69,14 +65,12 @@ fn takes_bytes(c: Command) -> bool
         Command::Patch => true,
         Command::Get => false,
         Command::Wipe => false,
-        Command::Refresh => false,
         Command::Raw => true,
         Command::Send => true,
         Command::End => false,
         Command::Pin => false,
         Command::Cut => false,
         Command::Part => false,
-        Command::Tally => false,
         Command::Sum => false,
     }
 }

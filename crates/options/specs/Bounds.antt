@@ -10,7 +10,7 @@ use Rattle.options.specs.declared.Choice.TheVariants as Choice
 pub record SoundSettings (n : ℕ) (s : Settings) : Type 0 where
   pub script : Within n s.script
   pub junk : s.junk.value ≤ 1114112
-  pub log : s.log.value ≤ 1543548
+  pub log : s.log.value ≤ 102204
   pub buffer : s.buffer.value ≤ 65536
   pub reply : s.reply.value ≤ 65536
 

@@ -54,7 +54,7 @@ order_sound n c t s l p q =
       number = p.1;
       seed = omega arith;
       junk = lent-sound 1114112 s.junk q.junk;
-      log = lent-sound 1543548 s.log q.log;
+      log = lent-sound 102204 s.log q.log;
       buffer = lent-sound 65536 s.buffer q.buffer;
       reply = lent-sound 65536 s.reply q.reply;
     }

@@ -23,7 +23,7 @@ pub record Sound (n : ℕ) (o : Order) : Type 0 where
   pub number : Ranged (first_of o.command) o.number
   pub seed : o.seed < 256
   pub junk : Roomed 1114112 o.junk
-  pub log : Roomed 1543548 o.log
+  pub log : Roomed 102204 o.log
   pub buffer : Roomed 65536 o.buffer
   pub reply : Roomed 65536 o.reply
 

@@ -45,10 +45,10 @@ fn full_junk() -> [u8; 1114112]
     [0; 1114112]
 }
 
-fn full_log() -> [u8; 1543548]
+fn full_log() -> [u8; 102204]
     ensures { length result ≡ log_room }
 {
-    [0; 1543548]
+    [0; 102204]
 }
 
 fn line_room() -> [u8; 8193]
@@ -58,7 +58,7 @@ fn line_room() -> [u8; 8193]
 }
 
 fn main() {
-    let mut block = [0u8; 833];
+    let mut block = [0u8; 765];
     let mut array = full_array();
     let mut junk = full_junk();
     let mut log = full_log();
@@ -83,7 +83,7 @@ fn report(e: Ended) {
 
 // The whole run, with all that the program holds lent.
 fn run(
-    block: &mut [u8; 833],
+    block: &mut [u8; 765],
     array: &mut [u8],
     junk: &mut [u8],
     log: &mut [u8],
@@ -155,7 +155,7 @@ fn stopped(i: Input, failed: bool) -> Input
 // fails for good, or a count that has no room for the piece. Where writing has failed nothing more is read.
 fn read_piece(
     i: Input,
-    block: &mut [u8; 833],
+    block: &mut [u8; 765],
     array: &mut [u8],
     junk: &mut [u8],
     log: &mut [u8],
@@ -193,7 +193,7 @@ fn read_piece(
 // that no run uses up.
 fn read_all(
     start: Reader,
-    block: &mut [u8; 833],
+    block: &mut [u8; 765],
     array: &mut [u8],
     junk: &mut [u8],
     log: &mut [u8],
@@ -221,7 +221,7 @@ fn read_all(
 // The input has ended: the last line too, unless the input could not be read to its end.
 fn end_input(
     i: Input,
-    block: &mut [u8; 833],
+    block: &mut [u8; 765],
     array: &mut [u8],
     junk: &mut [u8],
     log: &mut [u8],

@@ -91,9 +91,9 @@ image_made period recipe part ys zs start k h w e q r =
     ∙ image-first period recipe (length part) start (omega (arith, head-most period)) e
 
 -- another page
-pub image-later : (period : Period) (recipe : List ℕ) (n start k : ℕ) → k ≡ head_size (version_of period) → 11 ≤ start
+pub image_later : (period : Period) (recipe : List ℕ) (n start k : ℕ) → k ≡ head_size (version_of period) → 11 ≤ start
     → tabulate n (λ i. get_or recipe (start - k + i) 0) ≡ tabulate n (λ i. image period recipe (start + i))
-image-later period recipe n start k w h =
+image_later period recipe n start k w h =
     tabulate-same n (λ i. get_or recipe (start - k + i) 0) (λ i. image period recipe (start + i))
     (λ i l. let m : start - k + i ≡ start + i - head_size (version_of period) = omega (arith, w, head-most period) in ap (λ (j : ℕ). get_or recipe j 0) m
     ∙ sym (image-byte period recipe (start + i) (omega (arith, head-most period))))
@@ -115,11 +115,11 @@ module _ (v : Verdict) (aim : Aim) (payload staged : List ℕ) (start size : ℕ
   laden = tabulate size (λ i. stored_by Patch (held v aim payload staged) (start + i))
 
   -- a byte of it, by whether the verdict lets the patch change it
-  byte-by : {b x : Bool} → Changing v b → b ≡ x → (i : ℕ)
+  byte_by : {b x : Bool} → Changing v b → b ≡ x → (i : ℕ)
       → cond x (patched (head_size (version_in staged)) aim.place payload (get_or staged (start + i) 0) (start + i)) (get_or staged (start + i) 0)
       ≡ stored_by Patch (held v aim payload staged) (start + i)
   unfolding stored_by
-  byte-by h e i =
+  byte_by h e i =
       let old = get_or staged (start + i) 0 in
       let k = head_size (version_in staged) in
       ap (λ (y : Bool). cond y (patched k aim.place payload old (start + i)) old) (sym e) ∙ h k aim.place payload old (start + i)
@@ -127,7 +127,7 @@ module _ (v : Verdict) (aim : Aim) (payload staged : List ℕ) (start size : ℕ
   -- the page stays
   pub patch-kept : {b : Bool} → Changing v b → b ≡ false → part ≡ laden
   patch-kept h e =
-      as_read ∙ tabulate-same size (λ i. get_or staged (start + i) 0) (λ i. stored_by Patch (held v aim payload staged) (start + i)) (λ i l. byte-by h e i)
+      as_read ∙ tabulate-same size (λ i. get_or staged (start + i) 0) (λ i. stored_by Patch (held v aim payload staged) (start + i)) (λ i l. byte_by h e i)
 
   -- or the patch is laid over it
   pub patch-laid : {b : Bool} (head : ℕ) (ys : List ℕ) → Changing v b → b ≡ true → head ≡ head_size (version_in staged)
@@ -136,7 +136,7 @@ module _ (v : Verdict) (aim : Aim) (payload staged : List ℕ) (start size : ℕ
       q ∙ ap (λ (n : ℕ). tabulate n (λ i. patched head aim.place payload (get_or part i 0) (start + i))) long
       ∙ tabulate-same size (λ i. patched head aim.place payload (get_or part i 0) (start + i))
       (λ i. stored_by Patch (held v aim payload staged) (start + i))
-      (λ i l. (λ j. patched (w j) aim.place payload (byte i l j) (start + i)) ∙ byte-by h e i)
+      (λ i l. (λ j. patched (w j) aim.place payload (byte i l j) (start + i)) ∙ byte_by h e i)
     where
       long : length part ≡ size
       long = ap length as_read ∙ length-tabulate size (λ i. get_or staged (start + i) 0)

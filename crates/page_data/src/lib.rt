@@ -183,7 +183,6 @@ pub fn load_page(
         Kind::Patch => load_patched(verdict, aim, start, payload, staged, part),
         Kind::Get => slices::fill(part, 0),
         Kind::Wipe => slices::fill(part, 0),
-        Kind::Refresh => slices::fill(part, 0),
     }
 }
 

@@ -7,7 +7,7 @@ use mathlib.Core.Bool.{true, false, true≢false}
 use Prim.Native.Nat.{ℕ, ◌+◌, ◌*◌, ◌-◌, ◌≤◌, ◌<◌, min}
 use native.Mathlib.Numerals.{add-one}
 use native.Mathlib.Omega.{arith}
-use lib.ListN.{length, get_or, take, drop, length-append}
+use lib.ListN.{length, take, drop, length-append}
 use lib.Seq.{take_all, take-add, take-append-le, length-take-le}
 use lib.Bits.{bit_xor}
 use lib.Dec.{ltb}
@@ -16,12 +16,11 @@ use Rattle.io.specs.Counts.{IsPrefixLen}
 use Rattle.slices.specs.Lists.{splice}
 use Rattle.slices.proofs.Laws.{take-splice, splice-part, run-part}
 use Rattle.checksum.specs.Checksum.{crc_bits, crc_of}
-use Rattle.words.specs.Letters.{bytes}
-use Rattle.lines.specs.Texts.{Stands, number_text, frame_text}
+use Rattle.lines.specs.Texts.{Stands, frame_text}
 use Rattle.lines.proofs.Laws.{stood}
 use Rattle.printing.specs.declared.Output.{Output}
 use Rattle.printing.specs.Held.{Held, Printed, Flushed}
-use Rattle.printing.specs.Texts.{frames_text, numbers_text}
+use Rattle.printing.specs.Texts.{frames_text}
 
 -- what stands behind the first bytes
 stands_behind : {at e : ℕ} {l xs ys : List ℕ} → Stands at l e xs ys → at + length l ≤ length xs → take e ys ≡ take at xs ++ l
@@ -129,11 +128,6 @@ line_of {r} {l} {xs} {ys} s c = stood s (omega (arith, s.end, s.long, c.0))
 pub frames_more : (i : ℕ) (log : List ℕ) → frames_text i log ++ frame_text (take (6 * i + 6 - 6 * i) (drop (6 * i) log)) ≡ frames_text (i + 1) log
 unfolding frames_text
 frames_more i log = rw (add-one i, run-part (6 * i) 6 log) refl
-
--- one number more
-pub numbers_more : (i : ℕ) (ns : List ℕ) → numbers_text i ns ++ number_text (get_or ns i 0) (bytes " ") ≡ numbers_text (i + 1) ns
-unfolding numbers_text
-numbers_more i ns = rw (add-one i) refl
 
 -- a checksum over two pieces, one after the other
 pub crc_append : (s : ℕ) (xs ys : List ℕ) → crc_of s (xs ++ ys) ≡ crc_of (crc_of s xs) ys

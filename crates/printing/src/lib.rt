@@ -1,9 +1,9 @@
 // The text that the program `outline` prints: it waits in a buffer until that is full, and is then written.
 // Internal to this repository: a caller here meets each `requires`; no entry point is in this crate.
 ghost use Rattle.std.specs.Prelude.{◌≡◌, ◌/◌, ◌≤◌, ◌<◌, min, true, false, ◌++◌, length};
-ghost use Rattle.lines.specs.Texts.{number_text, frame_text, answer_text, totals_text, fault_text};
+ghost use Rattle.lines.specs.Texts.{frame_text, answer_text, totals_text, fault_text};
 ghost use Rattle.printing.specs.Held.{Printed, Flushed};
-ghost use Rattle.printing.specs.Texts.{frames_text, call_text, checksum, sum_line, numbers_text, tally_line};
+ghost use Rattle.printing.specs.Texts.{frames_text, call_text, checksum, sum_line};
 
 use libc::{STDERR_FILENO, STDOUT_FILENO};
 use lines::{count, put};
@@ -215,7 +215,7 @@ fn check_of(bytes: &[u8]) -> u32
 }
 
 // The CRC-32 of the record block followed by the array.
-fn check_of_chip(block: &[u8; 833], array: &[u8]) -> u32
+fn check_of_chip(block: &[u8; 765], array: &[u8]) -> u32
     ensures { result ≡ checksum (block.now ++ array.now) }
 {
     checksum::crc_end(checksum::crc(checksum::crc(checksum::CRC_START, block), array))
@@ -225,7 +225,7 @@ fn check_of_chip(block: &[u8; 833], array: &[u8]) -> u32
 pub fn print_sum(
     o: Output,
     text: &mut [u8],
-    block: &[u8; 833],
+    block: &[u8; 765],
     array: &[u8],
     log: &[u8],
     lent: &[u8],
@@ -250,37 +250,4 @@ pub fn print_fault(o: Output, text: &mut [u8], number: u64, message: &[u8]) -> O
     let mut out = blank();
     let k = lines::write_fault(&mut out, number, message);
     emit(o, text, &out[..k])
-}
-
-// A number, and `end` behind it.
-fn print_number(o: Output, text: &mut [u8], n: u32, end: &[u8]) -> Output
-    requires { (length end.now ≤ 64) × (128 ≤ length text.old) }
-    ensures { Printed (number_text n end.now) o text.old result text.new }
-{
-    let mut out = blank();
-    let k = lines::write_number(&mut out, n as u64, end);
-    emit(o, text, &out[..k])
-}
-
-// The first `n` of the numbers, each with a space behind it.
-fn print_numbers(start: Output, text: &mut [u8], numbers: &[u32], n: usize) -> Output
-    requires { (n ≤ length numbers.now) × (128 ≤ length text.old) }
-    ensures { Printed (numbers_text n numbers.now) start text.old result text.new }
-{
-    let mut o = start;
-    let mut i = 0;
-    while i < n {
-        o = print_number(o, text, numbers[i], b" ");
-        i += 1;
-    }
-    o
-}
-
-// The counts of a tally on one line.
-pub fn print_tally(o: Output, text: &mut [u8], counts: &[u32; 17]) -> Output
-    requires { 128 ≤ length text.old }
-    ensures { Printed (tally_line counts.now) o text.old result text.new }
-{
-    let p = print_numbers(o, text, counts, 16);
-    print_number(p, text, counts[16], b"\n")
 }

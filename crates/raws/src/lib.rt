@@ -14,7 +14,7 @@ use state::Answer;
 
 // Sends one frame of the caller's, and writes its reply to the lent buffer, which is as long.
 pub fn raw(
-    block: &mut [u8; 833],
+    block: &mut [u8; 765],
     array: &mut [u8],
     frame: &[u8],
     reply: &mut [u8],
@@ -49,7 +49,7 @@ pub fn raw(
 // One frame of the caller's, and its script byte; 2 is a cut.
 fn raw_sent(
     g: Geometry,
-    block: &mut [u8; 833],
+    block: &mut [u8; 765],
     array: &mut [u8],
     frame: &[u8],
     reply: &mut [u8],

@@ -175,7 +175,6 @@ pub fn judge(g: Geometry, kind: Kind, aim: Aim, payload: &[u8], bytes: &[u8]) ->
         Kind::Patch => judge_patch(g, aim.place, payload.len(), bytes),
         Kind::Get => judge_get(g, aim.today, bytes),
         Kind::Wipe => Verdict::Good,
-        Kind::Refresh => Verdict::Good,
     }
 }
 

@@ -2,18 +2,17 @@
 -- Assumes nothing.
 use mathlib.Core.Path.{◌≡◌, sym, ap, ◌∙◌}
 use mathlib.Core.List.{List}
-use Prim.Native.Nat.{ℕ, ◌*◌, ◌<◌, ◌≤◌}
+use Prim.Native.Nat.{ℕ, ◌*◌, ◌≤◌}
 use lib.Dec.{eqb}
 use borrow.Author.Tests.{eq-eqb, ne_eqb}
 use Rattle.geometry.specs.declared.Geometry.{Geometry}
 use Rattle.geometry.specs.declared.Part.{Part}
 use Rattle.geometry.specs.declared.Part.TheVariants.{Known}
-use Rattle.geometry.specs.Parts.{part_of, Sized}
-use Rattle.geometry.proofs.Pages.{sized, sized_own}
+use Rattle.geometry.specs.Parts.{part_of}
 use Rattle.state.specs.declared.Answer.{Answer}
 use Rattle.state.specs.Answers.{number_of}
 use Rattle.slots.specs.declared.Detail.{Detail}
-use Rattle.slots.specs.Plans.{Asked, units_of, stated}
+use Rattle.slots.specs.Plans.{Asked, stated}
 use Rattle.slots.specs.Refusals.{flaws_in, early_refusal, late_refusal, or_else, call_refusal}
 use Rattle.slots.proofs.Counts.{bounds}
 use Rattle.slots.proofs.Accepted.{picked, early}
@@ -32,17 +31,15 @@ module _ (g : Geometry) (array : ℕ) (a : Asked) (detail : Detail) (n lent : �
         let k : eqb (number_of (early_refusal g a (flaws_in a.kind g detail n lent))) 0 ≡ _ = ap (λ (t : Answer). eqb (number_of t) 0) (sym (e ∙ own p)) ∙ ne_eqb (number_of z) 0 h in
         e ∙ own p ∙ sym (other (eqb (number_of (early_refusal g a (flaws_in a.kind g detail n lent))) 0) _ _ k)
 
-    pub late_told : number_of z ≡ 0 → {m : ℕ} {r : Answer} → m ≡ stated a.kind g a.unit a.limit → r ≡ late_refusal g array log (6 * m) script junk
+    pub late_told : number_of z ≡ 0 → {m : ℕ} {r : Answer} → m ≡ stated a.kind a.limit → r ≡ late_refusal g array log (6 * m) script junk
         → r ≡ call_refusal g array a (flaws_in a.kind g detail n lent) log script junk
     unfolding call_refusal or_else
     late_told h f t =
         let k : eqb (number_of (early_refusal g a (flaws_in a.kind g detail n lent))) 0 ≡ _ = ap (λ (t : Answer). eqb (number_of t) 0) (sym (e ∙ own p)) ∙ eq-eqb (number_of z) 0 h in
-        t ∙ ap (λ (b : ℕ). late_refusal g array log (6 * b) script junk) (f ∙ sym (bounds a.kind g a.unit a.limit))
+        t ∙ ap (λ (b : ℕ). late_refusal g array log (6 * b) script junk) (f ∙ sym (bounds a.kind g a.slot a.limit))
         ∙ sym (picked (eqb (number_of (early_refusal g a (flaws_in a.kind g detail n lent))) 0) _ _ k)
 
-  -- log and script are looked at only where the slot or sector is the part's, and B is at most 1,000
-  pub asked-few : part_of array ≡ Known g → {z : Answer} → z ≡ start_refusal (part_of array) a detail n lent → number_of z ≡ 0
-      → (Sized g (g.pages * g.size)) × (a.unit < units_of a.kind g) × (a.limit ≤ 1000)
-  asked-few p {z} e h =
-      let w = early g a (flaws_in a.kind g detail n lent) (ap (λ (t : Answer). eqb (number_of t) 0) (sym (e ∙ own p)) ∙ eq-eqb (number_of z) 0 h) in
-      (sized_own g array (sized array g p), w.unit, w.most)
+  -- log and script are looked at only where B is at most 1,000
+  pub limit-few : part_of array ≡ Known g → {z : Answer} → z ≡ start_refusal (part_of array) a detail n lent → number_of z ≡ 0 → a.limit ≤ 1000
+  limit-few p {z} e h =
+      (early g a (flaws_in a.kind g detail n lent) (ap (λ (t : Answer). eqb (number_of t) 0) (sym (e ∙ own p)) ∙ eq-eqb (number_of z) 0 h)).most

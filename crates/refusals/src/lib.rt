@@ -65,12 +65,12 @@ fn late_refusal(
     Answer::Done
 }
 
-// Put, patch, get, wipe and refresh. `n` is the length of recipe or patch, `lent` that of the get buffer; then those of the log and the junk.
+// Put, patch, get and wipe. `n` is the length of recipe or patch, `lent` that of the get buffer; then those of the log and the junk.
 pub fn call_refusal(
     g: Geometry,
     array: usize,
     kind: Kind,
-    unit: usize,
+    slot: usize,
     limit: usize,
     detail: Detail,
     n: usize,
@@ -80,9 +80,9 @@ pub fn call_refusal(
     junk: usize,
 ) -> Answer
     requires { (Sized g array) × (part_of array ≡ Part.Known g) }
-    ensures { result ≡ call_refusal g array (asking kind unit limit) (flaws_in kind g detail n lent) log script.now junk }
+    ensures { result ≡ call_refusal g array (asking kind slot limit) (flaws_in kind g detail n lent) log script.now junk }
 {
-    let a = starts::refusal(array, kind, unit, limit, detail, n, lent);
+    let a = starts::refusal(array, kind, slot, limit, detail, n, lent);
     if state::number(a) != 0 {
         return a;
     }
@@ -90,7 +90,7 @@ pub fn call_refusal(
         g,
         array,
         log,
-        6 * steps::bound_of(g, kind, unit, limit),
+        6 * steps::bound_of(kind, limit),
         script,
         junk,
     )

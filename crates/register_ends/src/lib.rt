@@ -7,21 +7,11 @@ ghost use Rattle.registers.specs.Data.{bytes16};
 ghost use Rattle.registers.specs.Fields.{with_protection, with_lockdown, with_user};
 ghost use Rattle.registers.specs.Operations.{within};
 ghost use Rattle.registers.specs.Protection.{Roomed, locked_bytes};
-ghost use Rattle.registers.specs.Tally.{worn};
 ghost use Rattle.control.specs.Completion.{completed_by, completed};
 ghost use Rattle.control.specs.PowerLoss.{after_buffers, reached, reaching, spoilt, lost_by, lost};
 
 use geometry::Geometry;
 use registers::{Data16, Operation, Registers, Update};
-
-// The tally raised by what the operation writes.
-fn wear(g: Geometry, r: Registers, o: Operation) -> Registers
-    requires { (Sized g (g.pages * g.size)) × (within g o ≡ true) }
-    ensures { result ≡ worn g o r }
-{
-    let t = r.tally;
-    registers::with_tally(r, tallies::tally_after(g, t, o))
-}
 
 // FC: protection AND data.
 fn finish_protection(r: Registers, data: Data16) -> Registers
@@ -62,7 +52,7 @@ pub fn complete(g: Geometry, r: Registers) -> Registers
     ensures { result ≡ completed g r }
 {
     let o = r.operation;
-    registers::with_operation(wear(g, finish(g, r, o), o), Operation::Idle)
+    registers::with_operation(finish(g, r, o), Operation::Idle)
 }
 
 // A cut during CF or FC: protection becomes junk.
@@ -122,5 +112,5 @@ pub fn lose(g: Geometry, r: Registers, junk: &[u8]) -> Registers
     ensures { result ≡ lost g r (reaching g r.operation junk.now) }
 {
     let o = r.operation;
-    registers::restart(wear(g, lose_operation(g, r, o, junk), o))
+    registers::restart(lose_operation(g, r, o, junk))
 }

@@ -3,5 +3,3 @@ pub mod Sets
 pub mod Protection
 pub mod Operations
 pub mod Places
-pub mod Counters
-pub mod Wear

@@ -152,8 +152,5 @@ module _ (g : Geometry) (page : ℕ) where
   pub writes-block : (block : ℕ) → writes g (EraseBlock block) page ≡ eqb (page / 8) block
   writes-block block = target_block g page (EraseBlock block) block refl
 
-  pub writes_rewrite : (b : Buffer) (p : ℕ) → writes g (Rewrite b p) page ≡ eqb page p
-  writes_rewrite b p = target_page g page (Rewrite b p) p refl
-
   pub writes-compare : (b : Buffer) (p : ℕ) → writes g (Compare b p) page ≡ false
   writes-compare b p = target_nothing g page (Compare b p) refl

@@ -18,7 +18,6 @@ use Rattle.registers.specs.declared.Registers.{Registers}
 use Rattle.registers.specs.declared.Seals.{Seals}
 use Rattle.registers.specs.Operations.{in_set}
 use Rattle.registers.specs.Protection.{sealed, seals_of, unsealed_from, unsealed_set}
-use Rattle.registers.specs.Tally.{unworn}
 
 -- a number below 2 ^ n has none of the sectors from n on
 pub in_beyond : (sectors n s : ℕ) → sectors < 2 ^ n → n ≤ s → in_set sectors s ≡ false
@@ -47,27 +46,27 @@ rest b m k =
     ap (λ (j : ℕ). eqb (n / 2 ^ j % 2) 1) (sym (one-add k))
     ∙ ap (λ (j : ℕ). eqb (j % 2) 1) (sym (shr-shr n 1 k) ∙ ap (λ (j : ℕ). j / 2 ^ k) (half b m))
 
-from-has : (g : Geometry) (r : Registers) (n s k : ℕ) → k < n → in_set (unsealed_from g r n s) k ≡ not (sealed g r (s + k))
+from_has : (g : Geometry) (r : Registers) (n s k : ℕ) → k < n → in_set (unsealed_from g r n s) k ≡ not (sealed g r (s + k))
 unfolding unsealed_from
-from-has g r zero s k l = absurd (omega arith)
-from-has g r (suc n) s zero l = last (sealed g r s) (unsealed_from g r n (s + 1)) ∙ ap (λ (t : ℕ). not (sealed g r t)) (sym (add-zero s))
-from-has g r (suc n) s (suc k) l =
+from_has g r zero s k l = absurd (omega arith)
+from_has g r (suc n) s zero l = last (sealed g r s) (unsealed_from g r n (s + 1)) ∙ ap (λ (t : ℕ). not (sealed g r t)) (sym (add-zero s))
+from_has g r (suc n) s (suc k) l =
     let e : s + 1 + k ≡ s + suc k = omega arith in
-    rest (sealed g r s) (unsealed_from g r n (s + 1)) k ∙ from-has g r n (s + 1) k (omega arith) ∙ ap (λ (t : ℕ). not (sealed g r t)) e
+    rest (sealed g r s) (unsealed_from g r n (s + 1)) k ∙ from_has g r n (s + 1) k (omega arith) ∙ ap (λ (t : ℕ). not (sealed g r t)) e
 
 bit : (b : Bool) → cond b 0 1 ≤ 1
 bit true = omega arith
 bit false = omega arith
 
 -- n sectors make a number below 2 ^ n
-pub from-small : (g : Geometry) (r : Registers) (n s : ℕ) → unsealed_from g r n s < 2 ^ n
+pub from_small : (g : Geometry) (r : Registers) (n s : ℕ) → unsealed_from g r n s < 2 ^ n
 unfolding unsealed_from
-from-small g r zero s = omega arith
-from-small g r (suc n) s = omega (arith, pow-suc 2 n, from-small g r n (s + 1), bit (sealed g r s))
+from_small g r zero s = omega arith
+from_small g r (suc n) s = omega (arith, pow-suc 2 n, from_small g r n (s + 1), bit (sealed g r s))
 
 -- .. and those of as many sectors as a register serves are below 2 ^ 17
-pub from-most : (g : Geometry) (r : Registers) (n s : ℕ) → n ≤ register_room + 1 → unsealed_from g r n s < 131072
-from-most g r n s l = omega (arith, from-small g r n s, pow_mono {i = n} {j = 17} l)
+pub from_most : (g : Geometry) (r : Registers) (n s : ℕ) → n ≤ register_room + 1 → unsealed_from g r n s < 131072
+from_most g r n s l = omega (arith, from_small g r n s, pow_mono {i = n} {j = 17} l)
 
 -- one sector more, before the others
 pub from_more : (g : Geometry) (r : Registers) (n s : ℕ) → 0 < s → s ≤ n
@@ -79,17 +78,17 @@ from_more g r n s l h =
     ap (λ (m : ℕ). unsealed_from g r m (s - 1)) e ∙ ap (λ (t : ℕ). cond (sealed g r (s - 1)) 0 1 + 2 * unsealed_from g r (n - s) t) f
 
 -- ---- a loop over the sectors from the last to the first
-pub from-none : (g : Geometry) (r : Registers) (n : ℕ) → 0 ≡ unsealed_from g r (n - n) n
+pub from_none : (g : Geometry) (r : Registers) (n : ℕ) → 0 ≡ unsealed_from g r (n - n) n
 unfolding unsealed_from
-from-none g r n = let e : 0 ≡ n - n = omega arith in ap (λ (k : ℕ). unsealed_from g r k n) e
+from_none g r n = let e : 0 ≡ n - n = omega arith in ap (λ (k : ℕ). unsealed_from g r k n) e
 
-pub from-free : (g : Geometry) (r : Registers) (n s m : ℕ) → 0 < s → s ≤ n → sealed g r (s - 1) ≡ false → m ≡ unsealed_from g r (n - s) s
+pub from_free : (g : Geometry) (r : Registers) (n s m : ℕ) → 0 < s → s ≤ n → sealed g r (s - 1) ≡ false → m ≡ unsealed_from g r (n - s) s
     → 2 * m + 1 ≡ unsealed_from g r (n - (s - 1)) (s - 1)
-from-free g r n s m l h p e = omega (arith, from_more g r n s l h, ap (λ (b : Bool). cond {A = ℕ} b 0 1) p)
+from_free g r n s m l h p e = omega (arith, from_more g r n s l h, ap (λ (b : Bool). cond {A = ℕ} b 0 1) p)
 
-pub from-sealed : (g : Geometry) (r : Registers) (n s m : ℕ) → 0 < s → s ≤ n → sealed g r (s - 1) ≡ true → m ≡ unsealed_from g r (n - s) s
+pub from_sealed : (g : Geometry) (r : Registers) (n s m : ℕ) → 0 < s → s ≤ n → sealed g r (s - 1) ≡ true → m ≡ unsealed_from g r (n - s) s
     → 2 * m ≡ unsealed_from g r (n - (s - 1)) (s - 1)
-from-sealed g r n s m l h p e = omega (arith, from_more g r n s l h, ap (λ (b : Bool). cond {A = ℕ} b 0 1) p)
+from_sealed g r n s m l h p e = omega (arith, from_more g r n s l h, ap (λ (b : Bool). cond {A = ℕ} b 0 1) p)
 
 pub from_all : (g : Geometry) (r : Registers) (n s m : ℕ) → n ≡ sector_count g → s ≤ 0 → m ≡ unsealed_from g r (n - s) s → m ≡ unsealed_set g r
 unfolding unsealed_set
@@ -113,7 +112,6 @@ bare s =
       wp = s.wp;
       deep = false;
       operation = Idle;
-      tally = unworn;
     }
 
 from_alike : (g : Geometry) (r : Registers) (n s : ℕ) → unsealed_from g (bare (seals_of r)) n s ≡ unsealed_from g r n s
@@ -128,9 +126,9 @@ set_alike g r z e = ap (λ (x : Seals). unsealed_set g (bare x)) (sym e) ∙ fro
 -- ---- the sectors that a Chip Erase finds unsealed
 pub unsealed-small : (g : Geometry) (r : Registers) → unsealed_set g r < 2 ^ sector_count g
 unfolding unsealed_set
-unsealed-small g r = from-small g r (sector_count g) 0
+unsealed-small g r = from_small g r (sector_count g) 0
 
 -- the set has the part's sectors that are not sealed
 pub unsealed-has : (g : Geometry) (r : Registers) (s : ℕ) → s < sector_count g → in_set (unsealed_set g r) s ≡ not (sealed g r s)
 unfolding unsealed_set
-unsealed-has g r s l = from-has g r (sector_count g) 0 s l ∙ ap (λ (t : ℕ). not (sealed g r t)) (zero-add s)
+unsealed-has g r s l = from_has g r (sector_count g) 0 s l ∙ ap (λ (t : ℕ). not (sealed g r t)) (zero-add s)

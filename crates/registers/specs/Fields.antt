@@ -4,7 +4,6 @@ use Rattle.std.specs.Prelude.{ℕ, Bool, true, false, List}
 use Rattle.registers.specs.declared.Operation.{Operation}
 use Rattle.registers.specs.declared.Operation.TheVariants.{Idle}
 use Rattle.registers.specs.declared.Registers.{Registers}
-use Rattle.registers.specs.declared.Tally.{Tally}
 
 abbrev pub with_protection : Registers → List ℕ → Registers
 with_protection r bytes =
@@ -18,7 +17,6 @@ with_protection r bytes =
       wp = r.wp;
       deep = r.deep;
       operation = r.operation;
-      tally = r.tally;
     }
 
 abbrev pub with_lockdown : Registers → List ℕ → Registers
@@ -33,7 +31,6 @@ with_lockdown r bytes =
       wp = r.wp;
       deep = r.deep;
       operation = r.operation;
-      tally = r.tally;
     }
 
 -- (7.14) the user bytes written: the used mark is set with them
@@ -49,7 +46,6 @@ with_user r bytes =
       wp = r.wp;
       deep = r.deep;
       operation = r.operation;
-      tally = r.tally;
     }
 
 abbrev pub with_protect : Registers → Bool → Registers
@@ -64,7 +60,6 @@ with_protect r on =
       wp = r.wp;
       deep = r.deep;
       operation = r.operation;
-      tally = r.tally;
     }
 
 abbrev pub with_wp : Registers → Bool → Registers
@@ -79,7 +74,6 @@ with_wp r high =
       wp = high;
       deep = r.deep;
       operation = r.operation;
-      tally = r.tally;
     }
 
 abbrev pub with_deep : Registers → Bool → Registers
@@ -94,7 +88,6 @@ with_deep r on =
       wp = r.wp;
       deep = on;
       operation = r.operation;
-      tally = r.tally;
     }
 
 abbrev pub with_operation : Registers → Operation → Registers
@@ -109,22 +102,6 @@ with_operation r o =
       wp = r.wp;
       deep = r.deep;
       operation = o;
-      tally = r.tally;
-    }
-
-abbrev pub with_tally : Registers → Tally → Registers
-with_tally r t =
-    record {
-      protection = r.protection;
-      lockdown = r.lockdown;
-      user = r.user;
-      factory = r.factory;
-      used = r.used;
-      protect = r.protect;
-      wp = r.wp;
-      deep = r.deep;
-      operation = r.operation;
-      tally = t;
     }
 
 -- (8.10) what a cut does to the registers of every chip: protect and deep mark cleared, nothing under way
@@ -140,5 +117,4 @@ restarted r =
       wp = r.wp;
       deep = false;
       operation = Idle;
-      tally = r.tally;
     }

@@ -3,4 +3,3 @@ pub mod Fields
 pub mod Protection
 pub mod Facts
 pub mod Operations
-pub mod Tally

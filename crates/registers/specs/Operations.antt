@@ -1,6 +1,6 @@
 -- The operation under way: whether the part has what it names, which pages it erases or programs, which buffer it uses.
 -- Assumes nothing.
-use Rattle.std.specs.Prelude.{ℕ, zero, suc, ◌+◌, ◌*◌, ◌/◌, ◌%◌, ◌^◌, Bool, true, cond, ◌||◌, eqb, ltb}
+use Rattle.std.specs.Prelude.{ℕ, ◌*◌, ◌/◌, ◌%◌, ◌^◌, Bool, true, cond, ◌||◌, eqb, ltb}
 use Rattle.geometry.specs.declared.Geometry.{Geometry}
 use Rattle.geometry.specs.declared.Part.{Part}
 use Rattle.geometry.specs.declared.Part.TheVariants.{Known, Unknown}
@@ -80,15 +80,6 @@ in_set sectors s = eqb (sectors / 2 ^ s % 2) 1
 -- (2.5) the operation writes this page
 unfoldable pub writes : Geometry → Operation → ℕ → Bool
 writes g o page = in_run (run_of g o) page || in_set (sectors_of o) (sector_of g page)
-
--- Aid: of how many of the n pages from page p on f is true
-unfoldable pub count_from : (ℕ → Bool) → ℕ → ℕ → ℕ
-count_from f zero p = 0
-count_from f (suc n) p = cond (f p) 1 0 + count_from f n (suc p)
-
--- (2.15) how many pages of a sector the operation writes
-unfoldable pub written_in : Geometry → Operation → ℕ → ℕ
-written_in g o s = count_from (writes g o) (sector_run g s).count (sector_run g s).first
 
 -- Aid: the buffer that is used; One where none is
 abbrev pub buffer_of : Usage → Buffer

@@ -3,7 +3,7 @@
 ghost use Rattle.std.specs.Prelude.{◌≡◌, true, false, ◌+◌, ◌*◌, ◌≤◌, ◌<◌, ◌^◌, length, drop};
 ghost use Rattle.geometry.specs.Parts.{register_room, Sized};
 ghost use Rattle.registers.specs.Data.{padded, pack16, pack64, bytes16, bytes64};
-ghost use Rattle.registers.specs.Fields.{with_protection, with_lockdown, with_user, with_protect, with_wp, with_deep, with_operation, with_tally, restarted};
+ghost use Rattle.registers.specs.Fields.{with_protection, with_lockdown, with_user, with_protect, with_wp, with_deep, with_operation, restarted};
 ghost use Rattle.registers.specs.Protection.{Roomed, bits_of, has_bits, guarded, sealed, unsealed_set, WithSeals, mask_of, locked_bytes};
 ghost use Rattle.registers.specs.Facts.{idling, paging, erasing, updating, facts_of, update_of};
 ghost use Rattle.registers.specs.Operations.{has, placed, target_of, page_named, run_named, set_named, buffer_of};
@@ -109,13 +109,6 @@ pub struct Facts {
     pub work: Work,
 }
 
-// The wear tally: for each sector, 0 for 0a, 1 for 0b, j + 1 for sector j, the pages erased, programmed or made junk there.
-#[repr(C)]
-#[derive(Drop)]
-pub struct Tally {
-    pub counts: [u32; 17],
-}
-
 #[derive(Drop)]
 pub struct Registers {
     pub protection: [u8; 16],
@@ -131,7 +124,6 @@ pub struct Registers {
     // The deep mark: deep power-down.
     pub deep: bool,
     pub operation: Operation,
-    pub tally: Tally,
 }
 
 // What of the registers decides which sectors are sealed.
@@ -271,7 +263,6 @@ pub fn with_operation(r: Registers, o: Operation) -> Registers
     let lockdown = r.lockdown;
     let user = r.user;
     let factory = r.factory;
-    let tally = r.tally;
     Registers {
         protection: protection,
         lockdown: lockdown,
@@ -282,16 +273,7 @@ pub fn with_operation(r: Registers, o: Operation) -> Registers
         wp: r.wp,
         deep: r.deep,
         operation: o,
-        tally: tally,
     }
-}
-
-pub fn with_tally(r: Registers, t: Tally) -> Registers
-    ensures { result ≡ with_tally r t }
-{
-    let mut n = r;
-    n.tally = t;
-    n
 }
 
 // What a cut does to every chip: both marks off, idle.

@@ -12,7 +12,7 @@ use Rattle.geometry.specs.Parts.{part_of, slot_room}
 use Rattle.state.specs.Answers.{number_of}
 use Rattle.slots.specs.declared.Driver.{Driver}
 use Rattle.slots.specs.declared.Kind.{Kind}
-use Rattle.slots.specs.declared.Kind.TheVariants.{Put, Patch, Get, Wipe, Refresh}
+use Rattle.slots.specs.declared.Kind.TheVariants.{Put, Patch, Get, Wipe}
 use Rattle.slots.specs.declared.Told.{Told}
 use Rattle.slots.specs.declared.Told.TheVariants.{Running, Answered}
 use Rattle.slots.specs.Records.{length_in, is_record}
@@ -24,13 +24,12 @@ use Rattle.records.proofs.Parts.{part-pages}
 use Rattle.worlds.specs.Step.{told_in, count_told}
 use Rattle.worlds.specs.Step as step
 
-by-few : (k : Kind) (staged : List ℕ) → count_by k staged ≤ length_in staged
+by_few : (k : Kind) (staged : List ℕ) → count_by k staged ≤ length_in staged
 unfolding count_by
-by-few Put staged = omega arith
-by-few Patch staged = omega arith
-by-few Get staged = omega arith
-by-few Wipe staged = omega arith
-by-few Refresh staged = omega arith
+by_few Put staged = omega arith
+by_few Patch staged = omega arith
+by_few Get staged = omega arith
+by_few Wipe staged = omega arith
 
 told-few : (t : Told) (k : Kind) (staged : List ℕ) → count_told t k staged ≤ length_in staged
 unfolding count_told count_of
@@ -38,7 +37,7 @@ told-few Running k staged = omega arith
 told-few (Answered a) k staged = go (eqb (number_of a) 0)
   where
     go : (b : Bool) → cond b (count_by k staged) 0 ≤ length_in staged
-    go true = by-few k staged
+    go true = by_few k staged
     go false = omega arith
 
 -- what is told of a record

@@ -29,7 +29,7 @@ pub fn with_stage(d: Driver, s: Stage) -> Driver
     };
     Driver {
         array: d.array,
-        unit: d.unit,
+        slot: d.slot,
         limit: d.limit,
         aim: aim,
         kind: k,

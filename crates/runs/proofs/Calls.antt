@@ -3,19 +3,18 @@
 use mathlib.Core.Path.{◌≡◌, refl, sym, ap, subst, subst⁻¹, ◌∙◌}
 use mathlib.Core.Bool.{true, false, cond}
 use mathlib.Core.List.{List, [], ◌++◌}
-use Prim.Native.Nat.{ℕ, ◌*◌, ◌<◌}
+use Prim.Native.Nat.{ℕ, ◌*◌}
 use native.Mathlib.Omega.{arith}
 use lib.ListN.{length, take, drop, replicate, take-append-drop}
 use lib.Seq.{length-take-le}
-use lib.Dec.{eqb, T}
+use lib.Dec.{eqb}
 use borrow.Author.Tests.{eq-eqb, ne_eqb}
 use Rattle.slices.specs.Lists.{over}
 use Rattle.slices.proofs.Laws.{over_append}
 use Rattle.geometry.specs.declared.Geometry.{Geometry}
 use Rattle.geometry.specs.declared.Part.{Part}
 use Rattle.geometry.specs.declared.Part.TheVariants.{Known, Unknown}
-use Rattle.geometry.specs.Parts.{part_of, Sized, slot_room, sector_room}
-use Rattle.geometry.proofs.Sectors.{sectors_few}
+use Rattle.geometry.specs.Parts.{part_of, Sized, slot_room}
 use Rattle.registers.proofs.Places.{placed_known, placed_sized}
 use Rattle.state.specs.declared.Answer.{Answer}
 use Rattle.state.specs.declared.Answer.TheVariants as Answers
@@ -25,12 +24,10 @@ use Rattle.state.specs.Outcomes.{part_in, cut_fits, cut_state}
 use Rattle.slots.specs.declared.Detail.{Detail}
 use Rattle.slots.specs.declared.Driver.{Driver}
 use Rattle.slots.specs.declared.Flaws.{Flaws}
-use Rattle.slots.specs.declared.Kind.{Kind}
-use Rattle.slots.specs.declared.Kind.TheVariants.{Put, Patch, Get, Wipe, Refresh}
 use Rattle.slots.specs.declared.Stage.TheVariants.{Going, Ended}
-use Rattle.slots.specs.Plans.{Asked, units_of, stated}
+use Rattle.slots.specs.Plans.{Asked, stated}
 use Rattle.slots.specs.Refusals.{flaws_in, early_refusal, call_refusal}
-use Rattle.slots.specs.Calls.{Out, Request, Secret, Open, Closed, refused, run, first_course, refusal_of, start_open, start_closed, ran, reached, count_of, delivered, out_from, answer_at, cut_last, call_out, is_refresh, is_refreshed, call_next}
+use Rattle.slots.specs.Calls.{Out, Request, Secret, Open, Closed, refused, run, first_course, refusal_of, start_open, start_closed, ran, reached, count_of, delivered, out_from, answer_at, call_out, call_next}
 use Rattle.slots.specs.Lists.{call, request, asks, secret, call_by, called_by, out_of, next_of, is_refusal, log_of}
 use Rattle.slots.proofs.Counts.{bounds}
 use Rattle.slots.proofs.Accepted.{Accepted, accepted, neither_applies}
@@ -43,7 +40,7 @@ use Rattle.runs.specs.declared.Session.{Session}
 use Rattle.blocks.specs.Promises.{held_in}
 use Rattle.runs.specs.Exchange.{Canonical}
 use Rattle.runs.specs.Promises.{Promise}
-use Rattle.runs.specs.Runs.{open_of, closed_of, request_of, Starts, Driven, asked_in, secret_in, Started, RunBy, last_of, settled_by, answer_of}
+use Rattle.runs.specs.Runs.{open_of, closed_of, request_of, Starts, Driven, asked_in, secret_in, Started, RunBy, last_of, answer_of}
 use Rattle.runs.proofs.Promised.{Few, is_refusal_lem, call-few, leaves_as, leaves-refused, leaves-sent}
 use Rattle.runs.proofs.Scripts.{junk-fits}
 use Rattle.runs.proofs.Steps.{run-asks}
@@ -156,37 +153,22 @@ module _ (g : Geometry) (d : Driver) (payload buffer script junk log held xs : L
       record {
         part = p;
         array = w.array;
-        unit = ok.asked.unit;
+        slot = omega (arith, ok.asked.fits);
         least = ok.asked.some;
         most = ok.asked.most;
         course = w.course;
         frames = refl;
         polls = refl;
         cut = refl;
-        room = omega (arith, ok.lent.room, bounds d.kind g d.unit d.limit);
+        room = omega (arith, ok.lent.room, bounds d.kind g d.slot d.limit);
       }
-
-  -- where a counter is set to 0 its sector has one
-  pub refresh-few : (a : Answer) → is_refreshed d.kind a ≡ true → d.unit < sector_room
-  unfolding is_refreshed is_refresh units_of
-  refresh-few a e = go d.kind ok.asked.unit e
-    where
-      n : ℕ
-      n = length xs
-
-      go : (k : Kind) → d.unit < units_of k g → is_refreshed k a ≡ true → d.unit < sector_room
-      go Put l h = absurd (subst T (sym h) tt)
-      go Patch l h = absurd (subst T (sym h) tt)
-      go Get l h = absurd (subst T (sym h) tt)
-      go Wipe l h = absurd (subst T (sym h) tt)
-      go Refresh l h = omega (arith, l, sectors_few g n (placed_sized n (held_in held xs).registers.operation g p))
 
   module _ {st : List ℕ} (es : st ≡ replicate slot_room 0) {t : State} {s : Session} {bytes lines : List ℕ}
       (z : Driven g (held_in held xs) begun payload st script log t s bytes lines) where
-    begins : ran g v x (held_in held xs) ≡ run (stated d.kind g d.unit d.limit) g (request_of begun script) (open_of (held_in held xs) begun log) (closed_of (held_in held xs) begun payload st)
+    begins : ran g v x (held_in held xs) ≡ run (stated d.kind d.limit) g (request_of begun script) (open_of (held_in held xs) begun log) (closed_of (held_in held xs) begun payload st)
     unfolding ran start_open start_closed
     begins =
-        (λ i. run (bounds d.kind g d.unit d.limit i) g v
+        (λ i. run (bounds d.kind g d.slot d.limit i) g v
         (record {
           registers = (held_in held xs).registers;
           course = (done (refusal_of g (length xs) v) none d.limit ∙ sym w.course) i;
@@ -205,7 +187,7 @@ module _ (g : Geometry) (d : Driver) (payload buffer script junk log held xs : L
                 verdict = sym w.verdict i;
               };
         }))
-        ∙ run-asks (stated d.kind g d.unit d.limit) g (asked_of d) script (length log) (length junk) v.flaws (open_of (held_in held xs) begun log) (closed_of (held_in held xs) begun payload st)
+        ∙ run-asks (stated d.kind d.limit) g (asked_of d) script (length log) (length junk) v.flaws (open_of (held_in held xs) begun log) (closed_of (held_in held xs) begun payload st)
 
     whole : ran g v x (held_in held xs) ≡ (open_of t s lines, closed_of t s payload bytes)
     whole = begins ∙ z.whole
@@ -225,18 +207,16 @@ module _ (g : Geometry) (d : Driver) (payload buffer script junk log held xs : L
 
     -- from what the answer, the delivery and the cut promise
     pub finished : (a : Answer) (n : ℕ) (kept ys b : List ℕ) → a ≡ answer_of s → n ≡ count_of d.kind a bytes → b ≡ delivered (count_of d.kind a bytes) bytes buffer
-        → held_in kept ys ≡ settled_by d a (last_of g s junk t) → Canonical kept
+        → held_in kept ys ≡ last_of g s junk t → Canonical kept
         → RunBy g d payload buffer script junk log held xs (record { answer = a; frames = s.frames; polls = s.polls; count = n }) kept ys lines b
-    unfolding call_out call_next cut_last out_from last_of
+    unfolding call_out call_next out_from last_of
     finished a n kept ys b ea en eb back form =
         let u = held_in held xs in
         let ends : call_out g v x u ≡ out_from v x (open_of t s lines, closed_of t s payload bytes) (answer_of s) =
         ap (λ (o : Open × Closed). out_from v x o (answer_at o)) whole in
-        let next : call_next g v x u ≡ settled_by d (answer_of s) (last_of g s junk t) =
-        ap (λ (o : Open × Closed). settled_by d (answer_at o) (cond o.0.cut (cut_state g junk (reached o)) (reached o))) whole in
+        let next : call_next g v x u ≡ last_of g s junk t = ap (λ (o : Open × Closed). cond o.0.cut (cut_state g junk (reached o)) (reached o)) whole in
         let late = subst (λ (o : Out). is_refusal o.answer ≡ false) ends (accepted_late g v x u none) in
         leaves_as ends next
-        (leaves-sent (out_from v x (open_of t s lines, closed_of t s payload bytes) (answer_of s)) (settled_by d (answer_of s) (last_of g s junk t)) held log _ kept ys lines b late form
-        (back ∙ ap (λ (n : Answer). settled_by d n (last_of g s junk t)) ea) ea logged refl refl
+        (leaves-sent (out_from v x (open_of t s lines, closed_of t s payload bytes) (answer_of s)) (last_of g s junk t) held log _ kept ys lines b late form back ea logged refl refl
         (en ∙ ap (λ (m : Answer). count_of d.kind m bytes) ea)
         (eb ∙ ap (λ (m : Answer). delivered (count_of d.kind m bytes) bytes buffer) ea))

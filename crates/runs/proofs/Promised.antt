@@ -18,7 +18,7 @@ use Rattle.state.specs.Memory.{State, chip_in}
 use Rattle.blocks.specs.Block.{encode_chip}
 use Rattle.state.specs.Outcomes.{framed}
 use Rattle.slots.specs.declared.Flaws.{Flaws}
-use Rattle.slots.specs.Plans.{Asked, units_of, bound}
+use Rattle.slots.specs.Plans.{Asked, bound}
 use Rattle.slots.specs.Refusals.{bad_script, late_refusal, early_refusal, or_else, call_refusal, raw_refusal}
 use Rattle.slots.specs.Calls.{Out, refused}
 use Rattle.slots.specs.Lists.{Op, is_refusal}
@@ -46,7 +46,7 @@ late_few g array log least script junk =
 early_few : (g : Geometry) (a : Asked) (flaws : Flaws) → Few (early_refusal g a flaws)
 unfolding early_refusal number_of
 early_few g a flaws =
-    cases Few (leb (units_of a.kind g) a.unit) {x = Answers.Slot} refl
+    cases Few (leb (g.pages / 8) a.slot) {x = Answers.Slot} refl
     (cases Few (not (leb 1 a.limit && leb a.limit 1000)) {x = Answers.Limit} refl
     (cases Few flaws.size {x = Answers.Size} refl (cases Few flaws.dates {x = Answers.Dates} {y = Answers.Done} refl refl)))
 

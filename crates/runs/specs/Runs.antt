@@ -1,7 +1,7 @@
 -- Aid: a call under way as the code holds it, and what its parts promise: each turn of the loop is one step of the run that defines the call, and the
 -- loop is the whole run. The state is the one that block and array hold.
 -- Assumes nothing.
-use Rattle.std.specs.Prelude.{ℕ, ◌+◌, ◌*◌, ◌≤◌, ◌<◌, ◌≡◌, true, false, cond, List, length, take, drop, eqb}
+use Rattle.std.specs.Prelude.{ℕ, ◌+◌, ◌*◌, ◌/◌, ◌≤◌, ◌<◌, ◌≡◌, true, false, cond, List, length, take, drop, eqb}
 use Rattle.geometry.specs.declared.Geometry.{Geometry}
 use Rattle.geometry.specs.declared.Part.TheVariants.{Known}
 use Rattle.state.specs.declared.Answer.{Answer}
@@ -11,10 +11,10 @@ use Rattle.state.specs.Memory.{State}
 use Rattle.state.specs.Outcomes.{part_in, cut_state}
 use Rattle.slots.specs.declared.Driver.{Driver}
 use Rattle.slots.specs.declared.Verdict.TheVariants.{Good}
-use Rattle.slots.specs.Plans.{units_of, stated}
+use Rattle.slots.specs.Plans.{stated}
 use Rattle.slots.specs.Driver.{is_ended, told_by}
 use Rattle.slots.specs.Refusals.{has_cut}
-use Rattle.slots.specs.Calls.{Request, Secret, Open, Closed, scripted, step_open, step_closed, run, first_course, refusal_of, answer_in, call_out, refreshed, call_next}
+use Rattle.slots.specs.Calls.{Request, Secret, Open, Closed, scripted, step_open, step_closed, run, first_course, refusal_of, answer_in, call_out, call_next}
 use Rattle.slots.specs.Lists.{request}
 use Rattle.worlds.specs.Turns.{asked_of, holding_of, Sound}
 use Rattle.worlds.specs.Step.{flawless}
@@ -32,12 +32,12 @@ open_of t s log =
 abbrev pub closed_of : State → Session → List ℕ → List ℕ → Closed
 closed_of t s payload staged = record { memory = t.memory; holding = holding_of s.driver payload staged }
 
--- what a run goes by: the call, slot or sector, B and the script
+-- what a run goes by: the call, slot, B and the script
 abbrev pub request_of : Session → List ℕ → Request
 request_of s script = record { asked = asked_of s.driver; script = script; log = 0; junk = 0; flaws = flawless }
 
-abbrev pub bound_by : Geometry → Session → ℕ
-bound_by g s = stated s.driver.kind g s.driver.unit s.driver.limit
+abbrev pub bound_by : Session → ℕ
+bound_by s = stated s.driver.kind s.driver.limit
 
 -- ---- one turn
 
@@ -46,8 +46,8 @@ pub record Going (g : Geometry) (t : State) (s : Session) (log : List ℕ) : Typ
   pub sound : Sound g s.driver
   pub going : is_ended s.driver.course.stage ≡ false
   pub room : 6 * s.frames + 6 ≤ length log
-  pub frames : s.frames ≤ 5000000
-  pub polls : s.polls ≤ 5000000
+  pub frames : s.frames ≤ 20000
+  pub polls : s.polls ≤ 20000
 
 pub record Turned (g : Geometry) (t : State) (s : Session) (payload staged script log : List ℕ) (u : State) (r : Session) (bytes lines : List ℕ) : Type 0 where
   pub shown : step_open g (request_of s script) (open_of t s log) (closed_of t s payload staged) ≡ open_of u r lines
@@ -67,17 +67,17 @@ pub record Turned (g : Geometry) (t : State) (s : Session) (payload staged scrip
 pub record Starts (g : Geometry) (t : State) (s : Session) (log : List ℕ) : Type 0 where
   pub part : part_in t ≡ Known g
   pub array : s.driver.array ≡ length t.memory.array
-  pub unit : s.driver.unit < units_of s.driver.kind g
+  pub slot : s.driver.slot < g.pages / 8
   pub least : 1 ≤ s.driver.limit
   pub most : s.driver.limit ≤ 1000
   pub course : s.driver.course ≡ first_course Answers.Done s.driver.limit
   pub frames : s.frames ≡ 0
   pub polls : s.polls ≡ 0
   pub cut : s.cut ≡ false
-  pub room : 6 * bound_by g s ≤ length log
+  pub room : 6 * bound_by s ≤ length log
 
 pub record Driven (g : Geometry) (t : State) (s : Session) (payload staged script log : List ℕ) (u : State) (r : Session) (bytes lines : List ℕ) : Type 0 where
-  pub whole : run (bound_by g s) g (request_of s script) (open_of t s log) (closed_of t s payload staged) ≡ (open_of u r lines, closed_of u r payload bytes)
+  pub whole : run (bound_by s) g (request_of s script) (open_of t s log) (closed_of t s payload staged) ≡ (open_of u r lines, closed_of u r payload bytes)
   pub rest : drop (6 * r.frames) lines ≡ drop (6 * r.frames) log
   pub room : 6 * r.frames ≤ length lines
   pub same : length lines ≡ length log
@@ -108,14 +108,10 @@ RunBy g d payload buffer script junk log held xs r kept ys l b =
     Leaves (call_out g (asked_in d script junk log) (secret_in d payload junk buffer) (held_in held xs))
     (call_next g (asked_in d script junk log) (secret_in d payload junk buffer) (held_in held xs)) held log r kept ys l b
 
--- ---- after it: the cut, if there is one, as the chip's last act
+-- ---- after it: the cut, if there is one, as the last act
 
 unfoldable pub last_of : Geometry → Session → List ℕ → State → State
 last_of g s junk t = cond s.cut (cut_state g junk t) t
-
--- and a counter, where a refresh answers 0
-abbrev pub settled_by : Driver → Answer → State → State
-settled_by d a t = record { registers = refreshed (asked_of d) a t.registers; memory = t.memory }
 
 -- the answer, by the stage and the verdict
 abbrev pub answer_of : Session → Answer

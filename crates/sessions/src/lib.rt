@@ -56,7 +56,7 @@ fn take_first(
 fn turn(
     g: Geometry,
     s: Session,
-    block: &mut [u8; 833],
+    block: &mut [u8; 765],
     array: &mut [u8],
     payload: &[u8],
     staged: &mut [u8; 2112],
@@ -71,7 +71,7 @@ fn turn(
     let d = s.driver;
     let c = d.course;
     let k = d.kind;
-    let x = steps::step_at(g, k, d.unit, c.place);
+    let x = steps::step_at(k, d.slot, c.place);
     let n = turns::write_step(g, d, x, payload, staged, frame);
     let b = slices::byte_or(script, s.frames, 0);
     exchanges::exchange_first(g, block, array, frame, reply, n, log, 6 * s.frames, b);
@@ -97,7 +97,7 @@ fn is_going(s: Session) -> bool
 pub fn drive(
     g: Geometry,
     start: Session,
-    block: &mut [u8; 833],
+    block: &mut [u8; 765],
     array: &mut [u8],
     payload: &[u8],
     staged: &mut [u8; 2112],

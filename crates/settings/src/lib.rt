@@ -138,7 +138,7 @@ pub fn room_of(k: Key) -> usize
         Key::Script => 0xFFFF_FFFF_FFFF_FFFF,
         Key::Seed => 0xFFFF_FFFF_FFFF_FFFF,
         Key::Junk => 1_114_112,
-        Key::Log => 1_543_548,
+        Key::Log => 102_204,
         Key::Buffer => 65_536,
         Key::Reply => 65_536,
         Key::First => 0xFFFF_FFFF_FFFF_FFFF,

@@ -10,7 +10,7 @@ use registers::Operation;
 
 // The change stored, with the operation that is then under way.
 fn settle_in(block: &mut [u8], o: Operation, c: Change)
-    requires { (length block.old ≡ 833) × (o ≡ decode_operation block.old) }
+    requires { (length block.old ≡ 765) × (o ≡ decode_operation block.old) }
     ensures { block.new ≡ encode_chip (with_registers (decode_chip block.old) (changed c (decode_registers block.old))) }
 {
     let used = blocks::is_set(block[160]);
@@ -30,7 +30,7 @@ fn settle_in(block: &mut [u8], o: Operation, c: Change)
 
 // No operation is under way any more; what else the block holds stays, as it is stored.
 pub fn rest(block: &mut [u8])
-    requires { length block.old ≡ 833 }
+    requires { length block.old ≡ 765 }
     ensures { block.new ≡ encode_chip (with_registers (decode_chip block.old) (changed (Change.Start Operation.Idle) (decode_registers block.old))) }
 {
     let used = blocks::is_set(block[160]);
@@ -44,7 +44,7 @@ pub fn rest(block: &mut [u8])
 // The change stored into a block whose operation under way is `o`; what else the block holds stays, as it is stored. Mostly nothing
 // changes on an idle chip.
 pub fn settle(block: &mut [u8], o: Operation, c: Change)
-    requires { (length block.old ≡ 833) × (o ≡ decode_operation block.old) }
+    requires { (length block.old ≡ 765) × (o ≡ decode_operation block.old) }
     ensures { block.new ≡ encode_chip (with_registers (decode_chip block.old) (changed c (decode_registers block.old))) }
 {
     if let Change::Nothing = c {

@@ -3,4 +3,3 @@ pub mod Loops
 pub mod Rings
 pub mod Words
 mod Runs
-pub mod Fours

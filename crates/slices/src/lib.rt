@@ -2,7 +2,7 @@
 // Internal to this repository: a caller here meets each `requires`; no entry point is in this crate.
 ghost use Rattle.std.specs.Prelude.{◌≡◌, ℕ, ◌+◌, ◌≤◌, ◌<◌, not, length, get_or, replicate};
 ghost use Rattle.slices.specs.Lists.{and_over, same, ring_read, ring_write, splice};
-ghost use Rattle.slices.specs.Words.{word_at, word_bytes, four_at, four_bytes};
+ghost use Rattle.slices.specs.Words.{word_at, word_bytes};
 
 // Every byte becomes `value`. A single one needs no loop, of which the compiler makes a call.
 pub fn fill(part: &mut [u8], value: u8)
@@ -133,29 +133,6 @@ pub fn put_word(bytes: &mut [u8], at: usize, word: u64)
     bytes[at + 5] = (word / 0x1_0000 % 256) as u8;
     bytes[at + 6] = (word / 0x100 % 256) as u8;
     bytes[at + 7] = (word % 256) as u8;
-}
-
-// The number that four bytes from index `at` on make, first byte highest.
-pub fn four_at(bytes: &[u8], at: usize) -> u32
-    requires { at + 4 ≤ length bytes.now }
-    ensures { result ≡ four_at bytes.now at }
-{
-    let n = byte_at(bytes, at) * 0x100_0000
-        + byte_at(bytes, at + 1) * 0x1_0000
-        + byte_at(bytes, at + 2) * 0x100
-        + byte_at(bytes, at + 3);
-    n as u32
-}
-
-// The four bytes of `number` stored from index `at` on.
-pub fn put_four(bytes: &mut [u8], at: usize, number: u32)
-    requires { at + 4 ≤ length bytes.old }
-    ensures { bytes.new ≡ splice at (four_bytes number) bytes.old }
-{
-    bytes[at] = (number / 0x100_0000 % 256) as u8;
-    bytes[at + 1] = (number / 0x1_0000 % 256) as u8;
-    bytes[at + 2] = (number / 0x100 % 256) as u8;
-    bytes[at + 3] = (number % 256) as u8;
 }
 
 fn byte_at(bytes: &[u8], at: usize) -> u64

@@ -1,4 +1,4 @@
-// The C interface: a chip held in a record block of 833 bytes, its array lent by the caller; the calls of the slot driver on it; and
+// The C interface: a chip held in a record block of 765 bytes, its array lent by the caller; the calls of the slot driver on it; and
 // the driver by itself, its state held in a block of 72 bytes.
 // include/slipknoll.h documents it.
 // Each function on a chip returns the answer's number (docs/SPECIFICATION.md, 12); no function has a `requires`.
@@ -6,23 +6,21 @@ ghost use Rattle.std.specs.Prelude.{◌≡◌, [], ◌≤◌, ◌-◌, length, t
 ghost use Rattle.geometry.specs.Parts.{slot_room};
 ghost use Rattle.slices.specs.Lists.{over};
 ghost use Rattle.state.specs.Outcomes.{fresh_outcome, send_outcome, end_outcome, cut_outcome};
-ghost use Rattle.blocks.specs.Block.{tally_in};
 ghost use Rattle.blocks.specs.Promises.{held_in, Met, MetFresh, MetPin};
 ghost use Rattle.dates.specs.Calendar.{date};
 ghost use Rattle.slots.specs.Details.{storing, changing, reading, untold};
-ghost use Rattle.slots.specs.Lists.{Op, asking, put, patch, get, wipe, refresh};
+ghost use Rattle.slots.specs.Lists.{Op, asking, put, patch, get, wipe};
 ghost use Rattle.worlds.specs.Start.{start_driver};
 ghost use Rattle.worlds.specs.Step.{frame_in, staged_in, took_in, next_in, told_in, count_in};
 ghost use Rattle.driver_blocks.specs.Block.{told_number, decode_driver, encode_driver};
 ghost use Rattle.runs.specs.Promises.{Called};
 
 use dates::{Date, Term};
-use registers::Tally;
 use slots::Kind;
 
 // A fresh chip with these factory bytes; the array becomes FFh. Answers 0, 1.
 #[unsafe(no_mangle)]
-pub extern "C" fn slipknoll_fresh(block: &mut [u8; 833], factory: &[u8; 64], array: &mut [u8]) -> u8
+pub extern "C" fn slipknoll_fresh(block: &mut [u8; 765], factory: &[u8; 64], array: &mut [u8]) -> u8
     ensures { MetFresh block.old (fresh_outcome factory.now array.old) result block.new array.new }
 {
     inplace::fresh(block, factory, array)
@@ -31,7 +29,7 @@ pub extern "C" fn slipknoll_fresh(block: &mut [u8; 833], factory: &[u8; 64], arr
 // A frame sent straight to the chip; the reply is as long. Answers 0, 1, 2.
 #[unsafe(no_mangle)]
 pub extern "C" fn slipknoll_send(
-    block: &mut [u8; 833],
+    block: &mut [u8; 765],
     array: &[u8],
     frame: &[u8],
     reply: &mut [u8],
@@ -43,7 +41,7 @@ pub extern "C" fn slipknoll_send(
 
 // The operation under way ends and takes effect. Answers 0, 1.
 #[unsafe(no_mangle)]
-pub extern "C" fn slipknoll_end_busy(block: &mut [u8; 833], array: &mut [u8]) -> u8
+pub extern "C" fn slipknoll_end_busy(block: &mut [u8; 765], array: &mut [u8]) -> u8
     ensures { Met block.old (end_outcome (held_in block.old array.old)) result block.new array.new [] }
 {
     inplace::end_busy(block, array)
@@ -51,7 +49,7 @@ pub extern "C" fn slipknoll_end_busy(block: &mut [u8; 833], array: &mut [u8]) ->
 
 // The WP pin is moved. Answer 0.
 #[unsafe(no_mangle)]
-pub extern "C" fn slipknoll_move_pin(block: &mut [u8; 833], high: bool) -> u8
+pub extern "C" fn slipknoll_move_pin(block: &mut [u8; 765], high: bool) -> u8
     ensures { MetPin block.old high result block.new }
 {
     inplace::move_pin(block, high)
@@ -59,18 +57,10 @@ pub extern "C" fn slipknoll_move_pin(block: &mut [u8; 833], high: bool) -> u8
 
 // The supply is cut, with junk. Answers 0, 1, 7.
 #[unsafe(no_mangle)]
-pub extern "C" fn slipknoll_cut(block: &mut [u8; 833], array: &mut [u8], junk: &[u8]) -> u8
+pub extern "C" fn slipknoll_cut(block: &mut [u8; 765], array: &mut [u8], junk: &[u8]) -> u8
     ensures { Met block.old (cut_outcome junk.now (held_in block.old array.old)) result block.new array.new [] }
 {
     inplace::cut(block, array, junk)
-}
-
-// The lent tally becomes the chip's, its 17 counts in place.
-#[unsafe(no_mangle)]
-pub extern "C" fn slipknoll_tally(block: &[u8; 833], tally: &mut Tally)
-    ensures { tally.new ≡ tally_in block.now }
-{
-    *tally = blocks::tally(block);
 }
 
 // ---- the calls. `counts` gets frames, polls and n. Answers 0 to 16.
@@ -78,7 +68,7 @@ pub extern "C" fn slipknoll_tally(block: &[u8; 833], tally: &mut Tally)
 // A recipe stored in a slot.
 #[unsafe(no_mangle)]
 pub extern "C" fn slipknoll_put(
-    block: &mut [u8; 833],
+    block: &mut [u8; 765],
     array: &mut [u8],
     slot: usize,
     limit: usize,
@@ -107,7 +97,7 @@ pub extern "C" fn slipknoll_put(
 // A recipe stored in a slot with a term: its first and its last day, both inside.
 #[unsafe(no_mangle)]
 pub extern "C" fn slipknoll_put_term(
-    block: &mut [u8; 833],
+    block: &mut [u8; 765],
     array: &mut [u8],
     slot: usize,
     limit: usize,
@@ -146,7 +136,7 @@ pub extern "C" fn slipknoll_put_term(
 // Bytes put at a place of the stored recipe.
 #[unsafe(no_mangle)]
 pub extern "C" fn slipknoll_patch(
-    block: &mut [u8; 833],
+    block: &mut [u8; 765],
     array: &mut [u8],
     slot: usize,
     limit: usize,
@@ -166,7 +156,7 @@ pub extern "C" fn slipknoll_patch(
 // The stored recipe read into the lent buffer, under answer 0 only; year, month and day are today's date.
 #[unsafe(no_mangle)]
 pub extern "C" fn slipknoll_get(
-    block: &mut [u8; 833],
+    block: &mut [u8; 765],
     array: &mut [u8],
     slot: usize,
     limit: usize,
@@ -193,7 +183,7 @@ pub extern "C" fn slipknoll_get(
 // A slot erased.
 #[unsafe(no_mangle)]
 pub extern "C" fn slipknoll_wipe(
-    block: &mut [u8; 833],
+    block: &mut [u8; 765],
     array: &mut [u8],
     slot: usize,
     limit: usize,
@@ -208,28 +198,10 @@ pub extern "C" fn slipknoll_wipe(
     calls::tell(counts, d)
 }
 
-// A sector rewritten, page by page.
-#[unsafe(no_mangle)]
-pub extern "C" fn slipknoll_refresh(
-    block: &mut [u8; 833],
-    array: &mut [u8],
-    sector: usize,
-    limit: usize,
-    script: &[u8],
-    junk: &[u8],
-    log: &mut [u8],
-    counts: &mut [u64; 3],
-) -> u8
-    ensures { Called (refresh sector limit script.now junk.now log.old) block.old array.old result block.new array.new log.new counts.new [] }
-{
-    let d = calls::refresh(block, array, sector, limit, script, junk, log);
-    calls::tell(counts, d)
-}
-
 // One frame of the caller's, its reply in the lent buffer.
 #[unsafe(no_mangle)]
 pub extern "C" fn slipknoll_raw(
-    block: &mut [u8; 833],
+    block: &mut [u8; 765],
     array: &mut [u8],
     frame: &[u8],
     reply: &mut [u8],
@@ -346,20 +318,6 @@ pub extern "C" fn slipknoll_driver_start_wipe(
     ensures { state.new ≡ encode_driver (start_driver array (asking Kind.Wipe slot limit) untold 0 0) }
 {
     let d = openings::start_wipe(array, slot, limit);
-    driver_storing::encode(state, d);
-}
-
-// A refresh of a sector.
-#[unsafe(no_mangle)]
-pub extern "C" fn slipknoll_driver_start_refresh(
-    state: &mut [u8; 72],
-    array: usize,
-    sector: usize,
-    limit: usize,
-)
-    ensures { state.new ≡ encode_driver (start_driver array (asking Kind.Refresh sector limit) untold 0 0) }
-{
-    let d = openings::start_refresh(array, sector, limit);
     driver_storing::encode(state, d);
 }
 

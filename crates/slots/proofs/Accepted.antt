@@ -1,6 +1,6 @@
 -- What is known of a call that is not refused, and that a refused or ended call's run stands still.
 -- Assumes nothing.
-use Prim.Native.Nat.{ℕ, zero, suc, ◌+◌, ◌*◌, ◌/◌, ◌<◌, ◌≤◌}
+use Prim.Native.Nat.{ℕ, zero, suc, ◌+◌, ◌*◌, ◌/◌, ◌≤◌}
 use mathlib.Core.Path.{◌≡◌, refl, sym, ap, ◌∙◌}
 use mathlib.Core.Bool.{Bool, true, false, cond, not, ◌&&◌}
 use mathlib.Core.List.{List, ◌++◌}
@@ -13,17 +13,17 @@ use Rattle.state.specs.declared.Answer.TheVariants as Answers
 use Rattle.state.specs.Answers.{number_of}
 use Rattle.slots.specs.declared.Flaws.{Flaws}
 use Rattle.slots.specs.declared.Kind.{Kind}
-use Rattle.slots.specs.Plans.{Asked, opening, is_asking, pages, run_by, units_of, page_steps, plan_by, step_at, is_end, bound}
+use Rattle.slots.specs.Plans.{Asked, opening, is_asking, pages, run_by, page_steps, plan_by, step_at, is_end, bound}
 use Rattle.slots.specs.Refusals.{bad_script, early_refusal, late_refusal, or_else, call_refusal}
 use Rattle.slots.specs.Driver.{is_ended}
 use Rattle.slots.specs.Calls.{Request, Open, Closed, step_open, step_closed, run, refusal_of}
 
 -- every plan starts with a wait
-pub first_some : (k : Kind) (g : Geometry) (unit : ℕ) → is_end (step_at (plan_by k g unit) 0) ≡ false
+pub first_some : (k : Kind) (g : Geometry) (slot : ℕ) → is_end (step_at (plan_by k g slot) 0) ≡ false
 unfolding plan_by step_at is_end
-first_some k g unit = go (is_asking k)
+first_some k g slot = go (is_asking k)
   where
-    go : (b : Bool) → is_end (step_at (opening b ++ pages (run_by k g unit).count (run_by k g unit).first (page_steps k)) 0) ≡ false
+    go : (b : Bool) → is_end (step_at (opening b ++ pages (run_by k g slot).count (run_by k g slot).first (page_steps k)) 0) ≡ false
     go true = refl
     go false = refl
 
@@ -66,7 +66,7 @@ limits limit false b e f h = let z : ◌≡◌ {A = ℕ} 0 1 = cc in absurd (ome
 
 -- 3, 4, 5 and 14 are not met
 pub record Early (g : Geometry) (a : Asked) (flaws : Flaws) : Type 0 where
-  pub unit : a.unit < units_of a.kind g
+  pub fits : 8 * a.slot + 8 ≤ g.pages
   pub some : 1 ≤ a.limit
   pub most : a.limit ≤ 1000
   pub size : flaws.size ≡ false
@@ -75,16 +75,12 @@ pub record Early (g : Geometry) (a : Asked) (flaws : Flaws) : Type 0 where
 pub early : (g : Geometry) (a : Asked) (flaws : Flaws) → eqb (number_of (early_refusal g a flaws)) 0 ≡ true → Early g a flaws
 unfolding early_refusal number_of
 early g a flaws e =
-    let three = passes (leb (units_of a.kind g) a.unit) Answers.Slot _ refl e in
+    let three = passes (leb (g.pages / 8) a.slot) Answers.Slot _ refl e in
     let four = passes (not (leb 1 a.limit && leb a.limit 1000)) Answers.Limit _ refl three.1 in
     let five = passes flaws.size Answers.Size _ refl four.1 in
     let fourteen = passes flaws.dates Answers.Dates Answers.Done refl five.1 in
     let b = limits a.limit (leb 1 a.limit) (leb a.limit 1000) refl refl four.0 in
-    record { unit = leb-false (units_of a.kind g) a.unit three.0; some = b.0; most = b.1; size = five.0; dates = fourteen.0 }
-
--- a slot that the part has has its eight pages there
-pub slot-fits : (k : Kind) (g : Geometry) (slot : ℕ) → units_of k g ≡ g.pages / 8 → slot < units_of k g → 8 * slot + 8 ≤ g.pages
-slot-fits k g slot e l = omega (arith, e)
+    record { fits = omega (arith, leb-false (g.pages / 8) a.slot three.0); some = b.0; most = b.1; size = five.0; dates = fourteen.0 }
 
 -- 6 and 7 are not met
 pub record Late (g : Geometry) (array log least : ℕ) (script : List ℕ) (junk : ℕ) : Type 0 where

@@ -66,9 +66,9 @@ plain-same s x y e = λ j. tabulate s.length (λ i. byte-same s x y i e j)
 -- ---- the registers
 
 -- an 84 leaves the registers, whatever its data
-pub load-registers : (g : Geometry) (r : Registers) (k : Kind) (p : ℕ) (h : Holding) → (control g r (frame_of g k h (Load p))).registers ≡ r
+pub load_registers : (g : Geometry) (r : Registers) (k : Kind) (p : ℕ) (h : Holding) → (control g r (frame_of g k h (Load p))).registers ≡ r
 unfolding shape_of frame_byte tabulate
-load-registers g r k p h =
+load_registers g r k p h =
     ap (λ (f : List ℕ). (control g r f).registers) (tabulate_append 4 g.size (frame_byte (shape_of g (Load p)) (loaded g k h (Load p))))
     ∙ load_keeps g r 0 0 0 _
 
@@ -102,7 +102,7 @@ control_blind g r k h l (Wait c) = ap (λ (f : List ℕ). (control g r f).regist
 control_blind g r k h l Protection = ap (λ (f : List ℕ). (control g r f).registers) (frame_same g k h l Protection refl)
 control_blind g r k h l Lockdown = ap (λ (f : List ℕ). (control g r f).registers) (frame_same g k h l Lockdown refl)
 control_blind g r k h l (Read p) = ap (λ (f : List ℕ). (control g r f).registers) (frame_same g k h l (Read p) refl)
-control_blind g r k h l (Load p) = load-registers g r k p h ∙ sym (load-registers g r k p l)
+control_blind g r k h l (Load p) = load_registers g r k p h ∙ sym (load_registers g r k p l)
 control_blind g r k h l (Send c p) = ap (λ (f : List ℕ). (control g r f).registers) (frame_same g k h l (Send c p) refl)
 control_blind g r k h l End = ap (λ (f : List ℕ). (control g r f).registers) (frame_same g k h l End refl)
 

@@ -7,7 +7,7 @@ use mathlib.Core.Bool.{Bool, true, false, cond}
 use mathlib.Core.List.{List, [], ◌∷◌}
 use native.Mathlib.Omega.{arith}
 use lib.ListN.{length}
-use lib.Dec.{eqb, lit<}
+use lib.Dec.{eqb}
 use Rattle.geometry.specs.declared.Geometry.{Geometry}
 use Rattle.geometry.specs.declared.Part.{Part}
 use Rattle.geometry.specs.declared.Part.TheVariants.{Known, Unknown}
@@ -17,15 +17,15 @@ use Rattle.state.specs.Answers.{number_of}
 use Rattle.slots.specs.declared.Course.{Course}
 use Rattle.slots.specs.declared.Stage.TheVariants.{Going, Ended}
 use Rattle.slots.specs.declared.Step.{Step}
-use Rattle.slots.specs.Plans.{plan_of, step_at, is_end, is_wait, frames_most, bound}
+use Rattle.slots.specs.Plans.{plan_of, step_at, is_end, is_wait, frames_most, bound, stated}
 use Rattle.slots.specs.Driver.{Heard, ended, fewer, course_by, step_of, is_ended}
 use Rattle.slots.specs.Refusals.{raw_refusal}
-use Rattle.slots.specs.Calls.{Out, Request, Secret, Open, Closed, refused, scripted, hears, open_after, step_open, step_closed, run, first_course, refusal_of, start_open, start_closed, ran, out_from, call_out, raw_sent, raw_out}
+use Rattle.slots.specs.Calls.{Out, Request, Secret, Open, Closed, refused, scripted, open_after, step_open, step_closed, run, first_course, refusal_of, start_open, start_closed, ran, out_from, call_out, raw_sent, raw_out}
 use Rattle.state.specs.Memory.{State}
 use Rattle.state.specs.Outcomes.{part_in, sent_by, ended_by, pin_outcome, cut_by}
-use Rattle.slots.specs.Lists.{Op, call, raw, straight, pin, busy_end, cut, asks, secret, call_by, raw_by, out_of, bound_by, bound_of}
+use Rattle.slots.specs.Lists.{Op, call, raw, straight, pin, busy_end, cut, asks, secret, call_by, raw_by, out_of, bound_of}
 use Rattle.slots.proofs.Parts.{cases, out_at, out_at_lem}
-use Rattle.slots.proofs.Places.{never, known, rest_at, rest-step, rest-zero, onward, course_cases, onward_some, not_done, Over, course-over}
+use Rattle.slots.proofs.Places.{never, known, rest_at, rest-step, rest-zero, onward, course_cases, onward_some}
 use Rattle.slots.proofs.Counts.{bounds}
 use Rattle.slots.proofs.Accepted.{first_some, run-ended, accepted}
 
@@ -124,14 +124,6 @@ step_ok g v p q n w =
     (λ e. cases (Ok (plan_of g v.asked) v.asked.limit n) (eqb (scripted v.script p.frames) 2) (stop_ok Answers.Cut p.course w)
     (after_ok (plan_of g v.asked) v.asked.limit n p.course w e _))
 
-step-over : (g : Geometry) (v : Request) (p : Open) (q : Closed) (n : ℕ) → Ok (plan_of g v.asked) v.asked.limit (suc n) p.course
-    → Over (plan_of g v.asked) p.course → Over (plan_of g v.asked) (step_open g v p q).course
-unfolding step_open open_after number_of
-step-over g v p q n w u =
-    known (λ (o : Open). Over (plan_of g v.asked) o.course) (is_ended p.course.stage) (λ _. u)
-    (λ e. cases (Over (plan_of g v.asked)) (eqb (scripted v.script p.frames) 2) (λ z. not_done Answers.Cut (lit< tt, lit< tt) z)
-    (course-over (plan_of g v.asked) v.asked.limit p.course (hears g v p q) (w.step e) e))
-
 -- with as many steps as frames may be left, the run ends
 pub run_ends : (n : ℕ) (g : Geometry) (v : Request) (p : Open) (q : Closed) → Ok (plan_of g v.asked) v.asked.limit n p.course
     → is_ended (run n g v p q).0.course.stage ≡ true
@@ -142,13 +134,6 @@ run_ends zero g v p q w = go (is_ended p.course.stage) refl
     go true e = refl
     go false e = let z : 1 ≤ 0 = some_left p.course w e in absurd (omega arith)
 run_ends (suc n) g v p q w = run_ends n g v (step_open g v p q) (step_closed g v p q) (step_ok g v p q n w)
-
--- where it has come to 0, the plan is at its end
-pub run-over : (g : Geometry) (v : Request) (n : ℕ) (p : Open) (q : Closed) → Ok (plan_of g v.asked) v.asked.limit n p.course → Over (plan_of g v.asked) p.course
-    → Over (plan_of g v.asked) (run n g v p q).0.course
-unfolding run
-run-over g v zero p q w u = u
-run-over g v (suc n) p q w u = run-over g v n (step_open g v p q) (step_closed g v p q) (step_ok g v p q n w) (step-over g v p q n w u)
 
 -- a step is a frame at most, and a poll is a frame
 record Counted (n : ℕ) (p o : Open) : Type 0 where
@@ -191,12 +176,12 @@ pub begin_ok : (g : Geometry) (array : ℕ) (v : Request) → eqb (number_of (re
     → Ok (plan_of g v.asked) v.asked.limit (bound g v.asked) (first_course (refusal_of g array v) v.asked.limit)
 begin_ok g array v e =
     subst (Ok (plan_of g v.asked) v.asked.limit (bound g v.asked)) (start_at g array v e)
-    (start_ok (plan_of g v.asked) v.asked.limit (first_some v.asked.kind g v.asked.unit) (accepted g array v e).asked.some)
+    (start_ok (plan_of g v.asked) v.asked.limit (first_some v.asked.kind g v.asked.slot) (accepted g array v e).asked.some)
 
 -- every call ends: an accepted one within the bound, a refused one before its first frame
-pub call_ends_lem : (g : Geometry) (v : Request) (x : Secret) (s : State) → is_ended (ran g v x s).0.course.stage ≡ true
+pub call_ends : (g : Geometry) (v : Request) (x : Secret) (s : State) → is_ended (ran g v x s).0.course.stage ≡ true
 unfolding ran start_open
-call_ends_lem g v x s = go (eqb (number_of (refusal_of g (length s.memory.array) v)) 0) refl
+call_ends g v x s = go (eqb (number_of (refusal_of g (length s.memory.array) v)) 0) refl
   where
     p : Open
     p = start_open g (length s.memory.array) v s.registers
@@ -232,22 +217,18 @@ raw-within g f script log junk reply s =
     (record { frames = omega arith; polls = omega arith }) (none 1 (raw_refusal g (length s.memory.array) f (length reply) log script junk) reply)
 
 -- any call or event, on any chip, sends at most the frames that are stated; polls are among them
-at_within : (p : Part) (o : Op) (s : State) → Within (bound_by p o) (out_at p o s)
-unfolding out_at bound_by call_by raw_by
+at_within : (p : Part) (o : Op) (s : State) → Within (bound_of o) (out_at p o s)
+unfolding out_at bound_of call_by raw_by
 at_within (Known g) (call a detail script payload junk log lent) s =
-    subst (λ (n : ℕ). Within n (call_out g (asks g a detail script payload junk log lent) (secret payload detail junk lent) s)) (bounds a.kind g a.unit a.limit)
+    subst (λ (n : ℕ). Within n (call_out g (asks g a detail script payload junk log lent) (secret payload detail junk lent) s)) (bounds a.kind g a.slot a.limit)
     (call-within g (asks g a detail script payload junk log lent) (secret payload detail junk lent) s)
-at_within Unknown (call a detail script payload junk log lent) s = none 0 Answers.Part lent
+at_within Unknown (call a detail script payload junk log lent) s = none (stated a.kind a.limit) Answers.Part lent
 at_within (Known g) (raw frame script junk log reply) s = raw-within g frame script (length log) (length junk) reply s
-at_within Unknown (raw frame script junk log reply) s = none 0 Answers.Part reply
-at_within (Known g) (straight frame reply) s = none 0 (sent_by (Known g) s frame reply).answer (sent_by (Known g) s frame reply).reply
-at_within (Known g) (pin high) s = none 0 (pin_outcome high s).answer (pin_outcome high s).reply
-at_within (Known g) busy_end s = none 0 (ended_by (Known g) s).answer (ended_by (Known g) s).reply
-at_within (Known g) (cut junk) s = none 0 (cut_by (Known g) junk s).answer (cut_by (Known g) junk s).reply
-at_within Unknown (straight frame reply) s = none 0 (sent_by Unknown s frame reply).answer (sent_by Unknown s frame reply).reply
-at_within Unknown (pin high) s = none 0 (pin_outcome high s).answer (pin_outcome high s).reply
-at_within Unknown busy_end s = none 0 (ended_by Unknown s).answer (ended_by Unknown s).reply
-at_within Unknown (cut junk) s = none 0 (cut_by Unknown junk s).answer (cut_by Unknown junk s).reply
+at_within Unknown (raw frame script junk log reply) s = none 1 Answers.Part reply
+at_within p (straight frame reply) s = none 0 (sent_by p s frame reply).answer (sent_by p s frame reply).reply
+at_within p (pin high) s = none 0 (pin_outcome high s).answer (pin_outcome high s).reply
+at_within p busy_end s = none 0 (ended_by p s).answer (ended_by p s).reply
+at_within p (cut junk) s = none 0 (cut_by p junk s).answer (cut_by p junk s).reply
 
-pub within-bound : (o : Op) (s : State) → Within (bound_of o s) (out_of o s)
-within-bound o s = subst (Within (bound_of o s)) (sym (out_at_lem o s)) (at_within (part_in s) o s)
+pub within-bound : (o : Op) (s : State) → Within (bound_of o) (out_of o s)
+within-bound o s = subst (Within (bound_of o)) (sym (out_at_lem o s)) (at_within (part_in s) o s)

@@ -2,16 +2,13 @@
 -- Assumes nothing.
 use Prim.Native.Nat.{ℕ, zero, suc, ◌+◌, ◌*◌, ◌<◌, ◌≤◌}
 use native.Mathlib.Omega.{arith}
-use native.Mathlib.Nat.{mul-le-mul}
 use mathlib.Core.Path.{◌≡◌, refl, sym, ap, ◌∙◌}
 use mathlib.Core.Bool.{Bool, true, false, cond}
 use mathlib.Core.List.{List, [], ◌∷◌, ◌++◌}
 use lib.ListN.{length}
 use Rattle.geometry.specs.declared.Geometry.{Geometry}
-use Rattle.geometry.specs.Sectors.{sector_run}
-use Rattle.geometry.proofs.Sectors.{sector_within}
 use Rattle.slots.specs.declared.Kind.{Kind}
-use Rattle.slots.specs.declared.Kind.TheVariants.{Put, Patch, Get, Wipe, Refresh}
+use Rattle.slots.specs.declared.Kind.TheVariants.{Put, Patch, Get, Wipe}
 use Rattle.slots.specs.declared.Step.{Step}
 use Rattle.slots.specs.Plans.{pages, opening, is_asking, page_steps, run_by, plan_by, step_at, is_end, is_wait, frames_most, waits_in, stated, frames_of, polls_of}
 use Rattle.slots.proofs.Places.{never}
@@ -36,7 +33,6 @@ page_most Put B = 2 * B + 3
 page_most Patch B = 2 * B + 4
 page_most Get B = 1
 page_most Wipe B = B + 1
-page_most Refresh B = B + 1
 
 page_most_lem : (k : Kind) (B p : ℕ) → frames_most B (page_steps k p) ≡ page_most k B
 unfolding page_steps frames_most is_wait page_most
@@ -44,7 +40,6 @@ page_most_lem Put B p = omega arith
 page_most_lem Patch B p = omega arith
 page_most_lem Get B p = omega arith
 page_most_lem Wipe B p = omega arith
-page_most_lem Refresh B p = omega arith
 
 plan_most : (k : Kind) (g : Geometry) (slot B : ℕ) → frames_most B (plan_by k g slot) ≡ frames_most B (opening (is_asking k)) + (run_by k g slot).count * page_most k B
 unfolding plan_by
@@ -52,16 +47,15 @@ plan_most k g slot B =
     most_append B (opening (is_asking k)) (pages (run_by k g slot).count (run_by k g slot).first (page_steps k))
     ∙ ap (λ (n : ℕ). frames_most B (opening (is_asking k)) + n) (most-pages B (run_by k g slot).count (run_by k g slot).first (page_most k B) (page_steps k) (page_most_lem k B))
 
-pub bounds : (k : Kind) (g : Geometry) (slot B : ℕ) → frames_most B (plan_by k g slot) ≡ stated k g slot B
+pub bounds : (k : Kind) (g : Geometry) (slot B : ℕ) → frames_most B (plan_by k g slot) ≡ stated k B
 unfolding is_asking frames_most is_wait run_by page_most stated
 bounds k g slot B = plan_most k g slot B ∙ sum k
   where
-    sum : (k : Kind) → frames_most B (opening (is_asking k)) + (run_by k g slot).count * page_most k B ≡ stated k g slot B
+    sum : (k : Kind) → frames_most B (opening (is_asking k)) + (run_by k g slot).count * page_most k B ≡ stated k B
     sum Put = omega arith
     sum Patch = omega arith
     sum Get = omega arith
     sum Wipe = omega arith
-    sum Refresh = omega arith
 
 -- with one poll a wait there are as many frames as steps
 length_most : (xs : List Step) → length xs ≡ frames_most 1 xs
@@ -73,16 +67,15 @@ length_most (x ∷ xs) = let e = length_most xs in let f = one (is_wait x) in om
     one true = refl
     one false = refl
 
-pub steps : (k : Kind) (g : Geometry) (slot : ℕ) → length (plan_by k g slot) ≡ frames_of k g slot
+pub steps : (k : Kind) (g : Geometry) (slot : ℕ) → length (plan_by k g slot) ≡ frames_of k
 unfolding stated frames_of
 steps k g slot = length_most (plan_by k g slot) ∙ bounds k g slot 1 ∙ sum k
   where
-    sum : (k : Kind) → stated k g slot 1 ≡ frames_of k g slot
+    sum : (k : Kind) → stated k 1 ≡ frames_of k
     sum Put = refl
     sum Patch = refl
     sum Get = refl
     sum Wipe = refl
-    sum Refresh = omega arith
 
 -- the waits among them
 waits_most : (xs : List Step) → frames_most 2 xs ≡ frames_most 1 xs + waits_in xs
@@ -94,52 +87,29 @@ waits_most (x ∷ xs) = let e = waits_most xs in let f = two (is_wait x) in omeg
     two true = refl
     two false = refl
 
-pub waits : (k : Kind) (g : Geometry) (slot : ℕ) → waits_in (plan_by k g slot) ≡ polls_of k g slot
+pub waits : (k : Kind) (g : Geometry) (slot : ℕ) → waits_in (plan_by k g slot) ≡ polls_of k
 unfolding stated polls_of
 waits k g slot = from k (waits_most (plan_by k g slot)) (bounds k g slot 1) (bounds k g slot 2)
   where
-    from : (k : Kind) {w a b : ℕ} → b ≡ a + w → a ≡ stated k g slot 1 → b ≡ stated k g slot 2 → w ≡ polls_of k g slot
+    from : (k : Kind) {w a b : ℕ} → b ≡ a + w → a ≡ stated k 1 → b ≡ stated k 2 → w ≡ polls_of k
     from Put e f h = omega arith
     from Patch e f h = omega arith
     from Get e f h = omega arith
     from Wipe e f h = omega arith
-    from Refresh e f h = omega arith
 
--- so many pages, each with a wait of at most 1,000 polls
-pub rewritten_few : (n limit : ℕ) → n ≤ 4096 → limit ≤ 1000 → n * (limit + 1) ≤ 4100096
-rewritten_few n limit h l =
-    let few : limit + 1 ≤ 1001 = omega arith in
-    let m : n * (limit + 1) ≤ 4096 * 1001 = mul-le-mul h few in
-    omega (arith, m)
-
--- where the part has at most 4,096 pages
-pub bound-small : (k : Kind) (g : Geometry) (unit limit : ℕ) → g.pages ≤ 4096 → limit ≤ 1000 → stated k g unit limit ≤ 4101098
-unfolding stated
-bound-small Put g slot limit p h = omega arith
-bound-small Patch g slot limit p h = omega arith
-bound-small Get g slot limit p h = omega arith
-bound-small Wipe g slot limit p h = omega arith
-bound-small Refresh g sector limit p h =
-    let few : (sector_run g sector).count ≤ 4096 = omega (arith, sector_within g sector) in
-    omega (arith, rewritten_few (sector_run g sector).count limit few h)
-
--- ---- how long a plan can be
-
--- a place with a step lies in the plan
+-- a place with a step lies in the plan, which has at most 51
 step-inside : (xs : List Step) (i : ℕ) → is_end (step_at xs i) ≡ false → i < length xs
 unfolding step_at is_end
 step-inside [] i e = never (sym e)
 step-inside (x ∷ xs) zero e = omega arith
 step-inside (x ∷ xs) (suc i) e = let r = step-inside xs i e in omega arith
 
--- at most every page of the part is rewritten
-few_steps : (k : Kind) (g : Geometry) (unit : ℕ) → frames_of k g unit ≤ 51 + 2 * g.pages
+few_steps : (k : Kind) → frames_of k ≤ 51
 unfolding frames_of
-few_steps Put g slot = omega arith
-few_steps Patch g slot = omega arith
-few_steps Get g slot = omega arith
-few_steps Wipe g slot = omega arith
-few_steps Refresh g sector = omega (arith, sector_within g sector)
+few_steps Put = omega arith
+few_steps Patch = omega arith
+few_steps Get = omega arith
+few_steps Wipe = omega arith
 
-pub place-few : (k : Kind) (g : Geometry) (unit i : ℕ) → is_end (step_at (plan_by k g unit) i) ≡ false → i < 51 + 2 * g.pages
-place-few k g unit i e = omega (arith, step-inside (plan_by k g unit) i e, steps k g unit, few_steps k g unit)
+pub place-few : (k : Kind) (g : Geometry) (slot i : ℕ) → is_end (step_at (plan_by k g slot) i) ≡ false → i < 51
+place-few k g slot i e = omega (arith, step-inside (plan_by k g slot) i e, steps k g slot, few_steps k)

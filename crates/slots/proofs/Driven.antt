@@ -148,11 +148,11 @@ module _ (g : Geometry) (a : Asked) (M : Machine g a) where
         }
 
     -- the call ends here
-    stop-lead : (o : Answer) (k : ℕ) → (M.course (M.step s)).stage ≡ Ended o → M.polls (M.step s) ≡ M.polls s + k
+    stop_lead : (o : Answer) (k : ℕ) → (M.course (M.step s)).stage ≡ Ended o → M.polls (M.step s) ≡ M.polls s + k
         → Follows g a c.left (rest_at (plan_of g a) c.place) c.listed c.guarded (M.holding s) (e ∷ []) k (stopped o)
         → Led (suc n) s c (M.holding s)
     unfolding is_ended
-    stop-lead o k t m f =
+    stop_lead o k t m f =
         let over : is_ended (M.course (M.step s)).stage ≡ true = ap is_ended t in
         let z = ended_stands n (M.step s) over in
         lead k (stopped o)
@@ -233,7 +233,7 @@ module _ (g : Geometry) (a : Asked) (M : Machine g a) where
 
     cut_led : (x : Step) → F x → is_wait x ≡ false → eqb x₁.byte 2 ≡ true → Led₁
     cut_led x f w z =
-        stop-lead n s live Answers.Cut 0 (ap (λ (d : Course). d.stage) (M.cuts s live z)) (f.polls ∙ ap (λ (b : Bool). M.polls s + cond b 1 0) w)
+        stop_lead n s live Answers.Cut 0 (ap (λ (d : Course). d.stage) (M.cuts s live z)) (f.polls ∙ ap (λ (b : Bool). M.polls s + cond b 1 0) w)
         (placed f (cut w f.frame (eqb-true x₁.byte 2 z)))
 
     onward_led : (x : Step) (l : Course) → F x → is_wait x ≡ false → l.place ≡ k.place → M.course (M.step s) ≡ moved step₁ a.limit l
@@ -258,7 +258,7 @@ module _ (g : Geometry) (a : Asked) (M : Machine g a) where
       where
         left? : FoundBusy x₁ → eqb (status_in x₁ / 128 % 2) 1 ≡ false → (b : Bool) → leb k.left 1 ≡ b → M.course (M.step s) ≡ cond b (ended Answers.Busy k) (fewer k) → Led₁
         left? u v true l d =
-            stop-lead n s live Answers.Busy 1 (ap (λ (c : Course). c.stage) d) f.polls (placed f (halted (busy u (leb-true k.left 1 l))))
+            stop_lead n s live Answers.Busy 1 (ap (λ (c : Course). c.stage) d) f.polls (placed f (halted (busy u (leb-true k.left 1 l))))
         left? u v false l d =
             go_lead n s live (λ m. suc m) (one_more (Wait x) f refl)
             (λ m t y. placed f (more u (leb-false k.left 1 l)
@@ -269,7 +269,7 @@ module _ (g : Geometry) (a : Asked) (M : Machine g a) where
             → M.course (M.step s) ≡ cond (not d) (ended Answers.Device k) (cond r (moved step₁ a.limit (marking (guarded_in x₁) k)) (cond (leb k.left 1) (ended Answers.Busy k) (fewer k)))
             → Led₁
         heard? z false r u w d =
-            stop-lead n s live Answers.Device 1 (ap (λ (c : Course). c.stage) d) f.polls (placed f (halted (foreign z (eqb-false (status_in x₁ / 4 % 16) 9 u))))
+            stop_lead n s live Answers.Device 1 (ap (λ (c : Course). c.stage) d) f.polls (placed f (halted (foreign z (eqb-false (status_in x₁ / 4 % 16) 9 u))))
         heard? z true true u w d =
             go_lead n s live (λ m. suc m) (one_more (Wait x) f refl)
             (λ m t y. placed f (waited (ready z (eqb-true (status_in x₁ / 4 % 16) 9 u) (eqb-true (status_in x₁ / 128 % 2) 1 w)) y (omega arith)))
@@ -279,7 +279,7 @@ module _ (g : Geometry) (a : Asked) (M : Machine g a) where
 
         cut? : (y : Bool) → eqb x₁.byte 2 ≡ y → Led₁
         cut? true z =
-            stop-lead n s live Answers.Cut 1 (ap (λ (d : Course). d.stage) (M.cuts s live z)) f.polls (placed f (halted (lost f.frame (eqb-true x₁.byte 2 z))))
+            stop_lead n s live Answers.Cut 1 (ap (λ (d : Course). d.stage) (M.cuts s live z)) f.polls (placed f (halted (lost f.frame (eqb-true x₁.byte 2 z))))
         cut? false z = heard? (f.frame, eqb-false x₁.byte 2 z) (eqb (status_in x₁ / 4 % 16) 9) (eqb (status_in x₁ / 128 % 2) 1) refl refl (f.course z)
 
     step_led : (x : Step) → F x → Led₁
@@ -295,7 +295,7 @@ module _ (g : Geometry) (a : Asked) (M : Machine g a) where
         held? : eqb x₁.byte 2 ≡ false → (b : Bool) → (held_in g a x₁ || (k.listed && k.guarded)) ≡ b
             → M.course (M.step s) ≡ cond b (ended Answers.Sealed k) (moved step₁ a.limit k) → Led₁
         held? z true e d =
-            stop-lead n s live Answers.Sealed 0 (ap (λ (c : Course). c.stage) d) f.polls (placed f (shut (f.frame, eqb-false x₁.byte 2 z) e))
+            stop_lead n s live Answers.Sealed 0 (ap (λ (c : Course). c.stage) d) f.polls (placed f (shut (f.frame, eqb-false x₁.byte 2 z) e))
         held? z false e d = onward_led Lockdown k f refl refl d (λ m t u. free (f.frame, eqb-false x₁.byte 2 z) e u)
 
         go : (b : Bool) → eqb x₁.byte 2 ≡ b → Led₁
@@ -318,7 +318,7 @@ module _ (g : Geometry) (a : Asked) (M : Machine g a) where
         follows =
             subst (λ (es : List Exchange). Follows g a (M.course s).left (rest_at (plan_of g a) (M.course s).place) (M.course s).listed (M.course s).guarded (M.holding s) es 0 (finished (M.holding s))) (sym z.1)
             (subst (λ (xs : List Step). Follows g a (M.course s).left xs (M.course s).listed (M.course s).guarded (M.holding s) [] 0 (finished (M.holding s)))
-            (sym (rest-none (plan_of g a) (M.course s).place (plan_proper a.kind g a.unit) e)) done);
+            (sym (rest-none (plan_of g a) (M.course s).place (plan_proper a.kind g a.slot) e)) done);
         counted = ap M.polls z.0 ∙ omega arith;
         ends = (ap (λ (o : M.State). (M.course o).stage) z.0 ∙ t, ap M.holding z.0);
       }

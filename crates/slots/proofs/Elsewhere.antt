@@ -1,5 +1,5 @@
--- A call programs and erases in its own slot alone, a refresh in its own sector, and a get nowhere: of their frames only 83, 50 and 58 start anything that writes, they
--- name pages of the call's own run, and a get sends none. So every other page keeps its bytes, whatever the chip and the script; and read-back holds through calls elsewhere.
+-- A call programs and erases in its own slot alone, and a get nowhere: of its frames only 83 and 50 start anything that writes, they name pages of the call's own slot,
+-- and a get sends neither. So every other page keeps its bytes, whatever the chip and the script; and read-back holds through calls elsewhere.
 -- Assumes nothing.
 use Prim.Native.Nat.{ℕ, zero, suc, ◌+◌, ◌*◌, ◌/◌, ◌%◌, ◌<◌, ◌≤◌}
 use native.Mathlib.Omega.{arith}
@@ -9,28 +9,26 @@ use mathlib.Core.List.{List, [], ◌∷◌}
 use mathlib.Core.Logic.{◌⊎◌, inl, inr}
 use lib.ListN.{length, replicate}
 use lib.Dec.{eqb}
-use borrow.Author.Tests.{eq-eqb, ne_eqb}
+use borrow.Author.Tests.{eqb-true, eq-eqb, ne_eqb}
 use Rattle.slices.specs.Lists.{tabulate}
 use Rattle.geometry.specs.declared.Geometry.{Geometry}
 use Rattle.geometry.specs.declared.Part.{Part}
 use Rattle.geometry.specs.declared.Part.TheVariants.{Known, Unknown}
-use Rattle.geometry.specs.Parts.{part_of, Sized, run, in_run, address_at, page_at, page_of}
+use Rattle.geometry.specs.Parts.{part_of, address_at, page_at, page_of}
 use Rattle.geometry.specs.Sectors.{sector_of}
 use Rattle.geometry.proofs.Pages.{sized}
-use Rattle.geometry.proofs.Runs.{run-pages}
-use Rattle.geometry.proofs.Sectors.{block_sector}
 use Rattle.geometry.proofs.Addresses.{address-bytes, page_address}
 use Rattle.commands.specs.declared.Buffer.TheVariants.{One}
 use Rattle.commands.specs.declared.Decoded.{Decoded}
 use Rattle.commands.specs.Decode.{decode_of}
-use Rattle.commands.proofs.Frames.{decode_program, decode_erase, decode_compare, decode_rewrite}
+use Rattle.commands.proofs.Frames.{decode_program, decode_erase, decode_compare}
 use Rattle.registers.specs.declared.Operation.{Operation}
-use Rattle.registers.specs.declared.Operation.TheVariants.{Idle, Program, EraseBlock, Compare, Rewrite}
+use Rattle.registers.specs.declared.Operation.TheVariants.{Idle, Program, EraseBlock, Compare}
 use Rattle.registers.specs.declared.Registers.{Registers}
 use Rattle.registers.specs.Operations.{writes}
 use Rattle.registers.specs.Protection.{sealed}
-use Rattle.registers.proofs.Operations.{writes_program, writes-block, writes-compare, writes_rewrite}
-use Rattle.registers.proofs.Places.{placed_known, placed_sized}
+use Rattle.registers.proofs.Operations.{writes_program, writes-block, writes-compare}
+use Rattle.registers.proofs.Places.{placed_known}
 use Rattle.control.specs.declared.Decision.{Decision}
 use Rattle.control.specs.Control.{control, started, started_on, ignored, row_of, row_decided}
 use Rattle.control.proofs.Rows.{control_cases}
@@ -40,24 +38,23 @@ use Rattle.state.specs.Answers.{number_of}
 use Rattle.state.specs.Frames.{is_idle}
 use Rattle.state.proofs.Status.{idle_is}
 use Rattle.slots.specs.declared.Kind.{Kind}
-use Rattle.slots.specs.declared.Kind.TheVariants.{Put, Patch, Get, Wipe, Refresh}
+use Rattle.slots.specs.declared.Kind.TheVariants.{Put, Patch, Get, Wipe}
 use Rattle.slots.specs.declared.Command.TheVariants as C
 use Rattle.slots.specs.declared.Step.{Step}
 use Rattle.slots.specs.declared.Step.TheVariants.{Wait, Protection, Lockdown, Read, Load, Send, End}
 use Rattle.state.specs.Memory.{State, chip_in}
 use Rattle.state.specs.Outcomes.{part_in}
 use Rattle.state.specs.Whole.{Whole}
-use Rattle.slots.specs.Plans.{Asked, is_asking, page_steps, run_by, units_of, plan_by, plan_of, bound, step_at, is_end}
+use Rattle.slots.specs.Plans.{Asked, opening, is_asking, page_steps, pages, run_by, plan_by, plan_of, bound, step_at, is_end}
 use Rattle.slots.specs.Driver.{Holding, opcode_of, shape_of, frame_byte, frame_of, is_ended}
 use Rattle.slots.specs.Calls.{Request, Secret, Open, Closed, refusal_of, step_open, step_closed, start_open, start_closed}
 use Rattle.slots.specs.Lists.{Op, call, put, get, pin, busy_end, cut, asks, secret, out_of, next_of, left_by}
 use Rattle.slots.specs.Quiet.{Spares, started_by, QuietFrames, QuietCall, QuietBy, QuietIn, Returns}
 use Rattle.slots.proofs.Parts.{cases}
-use Rattle.slots.proofs.Places.{never, every, step-every}
+use Rattle.slots.proofs.Places.{never, both, second, every, every_append}
 use Rattle.slots.proofs.Accepted.{step-ended, accepted}
-use Rattle.slots.proofs.Named.{named, every-pages_in, plan_named, run_inside, refresh_sector}
 use Rattle.slots.proofs.Bound.{Ok, step_ok, begin_ok, start-ended}
-use Rattle.slots.proofs.Blind.{load-registers, protection-registers, lockdown-registers}
+use Rattle.slots.proofs.Blind.{load_registers, protection-registers, lockdown-registers}
 use Rattle.slots.proofs.Sent.{addressed-few, read_keeps}
 use Rattle.slots.proofs.Kept.{idle_spares, op_kept}
 use Rattle.slots.proofs.ReadBack.{read_back}
@@ -67,41 +64,17 @@ use Rattle.dates.specs.declared.Term.{Term}
 use Rattle.dates.specs.Calendar.{day_of}
 use Rattle.slots.specs.Details.{period_of}
 
--- ---- what a call may write
+-- ---- what the steps of a plan name
 
--- the page is one of the slot, or of the sector
-unfoldable pub owns : Kind → Geometry → ℕ → ℕ → Bool
-owns Put g slot p = eqb (p / 8) slot
-owns Patch g slot p = eqb (p / 8) slot
-owns Get g slot p = eqb (p / 8) slot
-owns Wipe g slot p = eqb (p / 8) slot
-owns Refresh g sector p = eqb (sector_of g p) sector
-
--- so is every page that its commands name, and with it its block
-module _ (g : Geometry) (n : ℕ) (z : Sized g n) where
-  same_block : (p q : ℕ) → q / 8 ≡ p / 8 → sector_of g q ≡ sector_of g p
-  same_block p q e = at q ∙ ap (λ (b : ℕ). sector_of g (8 * b)) e ∙ sym (at p)
-    where
-      at : (q : ℕ) → sector_of g q ≡ sector_of g (8 * (q / 8))
-      at q = let f : 8 * (q / 8) + q % 8 ≡ q = omega arith in ap (sector_of g) (sym f) ∙ block_sector g z.wide (q / 8) (q % 8) z.parted (omega arith)
-
-  -- a block is a call's own, or none of its pages is
-  owns-block : (k : Kind) (unit p q : ℕ) → q / 8 ≡ p / 8 → owns k g unit p ≡ owns k g unit q
-  unfolding owns
-  owns-block Put slot p q e = ap (λ (b : ℕ). eqb b slot) (sym e)
-  owns-block Patch slot p q e = ap (λ (b : ℕ). eqb b slot) (sym e)
-  owns-block Get slot p q e = ap (λ (b : ℕ). eqb b slot) (sym e)
-  owns-block Wipe slot p q e = ap (λ (b : ℕ). eqb b slot) (sym e)
-  owns-block Refresh sector p q e = ap (λ (s : ℕ). eqb s sector) (sym (same_block p q e))
-
-  owns-run : (k : Kind) (unit p q : ℕ) → unit < units_of k g → in_run (run_by k g unit) p ≡ true → q / 8 ≡ p / 8 → owns k g unit q ≡ true
-  unfolding owns run_by units_of
-  owns-run Put slot p q l e h = let i = run-pages (run (8 * slot) 8) p e in eq-eqb (q / 8) slot (omega (arith, h, i.0, i.1))
-  owns-run Patch slot p q l e h = let i = run-pages (run (8 * slot) 8) p e in eq-eqb (q / 8) slot (omega (arith, h, i.0, i.1))
-  owns-run Get slot p q l e h = let i = run-pages (run (8 * slot) 8) p e in eq-eqb (q / 8) slot (omega (arith, h, i.0, i.1))
-  owns-run Wipe slot p q l e h = let i = run-pages (run (8 * slot) 1) p e in eq-eqb (q / 8) slot (omega (arith, h, i.0, i.1))
-  owns-run Refresh sector p q l e h =
-      eq-eqb (sector_of g q) sector (same_block p q h ∙ (run_inside g n z Refresh sector p l e).1 ∙ refresh_sector g n z sector l)
+-- a command names a page of the slot
+unfoldable in_slot : ℕ → Step → Bool
+in_slot slot (Wait c) = true
+in_slot slot Protection = true
+in_slot slot Lockdown = true
+in_slot slot (Read p) = true
+in_slot slot (Load p) = true
+in_slot slot (Send c p) = eqb (p / 8) slot
+in_slot slot End = true
 
 -- no command
 unfoldable is_still : Step → Bool
@@ -112,6 +85,47 @@ is_still (Read p) = true
 is_still (Load p) = true
 is_still (Send c p) = false
 is_still End = true
+
+-- what holds of each step holds of the one at any place
+step-every : (f : Step → Bool) (xs : List Step) (i : ℕ) → f End ≡ true → every f xs ≡ true → f (step_at xs i) ≡ true
+unfolding step_at every
+step-every f [] i e h = e
+step-every f (x ∷ xs) zero e h = both (f x) (every f xs) h
+step-every f (x ∷ xs) (suc i) e h = step-every f xs i e (second (f x) (every f xs) h)
+
+every-pages_in : (f : Step → Bool) (n k : ℕ) (steps : ℕ → List Step) → ((p : ℕ) → k ≤ p → p < k + n → every f (steps p) ≡ true) → every f (pages n k steps) ≡ true
+unfolding every pages
+every-pages_in f zero k steps e = refl
+every-pages_in f (suc n) k steps e =
+    every_append f (steps k) (pages n (suc k) steps) (e k (omega arith) (omega arith)) (every-pages_in f n (suc k) steps (λ p l u. e p (omega arith) (omega arith)))
+
+opening_in : (slot : ℕ) (b : Bool) → every (in_slot slot) (opening b) ≡ true
+unfolding every in_slot
+opening_in slot true = refl
+opening_in slot false = refl
+
+page_in_lem : (k : Kind) (slot p : ℕ) → eqb (p / 8) slot ≡ true → every (in_slot slot) (page_steps k p) ≡ true
+unfolding every in_slot page_steps
+page_in_lem Put slot p e = λ i. e i && (e i && true)
+page_in_lem Patch slot p e = λ i. e i && (e i && true)
+page_in_lem Get slot p e = refl
+page_in_lem Wipe slot p e = λ i. e i && true
+
+run_in : (k : Kind) (g : Geometry) (slot : ℕ) → ((run_by k g slot).first ≡ 8 * slot) × ((run_by k g slot).count ≤ 8)
+unfolding run_by
+run_in Put g slot = (refl, omega arith)
+run_in Patch g slot = (refl, omega arith)
+run_in Get g slot = (refl, omega arith)
+run_in Wipe g slot = (refl, omega arith)
+
+-- a plan's commands name pages of its slot
+plan_in : (k : Kind) (g : Geometry) (slot : ℕ) → every (in_slot slot) (plan_by k g slot) ≡ true
+unfolding plan_by
+plan_in k g slot =
+    let z = run_in k g slot in
+    every_append (in_slot slot) (opening (is_asking k)) (pages (run_by k g slot).count (run_by k g slot).first (page_steps k)) (opening_in slot (is_asking k))
+    (every-pages_in (in_slot slot) (run_by k g slot).count (run_by k g slot).first (page_steps k)
+    (λ p l u. page_in_lem k slot p (eq-eqb (p / 8) slot (omega (arith, z.0, z.1, l, u)))))
 
 -- a get's plan has none
 get_still : (g : Geometry) (slot : ℕ) → every is_still (plan_by Get g slot) ≡ true
@@ -154,9 +168,9 @@ module _ (g : Geometry) (first end : ℕ) where
       (idle_spares g first end r.operation i) u)
 
   module _ (n : ℕ) (part : part_of n ≡ Known g) (r : Registers) (k : Kind) (h : Holding) where
-    -- the page that a command names
-    named_by : (opcode p : ℕ) → p < g.pages → page_at g (address_at (opcode ∷ g.field * p / 65536 % 256 ∷ g.field * p / 256 % 256 ∷ g.field * p % 256 ∷ []) 1) ≡ p
-    named_by opcode p l = ap (page_at g) (address-bytes opcode (g.field * p) [] (addressed-few n g p part l)) ∙ page_address g p l (sized n g part).addressed
+    -- the page that an 83 or a 50 names
+    named : (opcode p : ℕ) → p < g.pages → page_at g (address_at (opcode ∷ g.field * p / 65536 % 256 ∷ g.field * p / 256 % 256 ∷ g.field * p % 256 ∷ []) 1) ≡ p
+    named opcode p l = ap (page_at g) (address-bytes opcode (g.field * p) [] (addressed-few n g p part l)) ∙ page_address g p l (sized n g part).addressed
 
     -- a command on a page of a block that the pages do not touch
     send_spares : (c : _) (p : ℕ) → p < g.pages → ((q : ℕ) → first ≤ q → q < end → q / 8 ≡ p / 8 → ⊥) → Spares g first end (started_by g r (frame_of g k h (Send c p)))
@@ -164,21 +178,15 @@ module _ (g : Geometry) (first end : ℕ) where
     send_spares C.Program p l far =
         let a = g.field * p in
         let f : List ℕ = 0x83 ∷ a / 65536 % 256 ∷ a / 256 % 256 ∷ a % 256 ∷ [] in
-        let e = named_by 0x83 p l in
+        let e = named 0x83 p l in
         starts_on r f _ (page_at g (address_at f 1)) (Program One (page_at g (address_at f 1))) (decode_program (a / 65536 % 256) (a / 256 % 256) (a % 256) []) refl
         (λ q i j. writes_program g q One (page_at g (address_at f 1)) ∙ ne_eqb q (page_at g (address_at f 1)) (λ z. far q i j (ap (λ (x : ℕ). x / 8) (z ∙ e))))
     send_spares C.Erase p l far =
         let a = g.field * p in
         let f : List ℕ = 0x50 ∷ a / 65536 % 256 ∷ a / 256 % 256 ∷ a % 256 ∷ [] in
-        let e = named_by 0x50 p l in
+        let e = named 0x50 p l in
         starts_on r f _ (page_at g (address_at f 1)) (EraseBlock (page_at g (address_at f 1) / 8)) (decode_erase (a / 65536 % 256) (a / 256 % 256) (a % 256) []) refl
         (λ q i j. writes-block g q (page_at g (address_at f 1) / 8) ∙ ne_eqb (q / 8) (page_at g (address_at f 1) / 8) (λ z. far q i j (z ∙ ap (λ (x : ℕ). x / 8) e)))
-    send_spares C.Rewrite p l far =
-        let a = g.field * p in
-        let f : List ℕ = 0x58 ∷ a / 65536 % 256 ∷ a / 256 % 256 ∷ a % 256 ∷ [] in
-        let e = named_by 0x58 p l in
-        starts_on r f _ (page_at g (address_at f 1)) (Rewrite One (page_at g (address_at f 1))) (decode_rewrite (a / 65536 % 256) (a / 256 % 256) (a % 256) []) refl
-        (λ q i j. writes_rewrite g q One (page_at g (address_at f 1)) ∙ ne_eqb q (page_at g (address_at f 1)) (λ z. far q i j (ap (λ (x : ℕ). x / 8) (z ∙ e))))
     send_spares C.Compare p l far =
         let a = g.field * p in
         let f : List ℕ = 0x60 ∷ a / 65536 % 256 ∷ a / 256 % 256 ∷ a % 256 ∷ [] in
@@ -192,28 +200,28 @@ module _ (g : Geometry) (first end : ℕ) where
     still_spares Protection o e = still r (frame_of g k h Protection) (protection-registers g r k h)
     still_spares Lockdown o e = still r (frame_of g k h Lockdown) (lockdown-registers g r k h)
     still_spares (Read p) o e = still r (frame_of g k h (Read p)) (read_keeps g r k h p)
-    still_spares (Load p) o e = still r (frame_of g k h (Load p)) (load-registers g r k p h)
+    still_spares (Load p) o e = still r (frame_of g k h (Load p)) (load_registers g r k p h)
     still_spares (Send c p) o e = never e
     still_spares End o e = never (sym o)
 
-    step-spares : (K : Kind) (unit : ℕ) → unit < units_of K g → ((q : ℕ) → first ≤ q → q < end → owns K g unit q ≡ true → ⊥) → (x : Step) → is_end x ≡ false → named (run_by K g unit) x ≡ true
+    step-spares : (slot : ℕ) → 8 * slot + 8 ≤ g.pages → ((q : ℕ) → first ≤ q → q < end → q / 8 ≡ slot → ⊥) → (x : Step) → is_end x ≡ false → in_slot slot x ≡ true
         → Spares g first end (started_by g r (frame_of g k h x))
-    unfolding named is_still is_end
-    step-spares K unit l far (Wait c) o e = still_spares (Wait c) refl refl
-    step-spares K unit l far Protection o e = still_spares Protection refl refl
-    step-spares K unit l far Lockdown o e = still_spares Lockdown refl refl
-    step-spares K unit l far (Read p) o e = still_spares (Read p) refl refl
-    step-spares K unit l far (Load p) o e = still_spares (Load p) refl refl
-    step-spares K unit l far (Send c p) o e =
-        let z = sized n g part in
-        send_spares c p (run_inside g n z K unit p l e).0 (λ q i j y. far q i j (owns-run g n z K unit p q l e y))
-    step-spares K unit l far End o e = never (sym o)
+    unfolding in_slot is_still is_end
+    step-spares slot fits far (Wait c) o e = still_spares (Wait c) refl refl
+    step-spares slot fits far Protection o e = still_spares Protection refl refl
+    step-spares slot fits far Lockdown o e = still_spares Lockdown refl refl
+    step-spares slot fits far (Read p) o e = still_spares (Read p) refl refl
+    step-spares slot fits far (Load p) o e = still_spares (Load p) refl refl
+    step-spares slot fits far (Send c p) o e =
+        let z : p / 8 ≡ slot = eqb-true (p / 8) slot e in
+        send_spares c p (omega (arith, z)) (λ q i j y. far q i j (y ∙ z))
+    step-spares slot fits far End o e = never (sym o)
 
 -- ---- calls
 
--- a get, or a call on a slot or sector that the pages do not touch
-abbrev pub Apart : Geometry → ℕ → ℕ → Asked → Type 0
-Apart g first end a = (a.kind ≡ Get) ⊎ ((q : ℕ) → first ≤ q → q < end → owns a.kind g a.unit q ≡ true → ⊥)
+-- a get, or a call on a slot that the pages do not touch
+abbrev pub Apart : ℕ → ℕ → Asked → Type 0
+Apart first end a = (a.kind ≡ Get) ⊎ ((q : ℕ) → first ≤ q → q < end → q / 8 ≡ a.slot → ⊥)
 
 -- a call that has ended sends nothing
 ended_quiet : (first end n : ℕ) (g : Geometry) (v : Request) (p : Open) (q : Closed) → is_ended p.course.stage ≡ true → QuietFrames first end n g v p q
@@ -225,17 +233,17 @@ ended_quiet first end (suc n) g v p q e = (
 
 module _ (g : Geometry) (first end : ℕ) (v : Request) (x : Secret) (s : State) where
   -- what any step of the call starts
-  any_step : (n : ℕ) → part_of n ≡ Known g → v.asked.unit < units_of v.asked.kind g → Apart g first end v.asked → (i : ℕ) (r : Registers) (h : Holding)
+  any_step : (n : ℕ) → part_of n ≡ Known g → 8 * v.asked.slot + 8 ≤ g.pages → Apart first end v.asked → (i : ℕ) (r : Registers) (h : Holding)
       → is_end (step_at (plan_of g v.asked) i) ≡ false → Spares g first end (started_by g r (frame_of g v.asked.kind h (step_at (plan_of g v.asked) i)))
-  unfolding named is_still
+  unfolding in_slot is_still
   any_step n part fits (inl e) i r h o =
       still_spares g first end n part r v.asked.kind h (step_at (plan_of g v.asked) i) o
-      (step-every is_still (plan_of g v.asked) i refl (ap (λ (k : Kind). every is_still (plan_by k g v.asked.unit)) e ∙ get_still g v.asked.unit))
+      (step-every is_still (plan_of g v.asked) i refl (ap (λ (k : Kind). every is_still (plan_by k g v.asked.slot)) e ∙ get_still g v.asked.slot))
   any_step n part fits (inr far) i r h o =
-      step-spares g first end n part r v.asked.kind h v.asked.kind v.asked.unit fits far (step_at (plan_of g v.asked) i) o
-      (step-every (named (run_by v.asked.kind g v.asked.unit)) (plan_of g v.asked) i refl (plan_named v.asked.kind g v.asked.unit))
+      step-spares g first end n part r v.asked.kind h v.asked.slot fits far (step_at (plan_of g v.asked) i) o
+      (step-every (in_slot v.asked.slot) (plan_of g v.asked) i refl (plan_in v.asked.kind g v.asked.slot))
 
-  frames_quiet : (k : ℕ) → part_of k ≡ Known g → v.asked.unit < units_of v.asked.kind g → Apart g first end v.asked → (n : ℕ) (p : Open) (q : Closed)
+  frames_quiet : (k : ℕ) → part_of k ≡ Known g → 8 * v.asked.slot + 8 ≤ g.pages → Apart first end v.asked → (n : ℕ) (p : Open) (q : Closed)
       → Ok (plan_of g v.asked) v.asked.limit n p.course → QuietFrames first end n g v p q
   frames_quiet k part fits far zero p q w = tt
   frames_quiet k part fits far (suc n) p q w = (
@@ -243,7 +251,7 @@ module _ (g : Geometry) (first end : ℕ) (v : Request) (x : Secret) (s : State)
     frames_quiet k part fits far n (step_open g v p q) (step_closed g v p q) (step_ok g v p q n w),
   )
 
-  pub call_quiet : part_in s ≡ Known g → Apart g first end v.asked → QuietCall first end g v x s
+  pub call_quiet : part_in s ≡ Known g → Apart first end v.asked → QuietCall first end g v x s
   unfolding start_open
   call_quiet k far = go (eqb (number_of (refusal_of g n v)) 0) refl
     where
@@ -252,13 +260,13 @@ module _ (g : Geometry) (first end : ℕ) (v : Request) (x : Secret) (s : State)
 
       go : (b : Bool) → eqb (number_of (refusal_of g n v)) 0 ≡ b → QuietCall first end g v x s
       go true e =
-          frames_quiet n (placed_known n s.registers.operation g k).0 (accepted g n v e).asked.unit far (bound g v.asked) (start_open g n v s.registers) (start_closed x s.memory) (begin_ok g n v e)
+          frames_quiet n (placed_known n s.registers.operation g k).0 (accepted g n v e).asked.fits far (bound g v.asked) (start_open g n v s.registers) (start_closed x s.memory) (begin_ok g n v e)
       go false e = ended_quiet first end (bound g v.asked) g v (start_open g n v s.registers) (start_closed x s.memory) (start-ended g n v e)
 
--- NOTHING ELSE IS TOUCHED: in any state and under any script, a call leaves every page outside its slot, of a refresh its sector, that the operation under way
--- before it was not writing; and a get leaves those of its slot too
+-- NOTHING ELSE IS TOUCHED: in any state and under any script, a call leaves every page outside its slot that the operation under way before it was not
+-- writing; and a get leaves those of its slot too
 pub call-spares : (a : Asked) (detail : Detail) (sc payload junk lg lent : List ℕ) (s : State) (g : Geometry) (p : ℕ) → part_in s ≡ Known g → p < g.pages
-    → (a.kind ≡ Get) ⊎ (owns a.kind g a.unit p ≡ true → ⊥) → writes g s.registers.operation p ≡ false
+    → (a.kind ≡ Get) ⊎ (p / 8 ≡ a.slot → ⊥) → writes g s.registers.operation p ≡ false
     → page_of g p (next_of (call a detail sc payload junk lg lent) s).memory.array ≡ page_of g p s.memory.array
 call-spares a detail sc payload junk lg lent s g p k l far w =
     (op_kept g p (suc p) (λ q. page_of g q s.memory.array) (call a detail sc payload junk lg lent) s
@@ -267,16 +275,15 @@ call-spares a detail sc payload junk lg lent s g p k l far w =
     (call_quiet g p (suc p) (asks g a detail sc payload junk lg lent) (secret payload detail junk lent) s k (apart far)))
     ).bytes p (omega arith) (omega arith)
   where
-    apart : (a.kind ≡ Get) ⊎ (owns a.kind g a.unit p ≡ true → ⊥) → Apart g p (suc p) a
+    apart : (a.kind ≡ Get) ⊎ (p / 8 ≡ a.slot → ⊥) → Apart p (suc p) a
     apart (inl e) = inl e
-    apart (inr f) = inr (λ q i j e. let z : q ≡ p = omega arith in f (ap (owns a.kind g a.unit) (sym z) ∙ e))
+    apart (inr f) = inr (λ q i j e. let z : q ≡ p = omega arith in f (ap (λ (x : ℕ). x / 8) (sym z) ∙ e))
 
 -- ---- lists
 
--- gets of any slot, puts, patches and wipes of other slots, refreshes of sectors that on no part have the slot, pin moves, busy ends and cuts
+-- gets of any slot, puts, patches and wipes of other slots, pin moves, busy ends and cuts
 pub data Elsewhere (slot : ℕ) : Op → Type 0 where
-  calls : (a : Asked) (detail : Detail) (sc payload junk lg lent : List ℕ) → (a.kind ≡ Get) ⊎ ((g : Geometry) → owns a.kind g a.unit (8 * slot) ≡ true → ⊥)
-      → Elsewhere slot (call a detail sc payload junk lg lent)
+  calls : (a : Asked) (detail : Detail) (sc payload junk lg lent : List ℕ) → (a.kind ≡ Get) ⊎ (a.slot ≡ slot → ⊥) → Elsewhere slot (call a detail sc payload junk lg lent)
   pins : (high : Bool) → Elsewhere slot (pin high)
   ends : Elsewhere slot busy_end
   cuts : (junk : List ℕ) → Elsewhere slot (cut junk)
@@ -290,18 +297,16 @@ op_quiet slot o s Unknown k u = tt
 op_quiet slot o s (Known g) k (calls a detail sc payload junk lg lent far) =
     call_quiet g (8 * slot) (8 * slot + 8) (asks g a detail sc payload junk lg lent) (secret payload detail junk lent) s k (apart far)
   where
-    apart : (a.kind ≡ Get) ⊎ ((g : Geometry) → owns a.kind g a.unit (8 * slot) ≡ true → ⊥) → Apart g (8 * slot) (8 * slot + 8) a
+    apart : (a.kind ≡ Get) ⊎ (a.slot ≡ slot → ⊥) → Apart (8 * slot) (8 * slot + 8) a
     apart (inl e) = inl e
-    apart (inr f) =
-        let n = length s.memory.array in
-        inr (λ q i j e. f g (sym (owns-block g n (placed_sized n s.registers.operation g k) a.kind a.unit q (8 * slot) (omega arith)) ∙ e))
+    apart (inr f) = inr (λ q i j e. f (omega (arith, e)))
 op_quiet slot o s (Known g) k (pins high) = tt
 op_quiet slot o s (Known g) k ends = tt
 op_quiet slot o s (Known g) k (cuts junk) = tt
 
 pub elsewhere_quiet : (slot : ℕ) (os : List Op) (s : State) → AllElsewhere slot os → QuietIn slot os s
 elsewhere_quiet slot [] s u = tt
-elsewhere_quiet slot (o ∷ os) s u = (inl (op_quiet slot o s (part_in s) refl u.0), elsewhere_quiet slot os (next_of o s) u.1)
+elsewhere_quiet slot (o ∷ os) s u = (op_quiet slot o s (part_in s) refl u.0, elsewhere_quiet slot os (next_of o s) u.1)
 
 -- DEMAND 2, as a caller meets it
 pub read_back_elsewhere : (slot limit : ℕ) (term : Term) (script recipe junk log : List ℕ) (s : State) → Whole (chip_in s)

@@ -139,4 +139,4 @@ pub stops_exactly : (g : Geometry) (v : Request) (x : Secret) (s : State) (ok : 
     → StopsAt (exchanges g v x s) (frames_as_planned g v x s ok).result
 stops_exactly g v x s ok =
     let z = frames_as_planned g v x s ok in
-    off (exchanges g v x s) z.result (follows-some g v.asked z.follows (first_some v.asked.kind g v.asked.unit)) (follows-after g v.asked z.follows)
+    off (exchanges g v x s) z.result (follows-some g v.asked z.follows (first_some v.asked.kind g v.asked.slot)) (follows-after g v.asked z.follows)

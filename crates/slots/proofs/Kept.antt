@@ -23,7 +23,6 @@ use Rattle.control.specs.Completion.{completed}
 use Rattle.control.specs.PowerLoss.{reaching, lost}
 use Rattle.control.proofs.Rows.{busy_keeps}
 use Rattle.control.proofs.Ends.{completed-operation, lost-operation}
-use Rattle.state.specs.declared.Answer.{Answer}
 use Rattle.state.specs.Answers.{number_of}
 use Rattle.state.specs.Memory.{Memory, State}
 use Rattle.state.specs.Frames.{is_idle, sent_memory}
@@ -34,10 +33,10 @@ use Rattle.state.proofs.Status.{is_idle_lem}
 use Rattle.state.proofs.Lengths.{sent-array, completed-array-length, lost-array-length}
 use Rattle.state.proofs.Keeps.{completed_page, lost_page}
 use Rattle.state.proofs.Placed.{control-placed, completed-placed, lost-placed}
-use Rattle.slots.specs.Plans.{Asked, bound}
+use Rattle.slots.specs.Plans.{bound}
 use Rattle.slots.specs.Driver.{is_ended}
 use Rattle.slots.specs.Refusals.{raw_refusal}
-use Rattle.slots.specs.Calls.{Request, Secret, Open, Closed, outline, scripted, registers_after, memory_after, state_after, sends, leaves, replies, hears, open_after, closed_after, step_open, step_closed, run, start_open, start_closed, ran, reached, answer_at, cut_last, is_refreshed, refreshed, call_next, raw_next}
+use Rattle.slots.specs.Calls.{Request, Secret, Open, Closed, outline, scripted, registers_after, memory_after, state_after, sends, leaves, replies, hears, open_after, closed_after, step_open, step_closed, run, start_open, start_closed, ran, reached, call_next, raw_next}
 use Rattle.slots.specs.Lists.{Op, call, raw, straight, pin, busy_end, cut, asks, secret, called_by, raw_left, next_of, left_by}
 use Rattle.slots.specs.Quiet.{Spares, Kept, started_by, QuietFrames, QuietCall, QuietBy, Quiet}
 use Rattle.slots.proofs.Parts.{cases, next_at, next_at_lem}
@@ -138,22 +137,11 @@ module _ (g : Geometry) (first end : ℕ) (b : ℕ → List ℕ) where
   unfolding cut_state
   cut-state-kept junk s u = cut-kept u (reaching g s.registers.operation junk) junk
 
-  last-kept : (v : Request) (x : Secret) (s : State) → KeptIn s → QuietCall first end g v x s → KeptIn (cut_last g v x s)
-  unfolding cut_last ran start_open start_closed
-  last-kept v x s u w =
+  pub call_kept : (v : Request) (x : Secret) (s : State) → KeptIn s → QuietCall first end g v x s → KeptIn (call_next g v x s)
+  unfolding call_next ran start_open start_closed
+  call_kept v x s u w =
       let k = run-kept (bound g v.asked) v (start_open g (length s.memory.array) v s.registers) (start_closed x s.memory) u w in
       cases KeptIn (ran g v x s).0.cut (cut-state-kept x.junk (reached (ran g v x s)) k) k
-
-  -- a counter is nothing to them
-  pub refreshed-kept : (a : Asked) (n : Answer) (r : Registers) (m : Memory) → Kept g first end b r m → Kept g first end b (refreshed a n r) m
-  unfolding refreshed
-  refreshed-kept a n r m u =
-      cases (λ (t : Registers). Kept g first end b t m) (is_refreshed a.kind n) (record { part = u.part; fits = u.fits; spares = u.spares; bytes = u.bytes }) u
-
-  pub call_kept : (v : Request) (x : Secret) (s : State) → KeptIn s → QuietCall first end g v x s → KeptIn (call_next g v x s)
-  unfolding call_next
-  call_kept v x s u w =
-      refreshed-kept v.asked (answer_at (ran g v x s)) (cut_last g v x s).registers (cut_last g v x s).memory (last-kept v x s u w)
 
   sent-kept : (f : List ℕ) (s : State) → KeptIn s → Spares g first end (started_by g s.registers f) → KeptIn (sent_state g f s)
   unfolding sent_state
@@ -179,3 +167,8 @@ module _ (g : Geometry) (first end : ℕ) (b : ℕ → List ℕ) where
   op_kept o s u w =
       subst KeptIn (sym (next_at_lem o s))
       (subst (λ (p : Part). KeptIn (next_at p o s)) (sym u.part) (at_kept o s u (subst (λ (p : Part). QuietBy first end p o s) u.part w)))
+
+  pub list_kept : (os : List Op) (s : State) → KeptIn s → Quiet first end os s → KeptIn (left_by os s)
+  unfolding left_by
+  list_kept [] s u w = u
+  list_kept (o ∷ os) s u w = list_kept os (next_of o s) (op_kept o s u w.0) w.1

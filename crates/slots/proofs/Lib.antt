@@ -2,7 +2,6 @@ pub mod Parts
 pub mod Steady
 pub mod Places
 pub mod Accepted
-pub mod Named
 pub mod Counts
 pub mod Bound
 pub mod Blind
@@ -10,15 +9,12 @@ pub mod Refused
 pub mod Driven
 pub mod Planned
 pub mod Sent
-pub mod Worn
 pub mod Exactly
 pub mod Listed
 pub mod Verdicts
 pub mod Miscompare
 pub mod Kept
-pub mod Done
 pub mod Track
-pub mod Refreshes
 pub mod Stores
 pub mod Written
 pub mod Image
@@ -30,4 +26,3 @@ pub mod Leaves
 pub mod Never
 pub mod TwoRuns
 pub mod SameJunk
-pub mod Tallied

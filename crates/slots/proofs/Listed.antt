@@ -1,27 +1,21 @@
 -- With an empty script, on an idle and awake chip, a call sends its plan step by step, each wait one D7: every frame leaves the registers
--- as they were once its busy end has come, but for the tally, so each status tells ready, and the sector's bits are the registers'.
+-- as they were once its busy end has come, so each status tells ready, and the sector's bits are the registers'.
 -- Assumes nothing.
 use Prim.Native.Nat.{ℕ, zero, suc, ◌+◌, ◌/◌, ◌%◌, ◌<◌}
-use borrow.Author.Tests.{eqb-true, ltb-true, lt-ltb}
+use borrow.Author.Tests.{eqb-true}
 use native.Mathlib.Omega.{arith}
 use mathlib.Core.Path.{◌≡◌, refl, sym, ap, subst, ◌∙◌}
-use mathlib.Core.Bool.{Bool, true, false, cond, not, ◌&&◌, ◌||◌}
+use mathlib.Core.Bool.{Bool, true, false, cond, ◌&&◌, ◌||◌}
 use mathlib.Core.List.{List, [], ◌∷◌, ◌++◌}
 use lib.ListN.{length, get_or}
-use lib.Dec.{eqb, ltb, lit<, lit≤}
+use lib.Dec.{eqb, lit<, lit≤}
 use Rattle.slices.specs.Lists.{tabulate}
 use Rattle.slices.proofs.Laws.{length-tabulate, tabulate-same, tabulate-get_or}
 use Rattle.geometry.specs.declared.Geometry.{Geometry}
 use Rattle.geometry.specs.declared.Part.TheVariants.{Known}
-use Rattle.geometry.specs.Parts.{part_of, Sized}
-use Rattle.geometry.specs.Sectors.{sector_of}
-use Rattle.geometry.proofs.Pages.{sized}
-use Rattle.geometry.proofs.Runs.{pages-run}
 use Rattle.registers.specs.declared.Registers.{Registers}
-use Rattle.registers.specs.declared.Tally.{Tally}
-use Rattle.registers.specs.Fields.{with_tally}
 use Rattle.registers.specs.Protection.{Roomed, has_bits, guarded, sealed}
-use Rattle.registers.proofs.Places.{placed_known, placed_sized}
+use Rattle.registers.proofs.Places.{placed_sized}
 use Rattle.control.specs.Control.{control}
 use Rattle.control.specs.Completion.{completed}
 use Rattle.control.specs.Starts.{Ready, Lengths}
@@ -35,22 +29,20 @@ use Rattle.state.proofs.Status.{is_idle_lem}
 use Rattle.state.proofs.Replies.{status-byte, protection-byte, lockdown-byte}
 use Rattle.state.specs.declared.Answer.TheVariants as Answers
 use Rattle.slots.specs.declared.Kind.{Kind}
-use Rattle.slots.specs.declared.Kind.TheVariants.{Put, Patch, Get, Wipe, Refresh}
-use Rattle.slots.specs.declared.Stage.TheVariants.{Going, Ended}
+use Rattle.slots.specs.declared.Kind.TheVariants.{Put, Patch, Get, Wipe}
+use Rattle.slots.specs.declared.Stage.TheVariants.{Ended}
 use Rattle.slots.specs.declared.Step.{Step}
 use Rattle.slots.specs.declared.Step.TheVariants.{Wait, Protection, Lockdown, Read, Load, Send, End}
-use Rattle.slots.specs.Plans.{Asked, pages, opening, is_asking, page_steps, run_by, units_of, plan_by, plan_of, sector_for, bound, step_at, is_end, is_wait, waits_in}
+use Rattle.slots.specs.Plans.{Asked, pages, opening, is_asking, page_steps, run_by, plan_by, plan_of, sector_for, bound, is_end, is_wait, waits_in}
 use Rattle.slots.specs.Driver.{Heard, Holding, shape_of, frame_byte, loaded, frame_of, status_heard, register_in, taken_by, step_of, is_ended}
-use Rattle.slots.specs.Calls.{Request, Secret, Open, Closed, sends, hears, registers_after, open_after, step_open, step_closed, run, first_course, refusal_of, start_open, start_closed, ran, call_out}
+use Rattle.slots.specs.Calls.{Request, Secret, Open, Closed, sends, registers_after, open_after, step_open, step_closed, run, refusal_of, start_open, start_closed, ran, call_out}
 use Rattle.slots.specs.Lists.{request}
 use Rattle.slots.specs.Exchanges.{Exchange, exchanges_of, exchanges, status_frame, status_in, FoundBusy, lost, foreign, ready, busy, again, Result, finished, answer_for, is_plain, Follows, done, waited, halted, cut, listed, shut, free, plain, OneByOne, Undisturbed, AsListed}
-use Rattle.slots.proofs.Blind.{status-heard, load-registers, filler, protection_form, lockdown_form, protection-registers, lockdown-registers}
-use Rattle.slots.proofs.Places.{never, both, second, every, every_append, every-pages, step-every, plan_proper}
+use Rattle.slots.proofs.Blind.{status-heard, load_registers, filler, protection_form, lockdown_form, protection-registers, lockdown-registers}
+use Rattle.slots.proofs.Places.{never, every, every-pages}
 use Rattle.slots.proofs.Counts.{steps, waits}
-use Rattle.slots.proofs.Accepted.{step-ended, accepted}
-use Rattle.slots.proofs.Bound.{Ok, step_ok, begin_ok, run-over}
-use Rattle.slots.proofs.Named.{every-pages_in, run_inside}
-use Rattle.slots.proofs.Worn.{wear_by, wear_to, wear_all, wear-start, wear-next, course-wear, wear-end}
+use Rattle.slots.proofs.Accepted.{step-ended}
+use Rattle.slots.proofs.Bound.{Ok, step_ok, begin_ok}
 use Rattle.slots.proofs.Sent.{read_keeps, send_returns}
 use Rattle.slots.proofs.Driven.{Ends}
 use Rattle.slots.proofs.Planned.{ended-none, first, open_is, comes, is_free, on_chip}
@@ -59,9 +51,9 @@ use Rattle.slots.specs.declared.Flaws.{Flaws}
 module _ (g : Geometry) (full : Roomed g) (r : Registers) (y : Ready r) (n : Lengths r) where
   -- ---- what the chip's replies tell
 
-  -- an exchange that is not cut, with the reply of a chip that has these registers, whatever its tally
+  -- an exchange that is not cut, with the reply of a chip that has these registers
   abbrev pub Honest : Exchange → Type 0
-  Honest e = (e.byte ≡ 2 → ⊥) × (t : Tally) × (m : Memory) × (e.reply ≡ reply_of g (with_tally r t) m e.frame)
+  Honest e = (e.byte ≡ 2 → ⊥) × (m : Memory) × (e.reply ≡ reply_of g r m e.frame)
 
   abbrev pub AllHonest : List Exchange → Type 0
   AllHonest [] = Unit {0}
@@ -69,10 +61,9 @@ module _ (g : Geometry) (full : Roomed g) (r : Registers) (y : Ready r) (n : Len
 
   status-told : (e : Exchange) → Honest e → e.frame ≡ status_frame → status_heard (status_in e) ≡ record { density = true; ready = true; guarded = guarded r; held = false }
   status-told e u f =
-      let w = with_tally r u.1 in
-      let m = u.2 in
-      ap (λ (l : List ℕ). status_heard (get_or l 1 255)) (u.3 ∙ ap (reply_of g w m) f)
-      ∙ ap status_heard (status-byte g w m (0 ∷ []) 1 255 y.1 (lit≤ tt) (lit< tt))
+      let m = u.1 in
+      ap (λ (l : List ℕ). status_heard (get_or l 1 255)) (u.2 ∙ ap (reply_of g r m) f)
+      ∙ ap status_heard (status-byte g r m (0 ∷ []) 1 255 y.1 (lit≤ tt) (lit< tt))
       ∙ status-heard g (is_idle r.operation) m.compare (guarded r)
       ∙ ap (λ (b : Bool). record { density = true; ready = b; guarded = guarded r; held = false }) (ap is_idle y.0 ∙ is_idle_lem)
 
@@ -82,21 +73,21 @@ module _ (g : Geometry) (full : Roomed g) (r : Registers) (y : Ready r) (n : Len
   register_whole bytes reply l f =
       tabulate-same g.register (λ j. get_or reply (4 + j) 255) (λ j. get_or bytes j 0) f ∙ ap (λ (x : ℕ). tabulate x (λ j. get_or bytes j 0)) (sym l) ∙ tabulate-get_or bytes 0
 
-  protection-told : (t : Tally) (m : Memory) (k : Kind) (h : Holding) → register_in g (reply_of g (with_tally r t) m (frame_of g k h Protection)) ≡ r.protection
-  protection-told u m k h =
+  protection-told : (m : Memory) (k : Kind) (h : Holding) → register_in g (reply_of g r m (frame_of g k h Protection)) ≡ r.protection
+  protection-told m k h =
       let t = filler g k h Protection in
       let long = length-tabulate g.register (λ i. frame_byte (shape_of g Protection) (loaded g k h Protection) (4 + i)) in
-      ap (λ (f : List ℕ). register_in g (reply_of g (with_tally r u) m f)) (protection_form g k h)
+      ap (λ (f : List ℕ). register_in g (reply_of g r m f)) (protection_form g k h)
       ∙ register_whole r.protection _ (n.protection ∙ sym full)
-      (λ j l. protection-byte g (with_tally r u) m 0 0 0 t y j 255 (omega (arith, long)) l (omega (arith, n.protection, full)))
+      (λ j l. protection-byte g r m 0 0 0 t y j 255 (omega (arith, long)) l (omega (arith, n.protection, full)))
 
-  lockdown-told : (t : Tally) (m : Memory) (k : Kind) (h : Holding) → register_in g (reply_of g (with_tally r t) m (frame_of g k h Lockdown)) ≡ r.lockdown
-  lockdown-told u m k h =
+  lockdown-told : (m : Memory) (k : Kind) (h : Holding) → register_in g (reply_of g r m (frame_of g k h Lockdown)) ≡ r.lockdown
+  lockdown-told m k h =
       let t = filler g k h Lockdown in
       let long = length-tabulate g.register (λ i. frame_byte (shape_of g Lockdown) (loaded g k h Lockdown) (4 + i)) in
-      ap (λ (f : List ℕ). register_in g (reply_of g (with_tally r u) m f)) (lockdown_form g k h)
+      ap (λ (f : List ℕ). register_in g (reply_of g r m f)) (lockdown_form g k h)
       ∙ register_whole r.lockdown _ (n.lockdown ∙ sym full)
-      (λ j l. lockdown-byte g (with_tally r u) m 0 0 0 t y j 255 (omega (arith, long)) l (omega (arith, n.lockdown, full)))
+      (λ j l. lockdown-byte g r m 0 0 0 t y j 255 (omega (arith, long)) l (omega (arith, n.lockdown, full)))
 
   module _ (a : Asked) where
     abbrev S : ℕ
@@ -182,101 +173,67 @@ module _ (g : Geometry) (full : Roomed g) (r : Registers) (y : Ready r) (n : Len
     calm (cut z f c) u s = absurd (u.0.0 c)
     calm (listed {xs = xs} {d = d} {h = h} {e = e} f v) u s =
         more {x = Protection} f.0 (omega arith) (calm v u.1 (subst (λ (z : Bool). Sound z d xs) (sym (ap (λ (l : List ℕ). has_bits g l S)
-        (ap (register_in g) (u.0.3 ∙ ap (reply_of g (with_tally r u.0.1) u.0.2) f.0) ∙ protection-told u.0.1 u.0.2 a.kind h))) s))
+        (ap (register_in g) (u.0.2 ∙ ap (reply_of g r u.0.1) f.0) ∙ protection-told u.0.1 a.kind h))) s))
     calm (shut {l = l} {d = d} {h = h} {e = e} f z) u s =
-        never (sym s.0 ∙ ap (λ (q : List ℕ). has_bits g q S || (l && d)) (sym (ap (register_in g) (u.0.3 ∙ ap (reply_of g (with_tally r u.0.1) u.0.2) f.0) ∙ lockdown-told u.0.1 u.0.2 a.kind h)) ∙ z)
+        never (sym s.0 ∙ ap (λ (q : List ℕ). has_bits g q S || (l && d)) (sym (ap (register_in g) (u.0.2 ∙ ap (reply_of g r u.0.1) f.0) ∙ lockdown-told u.0.1 a.kind h)) ∙ z)
     calm (free {e = e} f z v) u s = more {x = Lockdown} f.0 (omega arith) (calm v u.1 s.1)
     calm (plain {k = k} {x = x} {xs = xs} {l = l} {d = d} y f v) u s =
         more {x = x} f.0 (omega arith ∙ ap (λ (b : Bool). cond b 1 0 + k) (sym (plain_wait x y))) (calm v u.1 (plain-sound x xs l d y s))
 
   -- ---- a run with an empty script
 
-  -- a command that is obeyed: it names a page of the part, in a sector that is not sealed
-  unfoldable obeyed : Step → Bool
-  obeyed (Wait c) = true
-  obeyed Protection = true
-  obeyed Lockdown = true
-  obeyed (Read p) = true
-  obeyed (Load p) = true
-  obeyed (Send c p) = ltb p g.pages && not (sealed g r (sector_of g p))
-  obeyed End = true
+  -- once its busy end has come, a step's frame has left the registers
+  returns : (k : Kind) (h : Holding) (x : Step) → is_end x ≡ false → completed g (control g r (frame_of g k h x)).registers ≡ r
+  unfolding shape_of frame_byte tabulate is_end
+  returns k h (Wait c) e = ap (completed g) (status_keeps g r (0 ∷ [])) ∙ completed_idle g r y.0
+  returns k h Protection e = ap (completed g) (protection-registers g r k h) ∙ completed_idle g r y.0
+  returns k h Lockdown e = ap (completed g) (lockdown-registers g r k h) ∙ completed_idle g r y.0
+  returns k h (Read p) e = ap (completed g) (read_keeps g r k h p) ∙ completed_idle g r y.0
+  returns k h (Load p) e = ap (completed g) (load_registers g r k p h) ∙ completed_idle g r y.0
+  returns k h (Send c p) e = send_returns g r k h p y c
+  returns k h End e = never (sym e)
 
-  module _ (size : ℕ) (part : part_of size ≡ Known g) where
-    -- once its busy end has come, a step's frame has left the registers, but for what it counts
-    returns : (t : Tally) (k : Kind) (h : Holding) (x : Step) → is_end x ≡ false → obeyed x ≡ true
-        → completed g (control g (with_tally r t) (frame_of g k h x)).registers ≡ with_tally r (wear_by g x t)
-    unfolding shape_of frame_byte tabulate is_end obeyed wear_by sealed
-    returns t k h (Wait c) e o = ap (completed g) (status_keeps g (with_tally r t) (0 ∷ [])) ∙ completed_idle g (with_tally r t) y.0
-    returns t k h Protection e o = ap (completed g) (protection-registers g (with_tally r t) k h) ∙ completed_idle g (with_tally r t) y.0
-    returns t k h Lockdown e o = ap (completed g) (lockdown-registers g (with_tally r t) k h) ∙ completed_idle g (with_tally r t) y.0
-    returns t k h (Read p) e o = ap (completed g) (read_keeps g (with_tally r t) k h p) ∙ completed_idle g (with_tally r t) y.0
-    returns t k h (Load p) e o = ap (completed g) (load-registers g (with_tally r t) k p h) ∙ completed_idle g (with_tally r t) y.0
-    returns t k h (Send c p) e o =
-        send_returns g (with_tally r t) k h p y size c part (sized size g part) (ltb-true p g.pages (both (ltb p g.pages) (not (sealed g r (sector_of g p))) o))
-        (not-true (sealed g r (sector_of g p)) (second (ltb p g.pages) (not (sealed g r (sector_of g p))) o))
+  module _ (a : Asked) (log junk : ℕ) (flaws : Flaws) where
+    abbrev v : Request
+    v = request a [] log junk flaws
+
+    -- one step leaves the registers, and is no cut
+    step_returns : (n : ℕ) (p : Open) (q : Closed) → is_ended p.course.stage ≡ false → is_end (step_of g a p.course) ≡ false → p.registers ≡ r
+        → ((step_open g v p q).registers ≡ r) × ((step_open g v p q).cut ≡ false)
+    unfolding open_after registers_after
+    step_returns n p q z o e = (
+      ap (λ (t : Open). t.registers) (open_is g v n p q z) ∙ ap (λ (t : Registers). completed g (control g t (sends g v p q)).registers) e ∙ returns a.kind q.holding (step_of g a p.course) o,
+      ap (λ (t : Open). t.cut) (open_is g v n p q z),
+    )
+
+    honest_run : (n : ℕ) (p : Open) (q : Closed) → Ok (plan_of g a) a.limit n p.course → p.registers ≡ r → AllHonest (exchanges_of n g v p q)
+    unfolding exchanges_of
+    honest_run zero p q w e = tt
+    honest_run (suc n) p q w e =
+        go (is_ended p.course.stage) refl (λ u. honest_run n (step_open g v p q) (step_closed g v p q) (step_ok g v p q n w) u)
       where
-        not-true : (b : Bool) → not b ≡ true → b ≡ false
-        not-true true e = never e
-        not-true false e = refl
-    returns t k h End e o = never (sym e)
+        go : (b : Bool) → is_ended p.course.stage ≡ b → ((step_open g v p q).registers ≡ r → AllHonest (exchanges_of n g v (step_open g v p q) (step_closed g v p q)))
+            → AllHonest (exchanges_of (suc n) g v p q)
+        go true z f = subst AllHonest (sym (ended-none g v (suc n) p q z)) tt
+        go false z f =
+            subst AllHonest (sym (first g v n p q z)) (
+              ((λ y. absurd (omega (arith, y))), q.memory, ap (λ (t : Registers). reply_of g t q.memory (sends g v p q)) e),
+              f (step_returns n p q z (w.step z) e).0,
+            )
 
-    module _ (a : Asked) (log junk : ℕ) (flaws : Flaws) (law : every obeyed (plan_of g a) ≡ true) where
-      abbrev v : Request
-      v = request a [] log junk flaws
-
-      -- the registers at a place in the plan
-      abbrev Worn : Open → Type 0
-      Worn p = p.registers ≡ with_tally r (wear_to g (plan_of g a) p.course.place r.tally)
-
-      -- one step leaves the registers so, and is no cut
-      step-returns : (n : ℕ) (p : Open) (q : Closed) → is_ended p.course.stage ≡ false → is_end (step_of g a p.course) ≡ false → Worn p
-          → Worn (step_open g v p q) × ((step_open g v p q).cut ≡ false)
-      unfolding open_after registers_after obeyed
-      step-returns n p q z o e =
-          let plan = plan_of g a in
-          let x = step_of g a p.course in
-          let before = wear_to g plan p.course.place r.tally in (
-            ap (λ (t : Open). t.registers) (open_is g v n p q z)
-                ∙ ap (λ (t : Registers). completed g (control g t (sends g v p q)).registers) e
-                ∙ returns before a.kind q.holding x o (step-every obeyed plan p.course.place refl law)
-                ∙ ap (with_tally r) (sym (wear-next g plan p.course.place r.tally))
-                ∙ ap (with_tally r) (sym (course-wear g plan r.tally x (step_at plan (suc p.course.place)) a.limit p.course (hears g v p q) refl))
-                ∙ ap (λ (t : Open). with_tally r (wear_to g plan t.course.place r.tally)) (sym (open_is g v n p q z)),
-            ap (λ (t : Open). t.cut) (open_is g v n p q z),
-          )
-
-      honest_run : (n : ℕ) (p : Open) (q : Closed) → Ok (plan_of g a) a.limit n p.course → Worn p → AllHonest (exchanges_of n g v p q)
-      unfolding exchanges_of
-      honest_run zero p q w e = tt
-      honest_run (suc n) p q w e =
-          go (is_ended p.course.stage) refl (λ u. honest_run n (step_open g v p q) (step_closed g v p q) (step_ok g v p q n w) u)
-        where
-          go : (b : Bool) → is_ended p.course.stage ≡ b → (Worn (step_open g v p q) → AllHonest (exchanges_of n g v (step_open g v p q) (step_closed g v p q)))
-              → AllHonest (exchanges_of (suc n) g v p q)
-          go true z f = subst AllHonest (sym (ended-none g v (suc n) p q z)) tt
-          go false z f =
-              subst AllHonest (sym (first g v n p q z)) (
-                (
-                  (λ y. absurd (omega (arith, y))),
-                  wear_to g (plan_of g a) p.course.place r.tally,
-                  q.memory,
-                  ap (λ (t : Registers). reply_of g t q.memory (sends g v p q)) e,
-                ),
-                f (step-returns n p q z (w.step z) e).0,
-              )
-
-      -- a run leaves the registers so, and is not cut
-      calm_run : (n : ℕ) (p : Open) (q : Closed) → Ok (plan_of g a) a.limit n p.course → Worn p → p.cut ≡ false → Worn (run n g v p q).0 × ((run n g v p q).0.cut ≡ false)
-      unfolding run
-      calm_run zero p q w e c = (e, c)
-      calm_run (suc n) p q w e c =
-          go (is_ended p.course.stage) refl (λ x y. calm_run n (step_open g v p q) (step_closed g v p q) (step_ok g v p q n w) x y)
-        where
-          go : (b : Bool) → is_ended p.course.stage ≡ b
-              → (Worn (step_open g v p q) → (step_open g v p q).cut ≡ false → Worn (run n g v (step_open g v p q) (step_closed g v p q)).0 × ((run n g v (step_open g v p q) (step_closed g v p q)).0.cut ≡ false))
-              → Worn (run n g v (step_open g v p q) (step_closed g v p q)).0 × ((run n g v (step_open g v p q) (step_closed g v p q)).0.cut ≡ false)
-          go true z f = let s = (step-ended g v p q z).0 in f (subst Worn (sym s) e) (ap (λ (t : Open). t.cut) s ∙ c)
-          go false z f = let s = step-returns n p q z (w.step z) e in f s.0 s.1
+    -- a run leaves the registers, and is not cut
+    pub calm_run : (n : ℕ) (p : Open) (q : Closed) → Ok (plan_of g a) a.limit n p.course → p.registers ≡ r → p.cut ≡ false
+        → ((run n g v p q).0.registers ≡ r) × ((run n g v p q).0.cut ≡ false)
+    unfolding run
+    calm_run zero p q w e c = (e, c)
+    calm_run (suc n) p q w e c =
+        go (is_ended p.course.stage) refl (λ x y. calm_run n (step_open g v p q) (step_closed g v p q) (step_ok g v p q n w) x y)
+      where
+        go : (b : Bool) → is_ended p.course.stage ≡ b
+            → ((step_open g v p q).registers ≡ r → (step_open g v p q).cut ≡ false → ((run n g v (step_open g v p q) (step_closed g v p q)).0.registers ≡ r) × ((run n g v (step_open g v p q) (step_closed g v p q)).0.cut ≡ false))
+            → ((run n g v (step_open g v p q) (step_closed g v p q)).0.registers ≡ r) × ((run n g v (step_open g v p q) (step_closed g v p q)).0.cut ≡ false)
+        go true z f = let s = (step-ended g v p q z).0 in f (ap (λ (t : Open). t.registers) s ∙ e) (ap (λ (t : Open). t.cut) s ∙ c)
+        go false z f = let s = step_returns n p q z (w.step z) e in f s.0 s.1
 
 -- ---- the plans
 
@@ -287,7 +244,6 @@ page_free Put p = refl
 page_free Patch p = refl
 page_free Get p = refl
 page_free Wipe p = refl
-page_free Refresh p = refl
 
 module _ (g : Geometry) (full : Roomed g) (a : Asked) (r : Registers) (y : Ready r) (n : Lengths r) where
   plan_sound : (k : Kind) (slot : ℕ) → (is_asking k ≡ true → sealed g r (sector_for g a) ≡ false) → Sound g full r y n a false false (plan_by k g slot)
@@ -304,76 +260,38 @@ module _ (g : Geometry) (full : Roomed g) (a : Asked) (r : Registers) (y : Ready
       go true u = (u refl, sound-free g full r y n a (has_bits g r.protection (sector_for g a)) (guarded r) rest free-rest)
       go false u = sound-free g full r y n a false (guarded r) rest free-rest
 
-  -- its commands are obeyed
-  opening-obeyed : (b : Bool) → every (obeyed g full r y n) (opening b) ≡ true
-  unfolding every obeyed
-  opening-obeyed true = refl
-  opening-obeyed false = refl
-
-  page_obeyed : (k : Kind) (p : ℕ) → (is_asking k ≡ true → (ltb p g.pages && not (sealed g r (sector_of g p))) ≡ true) → every (obeyed g full r y n) (page_steps k p) ≡ true
-  unfolding every obeyed page_steps is_asking
-  page_obeyed Put p h = λ i. h refl i && (h refl i && true)
-  page_obeyed Patch p h = λ i. h refl i && (h refl i && true)
-  page_obeyed Get p h = refl
-  page_obeyed Wipe p h = λ i. h refl i && true
-  page_obeyed Refresh p h = λ i. h refl i && true
-
-  plan_obeyed : (size : ℕ) → Sized g size → a.unit < units_of a.kind g → (is_asking a.kind ≡ true → sealed g r (sector_for g a) ≡ false)
-      → every (obeyed g full r y n) (plan_of g a) ≡ true
-  unfolding plan_by
-  plan_obeyed size z l u =
-      let k = a.kind in
-      let w = run_by k g a.unit in
-      every_append (obeyed g full r y n) (opening (is_asking k)) (pages w.count w.first (page_steps k)) (opening-obeyed (is_asking k))
-      (every-pages_in (obeyed g full r y n) w.count w.first (page_steps k) (λ p b c. page_obeyed k p (λ h.
-      let i = run_inside g size z k a.unit p l (pages-run w p b c) in
-      (λ j. lt-ltb p g.pages i.0 j && not (sealed g r (i.1 j))) ∙ ap not (u h))))
-
 -- ---- a call
 
 -- an accepted call that nothing disturbs comes to its plan's end
 pub record EndsWell (g : Geometry) (a : Asked) (v : Request) (x : Secret) (s : State) : Type 0 where
   pub listed : AsListed g a (start_closed x s.memory).holding (exchanges g v x s) (call_out g v x s)
   pub stage : (ran g v x s).0.course.stage ≡ Ended Answers.Done
-  pub registers : (ran g v x s).0.registers ≡ with_tally s.registers (wear_all g (plan_of g a) s.registers.tally)
+  pub registers : (ran g v x s).0.registers ≡ s.registers
   pub uncut : (ran g v x s).0.cut ≡ false
 
-pub ends_well : (g : Geometry) (a : Asked) (log junk : ℕ) (flaws : Flaws) (x : Secret) (s : State) → part_in s ≡ Known g → Undisturbed g a s.registers
+pub ends_well : (g : Geometry) → Roomed g → (a : Asked) (log junk : ℕ) (flaws : Flaws) (x : Secret) (s : State) → Undisturbed g a s.registers
     → eqb (number_of (refusal_of g (length s.memory.array) (request a [] log junk flaws))) 0 ≡ true → EndsWell g a (request a [] log junk flaws) x s
-unfolding exchanges ran start_open first_course is_ended
-ends_well g a log junk flaws x s known u e =
+unfolding exchanges ran start_open
+ends_well g full a log junk flaws x s u e =
     let v = request a [] log junk flaws in
     let r = s.registers in
-    let size = length s.memory.array in
-    let full = (placed_sized size r.operation g known).short in
-    let part = (placed_known size r.operation g known).0 in
-    let plan = plan_of g a in
     let k = comes g v x s e in
     let w = k.planned in
-    let law = plan_obeyed g full a r u.ready u.lengths size (sized size g part) (accepted g size v e).asked.unit u.unsealed in
-    let begin = begin_ok g size v e in
-    let p = start_open g size v r in
-    let q = start_closed x s.memory in
-    let fresh : p.registers ≡ with_tally r (wear_to g plan 0 r.tally) = ap (with_tally r) (sym (wear-start g plan r.tally)) in
-    let honest = honest_run g full r u.ready u.lengths size part a log junk flaws law (bound g a) p q begin fresh in
-    let z = calm g full r u.ready u.lengths a w.follows honest (plan_sound g full a r u.ready u.lengths a.kind a.unit u.unsealed) in
-    let c = calm_run g full r u.ready u.lengths size part a log junk flaws law (bound g a) p q begin fresh refl in
-    let stage = (subst (λ (t : Result). Ends (on_chip g v) t (ran g v x s)) z.result k.ends).0 in
+    let honest = honest_run g full r u.ready u.lengths a log junk flaws (bound g a) (start_open g (length s.memory.array) v r) (start_closed x s.memory) (begin_ok g (length s.memory.array) v e) refl in
+    let z = calm g full r u.ready u.lengths a w.follows honest (plan_sound g full a r u.ready u.lengths a.kind a.slot u.unsealed) in
+    let c = calm_run g full r u.ready u.lengths a log junk flaws (bound g a) (start_open g (length s.memory.array) v r) (start_closed x s.memory) (begin_ok g (length s.memory.array) v e) refl refl in
     record {
       listed =
           record {
             left = z.left;
             sent = z.sent;
-            frames = w.frames ∙ z.frames ∙ steps a.kind g a.unit;
-            polls = z.polls ∙ waits a.kind g a.unit;
+            frames = w.frames ∙ z.frames ∙ steps a.kind g a.slot;
+            polls = z.polls ∙ waits a.kind g a.slot;
             lines = w.lines;
             answer = w.answer ∙ ap answer_for z.result;
           };
-      stage = stage;
-      registers =
-          c.0
-          ∙ ap (with_tally r) (wear-end g plan (ran g v x s).0.course.place r.tally (plan_proper a.kind g a.unit)
-          (run-over g v (bound g a) p q begin (λ h. never (ap is_ended (sym (ap (λ (b : Bool). cond b Going (Ended (refusal_of g size v))) e)) ∙ ap is_ended h)) stage));
+      stage = (subst (λ (t : Result). Ends (on_chip g v) t (ran g v x s)) z.result k.ends).0;
+      registers = c.0;
       uncut = c.1;
     }
 
@@ -381,4 +299,5 @@ ends_well g a log junk flaws x s known u e =
 pub frames_as_listed : (g : Geometry) (a : Asked) (log junk : ℕ) (flaws : Flaws) (x : Secret) (s : State) → part_in s ≡ Known g → Undisturbed g a s.registers
     → eqb (number_of (refusal_of g (length s.memory.array) (request a [] log junk flaws))) 0 ≡ true
     → AsListed g a (start_closed x s.memory).holding (exchanges g (request a [] log junk flaws) x s) (call_out g (request a [] log junk flaws) x s)
-frames_as_listed g a log junk flaws x s k u e = (ends_well g a log junk flaws x s k u e).listed
+frames_as_listed g a log junk flaws x s k u e =
+    (ends_well g (placed_sized (length s.memory.array) s.registers.operation g k).short a log junk flaws x s u e).listed

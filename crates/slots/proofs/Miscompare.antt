@@ -13,11 +13,10 @@ use borrow.Author.Tests.{eq-eqb, ne_eqb}
 use Rattle.slices.specs.Lists.{tabulate}
 use Rattle.slices.proofs.Laws.{get_or-tabulate}
 use Rattle.geometry.specs.declared.Geometry.{Geometry}
-use Rattle.geometry.specs.Sectors.{sector_run}
 use Rattle.state.specs.declared.Answer.{Answer}
 use Rattle.state.specs.declared.Answer.TheVariants as Answers
 use Rattle.slots.specs.declared.Kind.{Kind}
-use Rattle.slots.specs.declared.Kind.TheVariants.{Put, Patch, Get, Wipe, Refresh}
+use Rattle.slots.specs.declared.Kind.TheVariants.{Put, Patch, Get, Wipe}
 use Rattle.slots.specs.declared.Command.TheVariants as C
 use Rattle.slots.specs.declared.Step.{Step}
 use Rattle.slots.specs.declared.Step.TheVariants.{Wait, Protection, Lockdown, Read, Load, Send, End}
@@ -97,7 +96,6 @@ is_compare (Load p) = false
 is_compare (Send C.Program p) = false
 is_compare (Send C.Erase p) = false
 is_compare (Send C.Compare p) = true
-is_compare (Send C.Rewrite p) = false
 is_compare End = false
 
 -- the opcode of a step but a wait is no D7, and 60 of a compare alone
@@ -111,7 +109,6 @@ codes g (Load p) w e = (refl, refl)
 codes g (Send C.Program p) w e = (refl, refl)
 codes g (Send C.Erase p) w e = (refl, refl)
 codes g (Send C.Compare p) w e = (refl, refl)
-codes g (Send C.Rewrite p) w e = (refl, refl)
 codes g End w e = never (sym e)
 
 -- any step's frame but a poll
@@ -135,23 +132,23 @@ abbrev Untold : Result → List Exchange → Type 0
 Untold (finished h) es = miscompared false es ≡ false
 Untold (stopped n) es = Unit {0}
 
-untold-by : (t : Result) (es fs : List Exchange) → miscompared false es ≡ miscompared false fs → Untold t fs → Untold t es
-untold-by (finished h) es fs e u = e ∙ u
-untold-by (stopped n) es fs e u = tt
+untold_by : (t : Result) (es fs : List Exchange) → miscompared false es ≡ miscompared false fs → Untold t fs → Untold t es
+untold_by (finished h) es fs e u = e ∙ u
+untold_by (stopped n) es fs e u = tt
 
 none_told : {g : Geometry} {a : Asked} {b k : ℕ} {xs : List Step} {l d : Bool} {h : Holding} {es : List Exchange} {t : Result} → Follows g a b xs l d h es k t
     → every (λ x. not (is_compare x)) xs ≡ true → Untold t es
 unfolding miscompared every is_plain is_compare is_wait is_end
 none_told P.done n = refl
-none_told (P.waited {es = es} {fs = fs} {t = t} p f m) n = untold-by t (es ++ fs) fs (polls-scan p false fs) (none_told f n)
+none_told (P.waited {es = es} {fs = fs} {t = t} p f m) n = untold_by t (es ++ fs) fs (polls-scan p false fs) (none_told f n)
 none_told (P.halted p) n = tt
 none_told (P.cut x f c) n = tt
-none_told {g} {a} (P.listed {h = h} {e = e} {es = es} {t = t} f v) n = untold-by t (e ∷ es) es (sent-scan g a h e Protection f refl refl false es) (none_told v n)
+none_told {g} {a} (P.listed {h = h} {e = e} {es = es} {t = t} f v) n = untold_by t (e ∷ es) es (sent-scan g a h e Protection f refl refl false es) (none_told v n)
 none_told (P.Follows.shut f e) n = tt
-none_told {g} {a} (P.free {h = h} {e = e} {es = es} {t = t} f x v) n = untold-by t (e ∷ es) es (sent-scan g a h e Lockdown f refl refl false es) (none_told v n)
+none_told {g} {a} (P.free {h = h} {e = e} {es = es} {t = t} f x v) n = untold_by t (e ∷ es) es (sent-scan g a h e Lockdown f refl refl false es) (none_told v n)
 none_told {g} {a} (P.Follows.plain {x = x} {xs = xs} {h = h} {e = e} {es = es} {t = t} y f v) n =
     let w = plain_no_wait x y in
-    untold-by t (e ∷ es) es (sent-scan g a h e x f w.0 w.1 false es ∙ ap (λ (b : Bool). miscompared b es) (not_is (is_compare x) (both (not (is_compare x)) (every (λ x. not (is_compare x)) xs) n)))
+    untold_by t (e ∷ es) es (sent-scan g a h e x f w.0 w.1 false es ∙ ap (λ (b : Bool). miscompared b es) (not_is (is_compare x) (both (not (is_compare x)) (every (λ x. not (is_compare x)) xs) n)))
     (none_told v (second (not (is_compare x)) (every (λ x. not (is_compare x)) xs) n))
 
 -- ---- plans
@@ -177,11 +174,6 @@ get_neat : (n j : ℕ) → Neat Get false false (pages n j (page_steps Get))
 unfolding pages page_steps
 get_neat zero j = tt
 get_neat (suc n) j = ((λ e. never e), get_neat n (suc j))
-
-refresh_neat : (n j : ℕ) → Neat Refresh false false (pages n j (page_steps Refresh))
-unfolding pages page_steps is_compare
-refresh_neat zero j = tt
-refresh_neat (suc n) j = (refl, (λ e. never e), refresh_neat n (suc j))
 
 later : (slot p : ℕ) → suc (8 * slot) ≤ p → p < suc (8 * slot) + 7 → eqb (p % 8) 0 ≡ false
 later slot p l u = ne_eqb (p % 8) 0 (λ e. absurd (omega (arith, l, u, e)))
@@ -219,7 +211,6 @@ plan_neat Patch g slot = (
 )
 plan_neat Get g slot = (refl, (λ e. never e), get_neat 8 (8 * slot))
 plan_neat Wipe g slot = (refl, (λ e. never e), (refl, (λ e. never e), tt))
-plan_neat Refresh g sector = (refl, (λ e. never e), refresh_neat (sector_run g sector).count (sector_run g sector).first)
 
 -- ---- the verdict
 
@@ -270,7 +261,6 @@ told-judged g Get h bytes =
     cases (Told Get false) (is_record g bytes) {x = cond (is_within (period_in bytes) h.aim.today) Good Outside} {y = Blank}
     (cases (Told Get false) (is_within (period_in bytes) h.aim.today) {x = Good} {y = Outside} refl (refl, refl)) tt
 told-judged g Wipe h bytes = refl
-told-judged g Refresh h bytes = refl
 
 told_read : (g : Geometry) (k : Kind) (p : ℕ) (h : Holding) (bytes : List ℕ) (made w : Bool) → (made ≡ true → eqb (p % 8) 0 ≡ false) → (w ≡ true → made ≡ true) → Told k w h.verdict
     → Told k w (read_in g k p h bytes).verdict
@@ -342,7 +332,7 @@ module _ (g : Geometry) (a : Asked) where
   pub miscompares_exactly : {b k : ℕ} {l d : Bool} {h : Holding} {es : List Exchange} {t : Result} → Follows g a b (plan_of g a) l d h es k t → h.verdict ≡ Good
       → MiscompareExactly es (answer_for t)
   miscompares_exactly {h = h} {es = es} {t = t} f e =
-      go t (follows_before f) (tells f false false false (plan_neat K g a.unit) (λ x. never x) (subst (Told K false) (sym e) refl))
+      go t (follows_before f) (tells f false false false (plan_neat K g a.slot) (λ x. never x) (subst (Told K false) (sym e) refl))
     where
       go : (t : Result) → BeforeResult t → Tells K t (miscompared false es) → MiscompareExactly es (answer_for t)
       go (finished h) b u = answered es h.verdict u
@@ -355,7 +345,7 @@ module _ (g : Geometry) (a : Asked) where
   get_never {es = es} {t = t} e f v x = go t (follows_before f) (none_told f plain-get) (miscompares_exactly f v) x
     where
       plain-get : every (λ x. not (is_compare x)) (plan_of g a) ≡ true
-      plain-get = ap (λ (k : Kind). every (λ x. not (is_compare x)) (plan_by k g a.unit)) e ∙ every_plan (λ x. not (is_compare x)) Get g a.unit refl (λ p. refl)
+      plain-get = ap (λ (k : Kind). every (λ x. not (is_compare x)) (plan_by k g a.slot)) e ∙ every_plan (λ x. not (is_compare x)) Get g a.slot refl (λ p. refl)
 
       go : (t : Result) → BeforeResult t → Untold t es → MiscompareExactly es (answer_for t) → answer_for t ≡ Answers.Miscompare → ⊥
       go (finished h) b u m x = never (sym u ∙ m.only x)

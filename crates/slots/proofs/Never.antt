@@ -1,7 +1,7 @@
 -- NEVER 16: over the chip as modelled no call answers it. Where a call compares a page it has loaded, programmed and waited for it before (`Stores`), so that the
 -- 60 finds page and buffer alike; and no other call compares.
 -- Assumes nothing.
-use Prim.Native.Nat.{ℕ, ◌+◌, ◌*◌, ◌≤◌, ◌<◌, ◌/◌}
+use Prim.Native.Nat.{ℕ, ◌+◌, ◌*◌, ◌≤◌, ◌<◌}
 use native.Mathlib.Omega.{arith}
 use mathlib.Core.Path.{◌≡◌, refl, sym, ap, subst, ◌∙◌}
 use mathlib.Core.Bool.{Bool, true, false, cond}
@@ -24,11 +24,11 @@ use Rattle.state.specs.Whole.{Whole}
 use Rattle.state.proofs.Lengths.{completed-array-length}
 use Rattle.slots.specs.declared.Detail.{Detail}
 use Rattle.slots.specs.declared.Kind.{Kind}
-use Rattle.slots.specs.declared.Kind.TheVariants.{Put, Patch, Get, Wipe, Refresh}
+use Rattle.slots.specs.declared.Kind.TheVariants.{Put, Patch, Get, Wipe}
 use Rattle.slots.specs.declared.Stage.TheVariants.{Ended}
 use Rattle.slots.specs.declared.Verdict.{Verdict}
 use Rattle.slots.specs.declared.Verdict.TheVariants.{Good, Blank, Beyond}
-use Rattle.slots.specs.Plans.{plan_by, units_of}
+use Rattle.slots.specs.Plans.{plan_by}
 use Rattle.slots.specs.Records.{is_record, length_in, patch_verdict}
 use Rattle.slots.specs.Details.{period_of, aim_of}
 use Rattle.slots.specs.Driver.{Holding, verdict_answer}
@@ -41,8 +41,7 @@ use Rattle.slots.specs.Quiet as Q
 use Rattle.slots.specs.Leaves.{slot_byte}
 use Rattle.slots.proofs.Parts.{cases, out_at, out_at_lem}
 use Rattle.slots.proofs.Places.{never}
-use Rattle.slots.proofs.Accepted.{accepted, slot-fits}
-use Rattle.slots.proofs.Refreshes.{refresh-verdict}
+use Rattle.slots.proofs.Accepted.{accepted}
 use Rattle.slots.proofs.Refused.{refused-call}
 use Rattle.slots.proofs.Driven.{Ends}
 use Rattle.slots.proofs.Planned.{on_chip, Came, comes}
@@ -75,7 +74,7 @@ refuses_other a Q.busy = by_number Answers.Busy refl
 refuses_other a Q.lost = by_number Answers.Cut refl
 refuses_other a Q.dates = by_number Answers.Dates refl
 
--- ---- put, patch, get, wipe, refresh
+-- ---- put, patch, get, wipe
 
 module _ (g : Geometry) (slot limit : ℕ) (detail : Detail) (script payload junk log lent : List ℕ) (s : State) (whole : Whole (chip_in s)) (k : part_in s ≡ Known g) where
   abbrev n : ℕ
@@ -111,9 +110,9 @@ module _ (g : Geometry) (slot limit : ℕ) (detail : Detail) (script payload jun
   unfolding verdict_answer number_of
   good_other v e = subst (λ (w : Verdict). No16 (verdict_answer w)) (sym e) (by_number Answers.Done refl)
 
-  module _ (K : Kind) (slots : units_of K g ≡ g.pages / 8) (e : eqb (number_of (refusal_of g n (v K))) 0 ≡ true) (stage : (ran g (v K) x s).0.course.stage ≡ Ended Answers.Done) where
+  module _ (K : Kind) (e : eqb (number_of (refusal_of g n (v K))) 0 ≡ true) (stage : (ran g (v K) x s).0.course.stage ≡ Ended Answers.Done) where
     fits : 8 * slot + 8 ≤ g.pages
-    fits = slot-fits K g slot slots (accepted g n (v K) e).asked.unit
+    fits = (accepted g n (v K) e).asked.fits
 
     stored : (W : Writer g K slot) → Lawful g K slot W fits few cold (plan_by K g slot) → W.Opens s.registers s.memory → W.Fresh (8 * slot) (start_closed x s.memory).holding
         → Wrote g K slot W (ran g (v K) x s)
@@ -122,22 +121,21 @@ module _ (g : Geometry) (slot limit : ℕ) (detail : Detail) (script payload jun
   -- a call that comes to its plan's end
   finished_other : (K : Kind) → eqb (number_of (refusal_of g n (v K))) 0 ≡ true → (ran g (v K) x s).0.course.stage ≡ Ended Answers.Done
       → (K ≡ Get → No16 (verdict_answer (ran g (v K) x s).1.holding.verdict)) → No16 (verdict_answer (ran g (v K) x s).1.holding.verdict)
-  unfolding put_writer patch_writer wipe_writer start_closed aim_of units_of
+  unfolding put_writer patch_writer wipe_writer start_closed aim_of
   finished_other Put e t u =
-      let w = stored Put refl e t (put_writer g slot (period_of detail.term) payload) (put_lawful g slot (period_of detail.term) payload (fits Put refl e t) few) tt (refl, refl, refl) in
+      let w = stored Put e t (put_writer g slot (period_of detail.term) payload) (put_lawful g slot (period_of detail.term) payload (fits Put e t) few) tt (refl, refl, refl) in
       good_other (ran g (v Put) x s).1.holding.verdict w.fresh.2
   finished_other Patch e t u =
       let one : 1 ≤ g.size = omega (arith, sizes.some) in
       let old = slot_byte g slot settled in
-      let w = stored Patch refl e t (patch_writer g slot detail.place payload old one) (patch_lawful g slot detail.place payload old one (fits Patch refl e t) few)
-      (λ p l u. page_in_slot g slot settled p settled_sized (fits Patch refl e t) l u)
+      let w = stored Patch e t (patch_writer g slot detail.place payload old one) (patch_lawful g slot detail.place payload old one (fits Patch e t) few)
+      (λ p l u. page_in_slot g slot settled p settled_sized (fits Patch e t) l u)
       (record { payload = refl; places = refl; verdict = λ f. absurd (f refl); version = λ f. absurd (f refl); room = omega (arith, sizes.most, length-replicate {A = ℕ} slot_room 0) }) in
       subst (λ (d : Verdict). No16 (verdict_answer d)) (sym (w.fresh.verdict (λ f. absurd (omega (arith, f))))) (patch_other (detail.place + length payload) (page_in g old 0))
   finished_other Get e t u = u refl
   finished_other Wipe e t u =
-      let w = stored Wipe refl e t (wipe_writer g slot) (wipe_lawful g slot (fits Wipe refl e t) few) tt refl in
+      let w = stored Wipe e t (wipe_writer g slot) (wipe_lawful g slot (fits Wipe e t) few) tt refl in
       good_other (ran g (v Wipe) x s).1.holding.verdict w.fresh
-  finished_other Refresh e t u = good_other (ran g (v Refresh) x s).1.holding.verdict (refresh-verdict g (v Refresh) refl x s)
 
   call_never : (K : Kind) → No16 (call_out g (v K) x s).answer
   unfolding start_closed
@@ -171,7 +169,7 @@ met_other false x y u w = w
 
 at_never : (p : Part) (o : Op) (s : State) → part_in s ≡ p → Whole (chip_in s) → No16 (out_at p o s).answer
 unfolding out_at call_by raw_by raw_out raw_sent sent_by ended_by pin_outcome cut_by number_of
-at_never (Known g) (call a d script payload junk log lent) s e w = call_never g a.unit a.limit d script payload junk log lent s w e a.kind
+at_never (Known g) (call a d script payload junk log lent) s e w = call_never g a.slot a.limit d script payload junk log lent s w e a.kind
 at_never (Known g) (raw frame script junk log reply) s e w =
     cases (λ (o : Out). No16 o.answer) (eqb (number_of (raw_refusal g (length s.memory.array) frame (length reply) (length log) script (length junk))) 0)
     (cases No16 (eqb (scripted script 0) 2) (by_number Answers.Cut refl) (by_number Answers.Done refl)) (raw_other g (length s.memory.array) (length reply) (length log) (length junk) frame script)

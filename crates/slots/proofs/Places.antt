@@ -13,7 +13,7 @@ use Rattle.state.specs.declared.Answer.TheVariants as Answers
 use Rattle.state.specs.Answers.{number_of}
 use Rattle.slots.specs.declared.Course.{Course}
 use Rattle.slots.specs.declared.Kind.{Kind}
-use Rattle.slots.specs.declared.Kind.TheVariants.{Put, Patch, Get, Wipe, Refresh}
+use Rattle.slots.specs.declared.Kind.TheVariants.{Put, Patch, Get, Wipe}
 use Rattle.slots.specs.declared.Stage.{Stage}
 use Rattle.slots.specs.declared.Stage.TheVariants.{Going, Ended}
 use Rattle.slots.specs.declared.Step.{Step}
@@ -38,10 +38,6 @@ pub both : (a b : Bool) → (a && b) ≡ true → a ≡ true
 both true b e = refl
 both false b e = never e
 
-pub and_none : (b : Bool) → (b && false) ≡ false
-and_none true = refl
-and_none false = refl
-
 -- ---- what holds of every step
 
 unfoldable pub every : (Step → Bool) → List Step → Bool
@@ -65,13 +61,6 @@ unfolding plan_by
 every_plan f k g slot e h =
     every_append f (opening (is_asking k)) (pages (run_by k g slot).count (run_by k g slot).first (page_steps k)) e
     (every-pages f (run_by k g slot).count (run_by k g slot).first (page_steps k) h)
-
--- what holds of each step holds of the one at any place
-pub step-every : (f : Step → Bool) (xs : List Step) (i : ℕ) → f End ≡ true → every f xs ≡ true → f (step_at xs i) ≡ true
-unfolding step_at every
-step-every f [] i e h = e
-step-every f (x ∷ xs) zero e h = both (f x) (every f xs) h
-step-every f (x ∷ xs) (suc i) e h = step-every f xs i e (second (f x) (every f xs) h)
 
 -- ---- what is left of a plan
 
@@ -106,7 +95,6 @@ plan_proper Put g slot = every_plan (λ x. not (is_end x)) Put g slot refl (λ p
 plan_proper Patch g slot = every_plan (λ x. not (is_end x)) Patch g slot refl (λ p. refl)
 plan_proper Get g slot = every_plan (λ x. not (is_end x)) Get g slot refl (λ p. refl)
 plan_proper Wipe g slot = every_plan (λ x. not (is_end x)) Wipe g slot refl (λ p. refl)
-plan_proper Refresh g sector = every_plan (λ x. not (is_end x)) Refresh g sector refl (λ p. refl)
 
 -- so at the end nothing is left
 pub rest-none : (xs : List Step) (i : ℕ) → every (λ x. not (is_end x)) xs ≡ true → is_end (step_at xs i) ≡ true → rest_at xs i ≡ []

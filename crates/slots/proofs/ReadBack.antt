@@ -1,6 +1,6 @@
 -- DEMAND 2: a recipe whose put answered 0 comes back from every later get that is neither refused nor cut, until a frame programs or erases in its slot.
 -- A put that answers 0 leaves the record in the slot (`put_holds`), what starts nothing in the slot leaves it there (`list_holds`), a get of a slot that
--- holds a record returns it (`get-returns`); and a patch that answers 0 leaves the patched recipe (`patch-holds`).
+-- holds a record returns it (`get_returns`); and a patch that answers 0 leaves the patched recipe (`patch-holds`).
 -- Assumes nothing.
 use Prim.Native.Nat.{ℕ, ◌+◌, ◌*◌, ◌/◌, ◌%◌, ◌<◌, ◌≤◌}
 use native.Mathlib.Omega.{arith}
@@ -27,33 +27,34 @@ use Rattle.state.specs.declared.Answer.TheVariants as Answers
 use Rattle.state.specs.Answers.{number_of}
 use Rattle.state.specs.Memory.{State, chip_in}
 use Rattle.slots.specs.declared.Kind.TheVariants.{Put, Patch, Get}
+use Rattle.slots.specs.declared.Stage.{Stage}
+use Rattle.slots.specs.declared.Stage.TheVariants.{Going, Ended}
 use Rattle.slots.specs.declared.Verdict.{Verdict}
-use Rattle.slots.specs.declared.Verdict.TheVariants.{Good, Outside}
+use Rattle.slots.specs.declared.Verdict.TheVariants.{Good, Blank, Beyond, Outside, Miscompared}
 use Rattle.state.specs.Outcomes.{part_in, cut_state}
 use Rattle.state.specs.Whole.{Whole}
-use Rattle.slots.specs.Plans.{bound, is_asking, page_steps, units_of, plan_by}
+use Rattle.slots.specs.Plans.{bound, is_asking, page_steps, plan_by, Asked}
 use Rattle.slots.specs.Records.{slot_size, head_size, limit_of, image, changed, get_verdict, patch_verdict, version_of, version_in, is_within}
 use Rattle.slots.specs.Refusals.{is_over, is_short, bad_script, early_refusal, late_refusal, or_else, call_refusal, flaws_in}
-use Rattle.slots.specs.Driver.{Holding, verdict_answer}
-use Rattle.slots.specs.Calls.{Out, Request, Secret, Open, Closed, refusal_of, start_closed, ran, reached, count_by, count_of, delivered, out_from, answer_at, cut_last, call_out, call_next}
-use Rattle.slots.specs.Lists.{Op, put, patch, get, asking, asks, secret, call_by, out_of, called_by, next_of, left_by}
+use Rattle.slots.specs.Driver.{Holding, verdict_answer, weighed, told_by}
+use Rattle.slots.specs.Calls.{Out, Request, Secret, Open, Closed, refusal_of, start_closed, ran, reached, count_by, count_of, delivered, out_from, answer_in, answer_at, call_out, call_next}
+use Rattle.slots.specs.Lists.{Op, put, patch, get, call, asking, asks, secret, call_by, out_of, called_by, next_of, left_by}
 use Rattle.slots.specs.Exchanges.{Result, finished, stopped, answer_for}
 use Rattle.slots.specs.Quiet.{page_in, KeptSlot, Holds, QuietIn, Refuses, part, slot, limit, size, log, script, device, busy, lost, Returns, Small, dates, Delivers}
 use Rattle.slots.proofs.Parts.{cases}
 use Rattle.slots.proofs.Places.{never, known, every, every_plan}
 use Rattle.slots.proofs.Steady.{whole_op, whole_list}
-use Rattle.slots.proofs.Accepted.{accepted, slot-fits}
+use Rattle.slots.proofs.Accepted.{accepted}
 use Rattle.slots.proofs.Refused.{refused-call}
 use Rattle.slots.proofs.Driven.{Ends}
 use Rattle.slots.proofs.Planned.{comes, on_chip, is_free, Halts, ResultHalts, free_halts}
 use Rattle.slots.proofs.Planned as H
-use Rattle.slots.proofs.Done.{done-accepted, done-stage, known_part}
-use Rattle.slots.proofs.Kept.{idle_spares, end_kept, refreshed-kept}
-use Rattle.slots.proofs.Refreshes.{list_kept}
+use Rattle.slots.proofs.Kept.{idle_spares, end_kept, list_kept}
 use Rattle.slots.proofs.Stores.{Writer, Wrote, call_stores}
 use Rattle.slots.proofs.Written.{put_writer, put_lawful, patch_writer, patch_lawful}
 use Rattle.slots.proofs.Gets.{call-reads}
 use Rattle.slots.proofs.Image.{head-some, head-most, version_told, length-told, get-told, patch-ends, recipe_told, image-patched}
+use Rattle.slots.specs.declared.Detail.{Detail}
 use Rattle.slots.specs.declared.Period.{Period}
 use Rattle.dates.specs.declared.Date.{Date}
 use Rattle.dates.specs.declared.Term.{Term}
@@ -61,6 +62,71 @@ use Rattle.dates.specs.declared.Term.TheVariants.{Unlimited, Between}
 use Rattle.dates.specs.Calendar.{day_of, is_date}
 use Rattle.slots.specs.Details.{period_of, aim_of, storing, changing, reading}
 use Rattle.dates.proofs.Laws.{at_most}
+
+-- ---- what an answer tells of the end
+
+zero-done : (n : Answer) → eqb (number_of n) 0 ≡ true → n ≡ Answers.Done
+unfolding number_of
+zero-done Answers.Done e = refl
+zero-done Answers.Part e = never e
+zero-done Answers.Frame e = never e
+zero-done Answers.Slot e = never e
+zero-done Answers.Limit e = never e
+zero-done Answers.Size e = never e
+zero-done Answers.Log e = never e
+zero-done Answers.Script e = never e
+zero-done Answers.Device e = never e
+zero-done Answers.Busy e = never e
+zero-done Answers.Sealed e = never e
+zero-done Answers.Cut e = never e
+zero-done Answers.Blank e = never e
+zero-done Answers.End e = never e
+zero-done Answers.Dates e = never e
+zero-done Answers.Term e = never e
+zero-done Answers.Miscompare e = never e
+
+good_is : (v : Verdict) → verdict_answer v ≡ Answers.Done → v ≡ Good
+unfolding verdict_answer
+good_is Good e = refl
+good_is Blank e = let z : ◌≡◌ {A = ℕ} 0 1 = cc in absurd (omega arith)
+good_is Beyond e = let z : ◌≡◌ {A = ℕ} 0 1 = cc in absurd (omega arith)
+good_is Outside e = let z : ◌≡◌ {A = ℕ} 0 1 = cc in absurd (omega arith)
+good_is Miscompared e = let z : ◌≡◌ {A = ℕ} 0 1 = cc in absurd (omega arith)
+
+-- 0 is the plan's end, and a good verdict
+pub answer-done : (t : Stage) (v : Verdict) → answer_in (told_by t v) ≡ Answers.Done → (t ≡ Ended Answers.Done) × (v ≡ Good)
+unfolding answer_in told_by weighed number_of
+answer-done Going v e = let z : ◌≡◌ {A = ℕ} 0 1 = cc in absurd (omega arith)
+answer-done (Ended n) v e = go (eqb (number_of n) 0) refl e
+  where
+    go : (b : Bool) → eqb (number_of n) 0 ≡ b → cond b (verdict_answer v) n ≡ Answers.Done → (Ended n ≡ Ended Answers.Done) × (v ≡ Good)
+    go true z h = (ap (λ (a : Answer). Ended a) (zero-done n z), good_is v h)
+    go false z h = never (sym z ∙ ap (λ (a : Answer). eqb (number_of a) 0) h)
+
+module _ (g : Geometry) (v : Request) (x : Secret) (s : State) where
+  -- a call that answers 0 was not refused
+  pub done-accepted : (call_out g v x s).answer ≡ Answers.Done → eqb (number_of (refusal_of g (length s.memory.array) v)) 0 ≡ true
+  unfolding number_of
+  done-accepted d = go (eqb (number_of (refusal_of g (length s.memory.array) v)) 0) refl
+    where
+      go : (b : Bool) → eqb (number_of (refusal_of g (length s.memory.array) v)) 0 ≡ b → eqb (number_of (refusal_of g (length s.memory.array) v)) 0 ≡ true
+      go true e = e
+      go false e = ap (λ (a : Answer). eqb (number_of a) 0) (sym (ap (λ (o : Out). o.answer) (refused-call g v x s e).out) ∙ d)
+
+  -- and came to its end
+  pub done-stage : (call_out g v x s).answer ≡ Answers.Done → ((ran g v x s).0.course.stage ≡ Ended Answers.Done) × ((ran g v x s).1.holding.verdict ≡ Good)
+  unfolding call_out out_from
+  done-stage d = answer-done (ran g v x s).0.course.stage (ran g v x s).1.holding.verdict d
+
+-- a call that answers 0 has a known part
+known_part : (a : Asked) (detail : Detail) (sc payload junk lg lent : List ℕ) (s : State) → (out_of (call a detail sc payload junk lg lent) s).answer ≡ Answers.Done → (Q : Part → Type 0)
+    → ((g : Geometry) → part_in s ≡ Known g → (call_out g (asks g a detail sc payload junk lg lent) (secret payload detail junk lent) s).answer ≡ Answers.Done → Q (Known g)) → Q (part_in s)
+unfolding out_of call_by
+known_part a detail sc payload junk lg lent s d Q on = go (part_in s) refl d
+  where
+    go : (p : Part) → part_in s ≡ p → (call_by p a detail sc payload junk lg lent s).answer ≡ Answers.Done → Q p
+    go (Known g) e h = on g e h
+    go Unknown e h = let z : ◌≡◌ {A = ℕ} 0 1 = cc in absurd (omega arith)
 
 -- ---- a written slot
 
@@ -70,20 +136,18 @@ unfolding within
 ready-placed n o g e i = ap (λ (x : Operation). placed n x) i ∙ known_placed n Idle g e refl
 
 -- the state after a call that wrote its slot
-pub wrote_kept : (g : Geometry) (v : Request) (W : Writer g v.asked.kind v.asked.unit) (x : Secret) (s : State) → 8 * v.asked.unit + 8 ≤ g.pages
-    → Wrote g v.asked.kind v.asked.unit W (ran g v x s) → KeptSlot g v.asked.unit W.bytes (call_next g v x s)
-unfolding call_next cut_last
+pub wrote_kept : (g : Geometry) (v : Request) (W : Writer g v.asked.kind v.asked.slot) (x : Secret) (s : State) → 8 * v.asked.slot + 8 ≤ g.pages
+    → Wrote g v.asked.kind v.asked.slot W (ran g v x s) → KeptSlot g v.asked.slot W.bytes (call_next g v x s)
+unfolding call_next
 wrote_kept g v W x s fits w =
     let z = ran g v x s in
-    let first = 8 * v.asked.unit in
-    refreshed-kept g first (first + 8) (page_in g W.bytes) v.asked (answer_at z) (cut_last g v x s).registers (cut_last g v x s).memory
-    (subst (λ (b : Bool). KeptSlot g v.asked.unit W.bytes (cond b (cut_state g x.junk (reached z)) (reached z))) (sym w.uncut)
+    subst (λ (b : Bool). KeptSlot g v.asked.slot W.bytes (cond b (cut_state g x.junk (reached z)) (reached z))) (sym w.uncut)
     (record {
       part = ready-placed (length z.1.memory.array) z.0.registers.operation g w.room.0 w.ready.0;
       fits = fits;
-      spares = idle_spares g first (first + 8) z.0.registers.operation w.ready.0;
+      spares = idle_spares g (8 * v.asked.slot) (8 * v.asked.slot + 8) z.0.registers.operation w.ready.0;
       bytes = w.pages;
-    }))
+    })
 
 -- room for a page in buffer 1
 whole_room : (g : Geometry) (n : ℕ) (s : State) → Sized g n → Whole (chip_in s) → g.size ≤ length s.memory.buffer1
@@ -103,7 +167,7 @@ small_term (Between first last) = (omega (arith, day_most first), omega (arith, 
 
 pub put_holds : (sl lim : ℕ) (term : Term) (sc recipe junk lg : List ℕ) (s : State) → Whole (chip_in s)
     → (out_of (put sl lim term sc recipe junk lg) s).answer ≡ Answers.Done → Holds sl (period_of term) recipe (next_of (put sl lim term sc recipe junk lg) s)
-unfolding next_of called_by flaws_in is_over is_short put_writer start_closed aim_of units_of
+unfolding next_of called_by flaws_in is_over is_short put_writer start_closed aim_of
 put_holds sl lim term sc recipe junk lg s w d =
     known_part (asking Put sl lim) (storing term) sc recipe junk lg [] s d
     (λ p. Holds sl (period_of term) recipe (called_by p (asking Put sl lim) (storing term) sc recipe junk lg [] s)) (λ g k h.
@@ -116,14 +180,13 @@ put_holds sl lim term sc recipe junk lg s w d =
     let a = (accepted g n v e).asked in
     let z = placed_sized n s.registers.operation g k in
     let few = sized_own g n z in
-    let fits = slot-fits Put g sl refl a.unit in
     record {
       geometry = g;
       limit = ltb-false most (length recipe) (or_left (ltb most (length recipe)) a.size);
       small = small_term term;
       kept =
-          wrote_kept g v W x s fits
-          (call_stores g v W x s k (whole_room g n s z w) e fits few (put_lawful g sl (period_of term) recipe fits few) tt (refl, refl, refl) (done-stage g v x s h).0);
+          wrote_kept g v W x s a.fits
+          (call_stores g v W x s k (whole_room g n s z w) e a.fits few (put_lawful g sl (period_of term) recipe a.fits few) tt (refl, refl, refl) (done-stage g v x s h).0);
     })
   where
     or_left : (b : Bool) → (b || false) ≡ false → b ≡ false
@@ -146,7 +209,7 @@ early_refuses : (g : Geometry) (v : Request) → (eqb (number_of (early_refusal 
 unfolding early_refusal number_of
 early_refuses g v =
     let Q : Answer → Type 0 = λ a. eqb (number_of a) 0 ≡ false → Refuses a in
-    cases Q (leb (units_of v.asked.kind g) v.asked.unit) (λ _. slot)
+    cases Q (leb (g.pages / 8) v.asked.slot) (λ _. slot)
     (cases Q (not (leb 1 v.asked.limit && leb v.asked.limit 1000)) (λ _. limit)
     (cases Q v.flaws.size (λ _. size) (cases Q v.flaws.dates (λ _. dates) (λ (e : true ≡ false). never (sym e)))))
 
@@ -222,10 +285,10 @@ module _ (g : Geometry) (period : Period) (recipe : List ℕ) (fits : length rec
         ap (λ (k : ℕ). delivered k staged buffer) n ∙ over_nil buffer,
       )
 
-pub get-returns : (sl : ℕ) (s : State) (period : Period) (recipe : List ℕ) → Holds sl period recipe s → (lim : ℕ) (today : Date) (sc junk lg buffer : List ℕ)
+pub get_returns : (sl : ℕ) (s : State) (period : Period) (recipe : List ℕ) → Holds sl period recipe s → (lim : ℕ) (today : Date) (sc junk lg buffer : List ℕ)
     → Returns period (day_of today) recipe buffer (out_of (get sl lim today sc junk lg buffer) s)
 unfolding out_of call_by call_out out_from flaws_in is_over is_short verdict_answer aim_of
-get-returns sl s period recipe u lim today sc junk lg buffer =
+get_returns sl s period recipe u lim today sc junk lg buffer =
     subst (λ (p : Part). Returns period (day_of today) recipe buffer (call_by p (asking Get sl lim) (reading today) sc [] junk lg buffer s)) (sym u.kept.part) (go (eqb (number_of (refusal_of g n v)) 0) refl)
   where
     g : Geometry
@@ -270,7 +333,7 @@ get-returns sl s period recipe u lim today sc junk lg buffer =
 pub patch-holds : (sl lim place : ℕ) (sc bytes junk lg : List ℕ) (period : Period) (recipe : List ℕ) (s : State) → Whole (chip_in s) → Holds sl period recipe s
     → (out_of (patch sl lim place sc bytes junk lg) s).answer ≡ Answers.Done
     → (place + length bytes ≤ length recipe) × Holds sl period (splice place bytes recipe) (next_of (patch sl lim place sc bytes junk lg) s)
-unfolding out_of call_by next_of called_by patch_writer start_closed limit_of slot_size changed aim_of image units_of
+unfolding out_of call_by next_of called_by patch_writer start_closed limit_of slot_size changed aim_of image
 patch-holds sl lim place sc bytes junk lg period recipe s w u d =
     subst (λ (p : Part). (place + length bytes ≤ length recipe) × Holds sl period (splice place bytes recipe) (called_by p (asking Patch sl lim) (changing place) sc bytes junk lg [] s)) (sym u.kept.part)
     (let g = u.geometry in
@@ -285,16 +348,15 @@ patch-holds sl lim place sc bytes junk lg period recipe s w u d =
     let most = z.most in
     let room = u.limit in
     let few = sized_own g n z in
-    let fits = slot-fits Patch g sl refl a.unit in
     let old = image period recipe in
     let one : 1 ≤ g.size = omega (arith, some) in
     let W = patch_writer g sl place bytes old one in
-    let k = call_stores g v W x s u.kept.part (whole_room g n s z w) e fits few (patch_lawful g sl place bytes old one fits few) (end_kept u.kept).bytes
+    let k = call_stores g v W x s u.kept.part (whole_room g n s z w) e a.fits few (patch_lawful g sl place bytes old one a.fits few) (end_kept u.kept).bytes
     (record { payload = refl; places = refl; verdict = λ f. absurd (f refl); version = λ f. absurd (f refl); room = omega (arith, z.most, length-replicate {A = ℕ} slot_room 0) }) (done-stage g v x s h).0 in
     let good : patch_verdict g (place + length bytes) (page_in g old 0) ≡ Good = sym (k.fresh.verdict (λ f. absurd (omega (arith, f)))) ∙ (done-stage g v x s h).1 in
     let within : place + length bytes ≤ length recipe =
     patch-ends period recipe (page_in g old 0) (omega (arith, room, most)) (page_begins g period recipe (omega (arith, some))) g (place + length bytes) good in
-    let m = wrote_kept g v W x s fits k in (
+    let m = wrote_kept g v W x s a.fits k in (
       within,
       record {
         geometry = g;
@@ -316,7 +378,7 @@ patch-holds sl lim place sc bytes junk lg period recipe s w u d =
 
 -- ---- the theorems
 
--- a put that answered 0, any list that starts nothing in its slot but refreshes that answer 0, and a get: unless it is refused or cut, it answers 15 exactly if today is outside the
+-- a put that answered 0, any list that starts nothing in its slot, and a get: unless it is refused or cut, it answers 15 exactly if today is outside the
 -- term of the put, and else brings the recipe
 pub read_back : (sl lim : ℕ) (term : Term) (sc recipe junk lg : List ℕ) (s : State) → Whole (chip_in s)
     → (out_of (put sl lim term sc recipe junk lg) s).answer ≡ Answers.Done
@@ -325,7 +387,7 @@ pub read_back : (sl lim : ℕ) (term : Term) (sc recipe junk lg : List ℕ) (s :
     → Returns (period_of term) (day_of today) recipe buffer (out_of (get sl lim' today sc' junk' lg' buffer) (left_by os (next_of (put sl lim term sc recipe junk lg) s)))
 read_back sl lim term sc recipe junk lg s w d os q lim' today sc' junk' lg' buffer =
     let t = next_of (put sl lim term sc recipe junk lg) s in
-    get-returns sl (left_by os t) (period_of term) recipe (list_holds sl (period_of term) recipe os t (put_holds sl lim term sc recipe junk lg s w d) q) lim' today sc' junk' lg' buffer
+    get_returns sl (left_by os t) (period_of term) recipe (list_holds sl (period_of term) recipe os t (put_holds sl lim term sc recipe junk lg s w d) q) lim' today sc' junk' lg' buffer
 
 -- the same of a patch that answered 0 in a slot that held a recipe; the term stays
 pub read_back_patched : (sl lim place : ℕ) (sc bytes junk lg : List ℕ) (period : Period) (recipe : List ℕ) (s : State) → Whole (chip_in s) → Holds sl period recipe s
@@ -336,7 +398,7 @@ pub read_back_patched : (sl lim place : ℕ) (sc bytes junk lg : List ℕ) (peri
 read_back_patched sl lim place sc bytes junk lg period recipe s w u d os q lim' today sc' junk' lg' buffer =
     let t = next_of (patch sl lim place sc bytes junk lg) s in
     let p = (patch-holds sl lim place sc bytes junk lg period recipe s w u d).1 in
-    get-returns sl (left_by os t) period (splice place bytes recipe) (list_holds sl period (splice place bytes recipe) os t p q) lim' today sc' junk' lg' buffer
+    get_returns sl (left_by os t) period (splice place bytes recipe) (list_holds sl period (splice place bytes recipe) os t p q) lim' today sc' junk' lg' buffer
 
 -- put, a quiet list, patch, a quiet list, get
 pub read_back_put-patched : (sl lim : ℕ) (term : Term) (sc recipe junk lg : List ℕ) (s : State) → Whole (chip_in s)

@@ -12,9 +12,6 @@ use Rattle.slices.specs.Lists.{over}
 use Rattle.geometry.specs.declared.Geometry.{Geometry}
 use Rattle.geometry.specs.declared.Part.{Part}
 use Rattle.geometry.specs.declared.Part.TheVariants.{Known, Unknown}
-use Rattle.registers.specs.declared.Registers.{Registers}
-use Rattle.registers.specs.Fields.{with_tally}
-use Rattle.registers.specs.Tally.{cleared}
 use Rattle.state.specs.declared.Answer.{Answer}
 use Rattle.state.specs.declared.Answer.TheVariants as Answers
 use Rattle.state.specs.Answers.{number_of}
@@ -26,13 +23,13 @@ use Rattle.slots.specs.declared.Stage.TheVariants.{Going, Ended}
 use Rattle.slots.specs.declared.Verdict.{Verdict}
 use Rattle.slots.specs.declared.Verdict.TheVariants.{Good, Blank, Beyond, Outside, Miscompared}
 use Rattle.state.specs.Memory.{State}
-use Rattle.slots.specs.Plans.{Asked, plan_of, step_at, is_end, bound}
+use Rattle.slots.specs.Plans.{plan_of, step_at, is_end, bound}
 use Rattle.slots.specs.Driver.{is_ended, verdict_answer, weighed, told_by}
 use Rattle.slots.specs.Refusals.{raw_refusal}
-use Rattle.slots.specs.Calls.{Out, Request, Secret, Open, Closed, refused, scripted, hears, open_after, step_open, step_closed, run, first_course, refusal_of, start_open, start_closed, ran, reached, count_by, count_of, delivered, out_from, answer_in, answer_at, cut_last, call_out, is_refresh, is_refreshed, refreshed, call_next, raw_sent, raw_out, raw_next}
+use Rattle.slots.specs.Calls.{Out, Request, Secret, Open, Closed, refused, scripted, hears, open_after, step_open, step_closed, run, first_course, refusal_of, start_open, start_closed, ran, reached, count_by, count_of, delivered, out_from, answer_in, answer_at, call_out, call_next, raw_sent, raw_out, raw_next}
 use Rattle.slots.specs.Lists.{Op, call, raw, straight, pin, busy_end, cut, asks, secret, met, call_by, raw_by, out_of, called_by, raw_left, next_of, is_refusal, lent_to, Untouched}
 use Rattle.slots.proofs.Parts.{cases, out_at, out_at_lem, next_at, next_at_lem}
-use Rattle.slots.proofs.Places.{never, and_none, Stops, course_ways}
+use Rattle.slots.proofs.Places.{never, Stops, course_ways}
 use Rattle.slots.proofs.Accepted.{run-ended}
 use native.Mathlib.Omega.{arith}
 
@@ -104,15 +101,6 @@ out-refused g v x s a e =
     let c = count_none v.asked.kind a staged e in
     λ i. record { answer = a; lines = []; frames = 0; polls = 0; count = c i; lent = delivered (c i) staged x.lent }
 
--- a call that does not answer 0 sets no counter
-pub refreshed_other : (a : Asked) (n : Answer) (r : Registers) → is_refreshed a.kind n ≡ false → refreshed a n r ≡ r
-unfolding refreshed
-refreshed_other a n r e = ap (λ (b : Bool). cond b (with_tally r (cleared a.unit r.tally)) r) e
-
-pub refreshed-none : (a : Asked) (n : Answer) (r : Registers) → eqb (number_of n) 0 ≡ false → refreshed a n r ≡ r
-unfolding is_refreshed
-refreshed-none a n r e = refreshed_other a n r ((λ i. is_refresh a.kind && e i) ∙ and_none (is_refresh a.kind))
-
 -- it sends nothing and changes nothing
 pub record Refused (g : Geometry) (v : Request) (x : Secret) (s : State) (a : Answer) : Type 0 where
   pub out : call_out g v x s ≡ refused a x.lent
@@ -120,7 +108,7 @@ pub record Refused (g : Geometry) (v : Request) (x : Secret) (s : State) (a : An
 
 pub refused-call : (g : Geometry) (v : Request) (x : Secret) (s : State) → eqb (number_of (refusal_of g (length s.memory.array) v)) 0 ≡ false
     → Refused g v x s (refusal_of g (length s.memory.array) v)
-unfolding call_out call_next cut_last told_by answer_in start_closed
+unfolding call_out call_next told_by answer_in start_closed
 refused-call g v x s e =
     let a = refusal_of g (length s.memory.array) v in
     let r = ran-refused g v x s e in
@@ -129,10 +117,7 @@ refused-call g v x s e =
           (λ i. out_from v x (r.0 i, r.1 i) (answer_at (r.0 i, r.1 i)))
           ∙ ap (λ (z : Answer). out_from v x (ended_open a v s, start_closed x s.memory) z) (weighed_other a Good e)
           ∙ out-refused g v x s a e;
-      next =
-          (λ i. let t = cond (r.0 i).cut (cut_state g x.junk (reached (r.0 i, r.1 i))) (reached (r.0 i, r.1 i)) in
-          record { registers = refreshed v.asked (answer_at (r.0 i, r.1 i)) t.registers; memory = t.memory })
-          ∙ ap (λ (z : Registers). record { registers = z; memory = s.memory }) (ap (λ (n : Answer). refreshed v.asked n s.registers) (weighed_other a Good e) ∙ refreshed-none v.asked a s.registers e);
+      next = λ i. cond (r.0 i).cut (cut_state g x.junk (reached (r.0 i, r.1 i))) (reached (r.0 i, r.1 i));
     }
 
 -- ---- an accepted call ends with 0, 8 to 13, 15 or 16
@@ -213,21 +198,21 @@ raw_late true = refl
 raw_late false = refl
 
 -- an event, by whether it is refused
-pick-met : (b : Bool) (lent reply : List ℕ) (s t : State) (a : Answer) → is_refusal (cond b (left Answers.Done t reply) (left a s lent)).answer ≡ true
+pick_met : (b : Bool) (lent reply : List ℕ) (s t : State) (a : Answer) → is_refusal (cond b (left Answers.Done t reply) (left a s lent)).answer ≡ true
     → Untouched lent s (met (cond b (left Answers.Done t reply) (left a s lent))) (cond b (left Answers.Done t reply) (left a s lent)).state
 unfolding number_of
-pick-met true lent reply s t a h = never h
-pick-met false lent reply s t a h = record { out = refl; next = refl }
+pick_met true lent reply s t a h = never h
+pick_met false lent reply s t a h = record { out = refl; next = refl }
 
 at_untouched : (p : Part) (o : Op) (s : State) → is_refusal (out_at p o s).answer ≡ true → Untouched (lent_to o) s (out_at p o s) (next_at p o s)
 unfolding out_at next_at lent_to call_by raw_by called_by raw_left raw_out raw_next raw_sent sent_by ended_by pin_outcome cut_by number_of
 at_untouched (Known g) (call a detail script payload junk log lent) s h = call_untouched g (asks g a detail script payload junk log lent) (secret payload detail junk lent) s h
 at_untouched (Known g) (raw frame script junk log reply) s h =
     pick_untouched (eqb (number_of (raw_refusal g (length s.memory.array) frame (length reply) (length log) script (length junk))) 0) reply s _ _ _ (raw_late (eqb (scripted script 0) 2)) h
-at_untouched (Known g) (straight frame reply) s h = pick-met (framed (length frame) (length reply)) reply _ s _ Answers.Frame h
+at_untouched (Known g) (straight frame reply) s h = pick_met (framed (length frame) (length reply)) reply _ s _ Answers.Frame h
 at_untouched (Known g) (pin high) s h = never h
 at_untouched (Known g) busy_end s h = never h
-at_untouched (Known g) (cut junk) s h = pick-met (cut_fits g (length s.memory.array) (length junk)) [] [] s _ Answers.Script h
+at_untouched (Known g) (cut junk) s h = pick_met (cut_fits g (length s.memory.array) (length junk)) [] [] s _ Answers.Script h
 at_untouched Unknown (call a detail script payload junk log lent) s h = record { out = refl; next = refl }
 at_untouched Unknown (raw frame script junk log reply) s h = record { out = refl; next = refl }
 at_untouched Unknown (straight frame reply) s h = record { out = refl; next = refl }

@@ -21,8 +21,7 @@ use Rattle.geometry.proofs.Pages.{length-page_of, sized}
 use Rattle.geometry.proofs.Addresses.{address-bytes, page_address}
 use Rattle.commands.specs.declared.Buffer.TheVariants.{One}
 use Rattle.registers.specs.declared.Registers.{Registers}
-use Rattle.registers.specs.Fields.{with_operation, with_tally}
-use Rattle.registers.specs.Tally.{tallied}
+use Rattle.registers.specs.Fields.{with_operation}
 use Rattle.registers.specs.Protection.{register_of, Roomed, bits_of, has_bits, guarded, sealed}
 use Rattle.registers.proofs.Protection.{byte_of}
 use Rattle.control.specs.Control.{control, started, started_on}
@@ -37,13 +36,14 @@ use Rattle.commands.specs.declared.Decoded.{Decoded}
 use Rattle.commands.specs.declared.Effect.{Effect}
 use Rattle.commands.specs.declared.Effect.TheVariants as E
 use Rattle.commands.specs.Decode.{decode_of}
-use Rattle.commands.proofs.Frames.{decode_program, decode_erase, decode_compare, decode_rewrite}
+use Rattle.commands.proofs.Frames.{decode_program, decode_erase, decode_compare}
 use Rattle.registers.specs.declared.Operation.{Operation}
 use Rattle.registers.specs.declared.Operation.TheVariants as O
 use Rattle.control.specs.declared.Decision.{Decision}
 use Rattle.control.specs.Control.{ignored, row_of, row_decided}
 use Rattle.control.specs.Completion.{completed, completed_by}
 use Rattle.control.proofs.Frames.{ready_obeys, page_keeps}
+use Rattle.control.proofs.Ends.{completed_idle}
 use Rattle.state.specs.Frames.{is_idle, sent_memory, acted, buffer_written, written}
 use Rattle.state.proofs.Status.{idle_is}
 use Rattle.state.proofs.Replies.{status-byte, reply-status_deep}
@@ -58,7 +58,6 @@ use Rattle.slots.specs.declared.Step.TheVariants.{Wait, Protection, Lockdown, Re
 use Rattle.slots.specs.Driver.{Heard, Shape, Holding, opcode_of, shape_of, frame_byte, loaded, frame_of, status_heard, register_in, ended, moved, marking, fewer, course_by, compare_in}
 use Rattle.slots.proofs.Blind.{status-heard, status-compare, filler, protection_form, lockdown_form}
 use Rattle.slots.proofs.Parts.{cases}
-use Rattle.slots.proofs.Places.{never}
 
 -- ---- addresses
 
@@ -137,7 +136,6 @@ unfoldable pub operation_of : Command → ℕ → Operation
 operation_of C.Program p = O.Program One p
 operation_of C.Erase p = O.EraseBlock (p / 8)
 operation_of C.Compare p = O.Compare One p
-operation_of C.Rewrite p = O.Rewrite One p
 
 -- on an idle, awake chip it starts its operation, or is ignored where the sector is sealed
 abbrev pub Starts : Geometry → Registers → ℕ → Command → Decision → Type 0
@@ -168,9 +166,6 @@ module _ (g : Geometry) (r : Registers) (k : Kind) (h : Holding) (p : ℕ) (y : 
       (starts_on g r (named C.Erase) (O.EraseBlock (named C.Erase / 8)))
   send_starts C.Compare =
       subst (λ (d : Decision). Starts g r (named C.Compare) C.Compare d) (sym (by_row (frame_of g k h (Send C.Compare p)) 4 (E.Compare One) (decode_compare _ _ _ []))) (inl refl)
-  send_starts C.Rewrite =
-      subst (λ (d : Decision). Starts g r (named C.Rewrite) C.Rewrite d) (sym (by_row (frame_of g k h (Send C.Rewrite p)) 4 (E.Rewrite One) (decode_rewrite _ _ _ [])))
-      (starts_on g r (named C.Rewrite) (O.Rewrite One (named C.Rewrite)))
 
   -- the page is named by its address
   pub send_named : (n : ℕ) (c : Command) → part_of n ≡ Known g → Sized g n → p < g.pages → named c ≡ p
@@ -186,22 +181,19 @@ module _ (g : Geometry) (r : Registers) (k : Kind) (h : Holding) (p : ℕ) (y : 
       go (inl e) = sent-decided g r m (frame_of g k h (Send c p)) (started r (operation_of c (named c))) e
       go (inr e) = sent-decided g r m (frame_of g k h (Send c p)) (ignored r) e.0
 
-  -- its busy end leaves the registers as they were, but for the tally
-  back : (c : Command) (q : ℕ) → completed g (with_operation r (operation_of c q)) ≡ with_operation (with_tally r (tallied g (operation_of c q) r.tally)) O.Idle
+  -- and once its busy end has come the registers are as they were
+  pub send_returns : (c : Command) → completed g (control g r (frame_of g k h (Send c p))).registers ≡ r
   unfolding completed completed_by operation_of
-  back C.Program q = refl
-  back C.Erase q = refl
-  back C.Compare q = refl
-  back C.Rewrite q = refl
-
-  -- where the page is the part's and its sector is not sealed, it is obeyed, and its busy end counts what it has written
-  pub send_returns : (n : ℕ) (c : Command) → part_of n ≡ Known g → Sized g n → p < g.pages → sealed g r (sector_of g p) ≡ false
-      → completed g (control g r (frame_of g k h (Send c p))).registers ≡ with_tally r (tallied g (operation_of c p) r.tally)
-  send_returns n c e z l free = go (subst (λ (q : ℕ). Starts g r q c (control g r (frame_of g k h (Send c p)))) (send_named n c e z l) (send_starts c))
+  send_returns c = go (send_starts c)
     where
-      go : Starts g r p c (control g r (frame_of g k h (Send c p))) → completed g (control g r (frame_of g k h (Send c p))).registers ≡ with_tally r (tallied g (operation_of c p) r.tally)
-      go (inl d) = ap (λ (x : Decision). completed g x.registers) d ∙ back c p ∙ λ i. with_operation (with_tally r (tallied g (operation_of c p) r.tally)) (sym y.0 i)
-      go (inr d) = never (sym free ∙ d.1)
+      back : (c : Command) (q : ℕ) → completed g (with_operation r (operation_of c q)) ≡ with_operation r O.Idle
+      back C.Program q = refl
+      back C.Erase q = refl
+      back C.Compare q = refl
+
+      go : Starts g r (named c) c (control g r (frame_of g k h (Send c p))) → completed g (control g r (frame_of g k h (Send c p))).registers ≡ r
+      go (inl e) = ap (λ (d : Decision). completed g d.registers) e ∙ back c (named c) ∙ λ i. with_operation r (sym y.0 i)
+      go (inr e) = ap (λ (d : Decision). completed g d.registers) e.0 ∙ completed_idle g r y.0
 
 -- ---- waits
 

@@ -1,5 +1,5 @@
--- What frames, busy ends, cuts, pin moves and a counter set to 0 keep is kept by every call, event and list: a call is frames, each with its script byte, and a
--- cut or a counter at its end. The lengths of array and buffers are such things.
+-- What frames, busy ends, cuts and pin moves keep is kept by every call, event and list: a call is frames, each with its script byte, and a cut at its
+-- end. The lengths of array and buffers are such things.
 -- Assumes nothing.
 use Prim.Native.Nat.{ℕ, zero, suc}
 use mathlib.Core.Path.{sym, ap, subst, ◌∙◌}
@@ -11,13 +11,10 @@ use Rattle.geometry.specs.declared.Geometry.{Geometry}
 use Rattle.geometry.specs.declared.Part.{Part}
 use Rattle.geometry.specs.declared.Part.TheVariants.{Known, Unknown}
 use Rattle.registers.specs.declared.Registers.{Registers}
-use Rattle.registers.specs.Fields.{with_wp, with_tally}
-use Rattle.registers.specs.Tally.{cleared}
-use Rattle.registers.proofs.Counters.{length-cleared}
+use Rattle.registers.specs.Fields.{with_wp}
 use Rattle.control.specs.Control.{control}
 use Rattle.control.specs.Completion.{completed}
 use Rattle.control.specs.PowerLoss.{reaching, lost}
-use Rattle.state.specs.declared.Answer.{Answer}
 use Rattle.state.specs.Answers.{number_of}
 use Rattle.control.proofs.Rows.{control-lengths}
 use Rattle.control.proofs.Ends.{completed-lengths, lost-lengths}
@@ -29,9 +26,9 @@ use Rattle.state.specs.Outcomes.{framed, Left, part_in, sent_state, ended_state,
 use Rattle.state.proofs.Lengths.{sent-array, sent-first-length, sent_second_length, completed-array-length, completed-first-length, completed_second_length, lost-array-length, lost-first-length, lost_second_length}
 use Rattle.slots.specs.Driver.{is_ended}
 use Rattle.slots.specs.Refusals.{raw_refusal}
-use Rattle.slots.specs.Plans.{Asked, bound}
+use Rattle.slots.specs.Plans.{bound}
 use Rattle.state.specs.Whole.{Whole}
-use Rattle.slots.specs.Calls.{Request, Secret, Open, Closed, scripted, sends, leaves, replies, hears, registers_after, memory_after, state_after, step_open, step_closed, open_after, closed_after, outline, run, start_open, start_closed, ran, reached, answer_at, cut_last, is_refreshed, refreshed, call_next, raw_next}
+use Rattle.slots.specs.Calls.{Request, Secret, Open, Closed, scripted, sends, leaves, replies, hears, registers_after, memory_after, state_after, step_open, step_closed, open_after, closed_after, outline, run, start_open, start_closed, ran, reached, call_next, raw_next}
 use Rattle.slots.specs.Lists.{Op, call, raw, straight, pin, busy_end, cut, asks, secret, called_by, raw_left, next_of, left_by}
 use Rattle.slots.proofs.Parts.{next_at, next_at_lem, cases}
 
@@ -41,7 +38,6 @@ pub record Steady (Q : Registers → Memory → Type 0) : Type 0 where
   pub ends : (g : Geometry) (r : Registers) (m : Memory) → Q r m → Q (completed g r) (completed_memory g r.operation m)
   pub cuts : (g : Geometry) (junk : List ℕ) (r : Registers) (m : Memory) → Q r m → Q (lost g r (reaching g r.operation junk)) (lost_memory g r.operation junk m)
   pub pins : (high : Bool) (r : Registers) (m : Memory) → Q r m → Q (with_wp r high) m
-  pub clears : (sector : ℕ) (r : Registers) (m : Memory) → Q r m → Q (with_tally r (cleared sector r.tally)) m
 
 module _ (Q : Registers → Memory → Type 0) (w : Steady Q) where
   abbrev pub In : State → Type 0
@@ -90,20 +86,11 @@ module _ (Q : Registers → Memory → Type 0) (w : Steady Q) where
   unfolding ended_state
   end_keeps g s u = w.ends g s.registers s.memory u
 
-  last_keeps : (g : Geometry) (v : Request) (x : Secret) (s : State) → In s → In (cut_last g v x s)
-  unfolding cut_last
-  last_keeps g v x s u =
-      let k = ran_keeps g v x s u in
-      cases In (ran g v x s).0.cut (cut_keeps g x.junk (reached (ran g v x s)) k) k
-
-  refreshed_keeps : (a : Asked) (n : Answer) (r : Registers) (m : Memory) → Q r m → Q (refreshed a n r) m
-  unfolding refreshed
-  refreshed_keeps a n r m u = cases (λ (t : Registers). Q t m) (is_refreshed a.kind n) (w.clears a.unit r m u) u
-
   call_keeps : (g : Geometry) (v : Request) (x : Secret) (s : State) → In s → In (call_next g v x s)
   unfolding call_next
   call_keeps g v x s u =
-      refreshed_keeps v.asked (answer_at (ran g v x s)) (cut_last g v x s).registers (cut_last g v x s).memory (last_keeps g v x s u)
+      let k = ran_keeps g v x s u in
+      cases In (ran g v x s).0.cut (cut_keeps g x.junk (reached (ran g v x s)) k) k
 
   raw_keeps : (g : Geometry) (f script : List ℕ) (log : ℕ) (junk : List ℕ) (reply : ℕ) (s : State) → In s → In (raw_next g f script log junk reply s)
   unfolding raw_next state_after
@@ -148,7 +135,6 @@ module _ (Q : ℕ → Type 0) where
         ends = λ g r m u. subst Q (sym (completed-array-length g r.operation m)) u;
         cuts = λ g junk r m u. subst Q (sym (lost-array-length g r.operation junk m)) u;
         pins = λ high r m u. u;
-        clears = λ sector r m u. u;
       }
 
   pub buffer_steady : Steady (λ r m. Q (length m.buffer1))
@@ -158,7 +144,6 @@ module _ (Q : ℕ → Type 0) where
         ends = λ g r m u. subst Q (sym (completed-first-length g r.operation m)) u;
         cuts = λ g junk r m u. subst Q (sym (lost-first-length g r.operation junk m)) u;
         pins = λ high r m u. u;
-        clears = λ sector r m u. u;
       }
 
 -- two things that are kept are kept together
@@ -169,7 +154,6 @@ both_steady P Q v w =
       ends = λ g r m u. (v.ends g r m u.0, w.ends g r m u.1);
       cuts = λ g junk r m u. (v.cuts g junk r m u.0, w.cuts g junk r m u.1);
       pins = λ high r m u. (v.pins high r m u.0, w.pins high r m u.1);
-      clears = λ sector r m u. (v.clears sector r m u.0, w.clears sector r m u.1);
     }
 
 -- ---- a state whose registers and buffers have their lengths
@@ -197,21 +181,7 @@ whole_steady =
           };
       pins = λ high r m u.
           record {
-            registers =
-                record { protection = u.registers.protection; lockdown = u.registers.lockdown; user = u.registers.user; factory = u.registers.factory; tally = u.registers.tally };
-            buffer1 = u.buffer1;
-            buffer2 = u.buffer2;
-          };
-      clears = λ sector r m u.
-          record {
-            registers =
-                record {
-                  protection = u.registers.protection;
-                  lockdown = u.registers.lockdown;
-                  user = u.registers.user;
-                  factory = u.registers.factory;
-                  tally = length-cleared sector r.tally ∙ u.registers.tally;
-                };
+            registers = record { protection = u.registers.protection; lockdown = u.registers.lockdown; user = u.registers.user; factory = u.registers.factory };
             buffer1 = u.buffer1;
             buffer2 = u.buffer2;
           };

@@ -25,7 +25,6 @@ use Rattle.registers.specs.declared.Operation.{Operation}
 use Rattle.registers.specs.declared.Operation.TheVariants as O
 use Rattle.registers.specs.declared.Registers.{Registers}
 use Rattle.registers.specs.Fields.{with_operation}
-use Rattle.registers.specs.Tally.{worn}
 use Rattle.registers.specs.Protection.{has_bits, guarded, sealed}
 use Rattle.registers.proofs.Places.{placed_known}
 use Rattle.control.specs.Completion.{completed, completed_by}
@@ -37,7 +36,7 @@ use Rattle.state.specs.Memory.{Memory, State}
 use Rattle.state.specs.Frames.{is_idle, reply_of, sent_memory}
 use Rattle.state.specs.Completion.{completed_memory}
 use Rattle.state.proofs.Lengths.{sent-array}
-use Rattle.state.proofs.Loads.{protection-memory, lockdown-memory, load-first, program_page, program_other, program_rest, compare_same, compare-rest, erase_block-array}
+use Rattle.state.proofs.Loads.{protection-memory, lockdown-memory, load_first, program_page, program_other, program_rest, compare_same, compare-rest, erase_block-array}
 use Rattle.slots.specs.declared.Course.{Course}
 use Rattle.slots.specs.declared.Kind.{Kind}
 use Rattle.slots.specs.declared.Command.TheVariants as C
@@ -45,18 +44,22 @@ use Rattle.slots.specs.declared.Stage.TheVariants.{Going, Ended}
 use Rattle.slots.specs.declared.Step.{Step}
 use Rattle.slots.specs.declared.Step.TheVariants.{Wait, Protection, Lockdown, Read, Load, Send}
 use Rattle.state.specs.Outcomes.{part_in}
-use Rattle.slots.specs.Plans.{pages, run_by, plan_of, bound, step_at, is_end}
+use Rattle.slots.specs.Plans.{pages, plan_of, bound, step_at, is_end}
 use Rattle.slots.specs.Driver.{Holding, shape_of, frame_byte, frame_of, stored_by, loaded, register_in, heard, moved, noted, course_by, read_in, marred, taken_by, is_ended}
 use Rattle.slots.specs.Calls.{Request, Secret, Open, Closed, first_course, refusal_of, start_open, start_closed, ran}
 use Rattle.slots.specs.Quiet.{page_in}
-use Rattle.slots.proofs.Places.{never, known, rest_at, rest-zero, rest-first, and_none}
-use Rattle.slots.proofs.Blind.{load-registers, filler, protection_form, lockdown_form, protection-registers, lockdown-registers}
+use Rattle.slots.proofs.Places.{never, known, rest_at, rest-zero, rest-first}
+use Rattle.slots.proofs.Blind.{load_registers, filler, protection_form, lockdown_form, protection-registers, lockdown-registers}
 use Rattle.slots.proofs.Bound.{begin_ok}
 use Rattle.slots.proofs.Sent.{read_keeps, read_memory, load_form, page_told, operation_of, poll_compare, protection-free, lockdown-free}
 use Rattle.slots.proofs.Steady.{Steady, array_steady, buffer_steady, both_steady}
 use Rattle.slots.proofs.Track.{Facts, Next, Turned, idle_stays, stop, carry, wait_next, sent-next, run_tracked}
 
 -- ---- sealed or not
+
+and_none : (b : Bool) → (b && false) ≡ false
+and_none true = refl
+and_none false = refl
 
 free : (g : Geometry) (r : Registers) (s : ℕ) → has_bits g r.lockdown s ≡ false → (has_bits g r.protection s ≡ false) ⊎ (guarded r ≡ false) → sealed g r s ≡ false
 unfolding sealed
@@ -85,10 +88,9 @@ pub room_steady : (g : Geometry) → Steady (λ r m. Room g m)
 room_steady g =
     both_steady (λ r m. part_of (length m.array) ≡ Known g) (λ r m. g.size ≤ length m.buffer1) (array_steady (λ n. part_of n ≡ Known g)) (buffer_steady (λ n. g.size ≤ n))
 
--- what a call writes: its run starts with the slot; whether it loads pages at all; byte i of the slot; what page p holds before it is programmed; what holds while the first wait lasts; and of the driver's data
+-- what a call writes: whether it loads pages at all; byte i of the slot; what page p holds before it is programmed; what holds while the first wait lasts; and of the driver's data
 -- before a page's first frame, and before its 84
 pub record Writer (g : Geometry) (K : Kind) (slot : ℕ) : Type 1 where
-  pub starts : (run_by K g slot).first ≡ 8 * slot
   pub Loads : Type 0
   pub bytes : ℕ → ℕ
   pub Was : ℕ → List ℕ → Type 0
@@ -121,14 +123,10 @@ module _ (g : Geometry) (K : Kind) (slot : ℕ) (W : Writer g K slot) (fits : 8 
   end = 8 * slot + 8
 
   abbrev S : ℕ
-  S = sector_of g (run_by K g slot).first
+  S = sector_of g (8 * slot)
 
   served : S < register_room + 1
-  served = subst (λ (p : ℕ). sector_of g p < register_room + 1) (sym W.starts) (sector_served g (g.pages * g.size) (8 * slot) few (omega arith))
-
-  -- the slot's pages are in the part, and in its sector
-  inside : (p : ℕ) → first ≤ p → p < end → (p < g.pages) × (sector_of g p ≡ S)
-  inside p l u = let i = slot-inside g slot few fits p l u in (i.0, i.1 ∙ ap (sector_of g) (sym W.starts))
+  served = sector_served g (g.pages * g.size) (8 * slot) few (omega arith)
 
   abbrev In : ℕ → Type 0
   In p = (first ≤ p) × (p < end)
@@ -198,7 +196,7 @@ module _ (g : Geometry) (K : Kind) (slot : ℕ) (W : Writer g K slot) (fits : 8 
         go : (x : Bool) → eqb q p ≡ x → page_of g q done.array ≡ page_in g W.bytes q
         go true e =
             subst (λ (n : ℕ). page_of g n done.array ≡ page_in g W.bytes n) (sym (eqb-true q p e))
-            (program_page g One p m (sized (length m.array) g b.0) (inside p i.0 i.1).0 b.1 ∙ f)
+            (program_page g One p m (sized (length m.array) g b.0) (slot-inside g slot few fits p i.0 i.1).0 b.1 ∙ f)
         go false e = let x = eqb-false q p e in program_other g One p m q x ∙ s q l (omega (arith, x))
 
   blank-stored : (m : Memory) → Room g m → ((i : ℕ) → W.bytes i ≡ 255) → Stored end (completed_memory g (O.EraseBlock slot) m)
@@ -218,13 +216,13 @@ module _ (g : Geometry) (K : Kind) (slot : ℕ) (W : Writer g K slot) (fits : 8 
   stays (buffered p) l d r m h b u = idle_stays g r m (λ t n. Holds (buffered p) l d t n h) u.0.0 u
   stays (wrote p) l d r m h b (i, a, s, w, f, o, inl e) = idle_stays g r m (λ t n. Holds (wrote p) l d t n h) e.0 (i, a, s, w, f, o, inl e)
   stays (wrote p) l d r m h b (i, a, s, w, f, o, inr e) =
-      subst (λ (x : Operation). Holds (wrote p) l d (with_operation (worn g x (completed_by g x r)) O.Idle) (completed_memory g x m) h) (sym e.0)
+      subst (λ (x : Operation). Holds (wrote p) l d (with_operation (completed_by g x r) O.Idle) (completed_memory g x m) h) (sym e.0)
       (i, a, s, done-left p m i b w, f, ap (take g.size) (program_rest g One p m).0 ∙ o, inl (refl, done-stored p m i b e.1 o))
   stays (written p) l d r m h b u = idle_stays g r m (λ t n. Holds (written p) l d t n h) u.0.0 u
   stays (compared p) l d r m h b (i, a, s, t, w, f, o, inl e) = idle_stays g r m (λ t n. Holds (compared p) l d t n h) e.0 (i, a, s, t, w, f, o, inl e)
   stays (compared p) l d r m h b (i, a, s, t, w, f, o, inr e) =
       let same : page_of g p m.array ≡ take g.size m.buffer1 = t p i.0 (omega arith) ∙ sym o in
-      subst (λ (x : Operation). Holds (compared p) l d (with_operation (worn g x (completed_by g x r)) O.Idle) (completed_memory g x m) h) (sym e) (
+      subst (λ (x : Operation). Holds (compared p) l d (with_operation (completed_by g x r) O.Idle) (completed_memory g x m) h) (sym e) (
         i,
         a,
         s,
@@ -236,7 +234,7 @@ module _ (g : Geometry) (K : Kind) (slot : ℕ) (W : Writer g K slot) (fits : 8 
       )
   stays erased l d r m h b (a, s, f, inl e) = idle_stays g r m (λ t n. Holds erased l d t n h) e.0 (a, s, f, inl e)
   stays erased l d r m h b (a, s, f, inr e) =
-      subst (λ (x : Operation). Holds erased l d (with_operation (worn g x (completed_by g x r)) O.Idle) (completed_memory g x m) h) (sym e.0)
+      subst (λ (x : Operation). Holds erased l d (with_operation (completed_by g x r) O.Idle) (completed_memory g x m) h) (sym e.0)
       (a, s, f, inl (refl, blank-stored m b e.1))
 
   -- ---- one step
@@ -255,11 +253,11 @@ module _ (g : Geometry) (K : Kind) (slot : ℕ) (W : Writer g K slot) (fits : 8 
     Goes x = Turned facts g K S limit plan c r m h x
 
     -- an 84: the buffer holds the page, all else is as it was
-    load-next : W.Loads → (p : ℕ) → In p → Ready r → Unsealed r → Stored p m → Left p m → W.Filled p h → Lawful (buffered p) rest → Goes (Load p)
+    load_next : W.Loads → (p : ℕ) → In p → Ready r → Unsealed r → Stored p m → Left p m → W.Filled p h → Lawful (buffered p) rest → Goes (Load p)
     unfolding taken_by course_by loaded
-    load-next o p i y s t w f l = λ _. (
+    load_next o p i y s t w f l = λ _. (
       buffered p,
-      subst (λ (z : Registers). Holds (buffered p) c.listed c.guarded z (sent_memory g r (frame_of g K h (Load p)) m) h) (sym (load-registers g r K p h))
+      subst (λ (z : Registers). Holds (buffered p) c.listed c.guarded z (sent_memory g r (frame_of g K h (Load p)) m) h) (sym (load_registers g r K p h))
           (y, s, (λ q a u. ap (page_of g q) xs ∙ t q a u), (λ q a u. subst (λ (z : List ℕ). W.Was q (page_of g q z)) (sym xs) (w q a u)), W.next p h f, first-bytes),
       l,
     )
@@ -271,7 +269,7 @@ module _ (g : Geometry) (K : Kind) (slot : ℕ) (W : Writer g K slot) (fits : 8 
         first-bytes =
             let z = sized (length m.array) g b.0 in
             ap (λ (f : List ℕ). take g.size (sent_memory g r f m).buffer1) (load_form g K h p)
-            ∙ load-first g r m (tabulate g.size (loaded g K h (Load p))) y (omega (arith, z.some)) (length-tabulate g.size (loaded g K h (Load p))) b.1
+            ∙ load_first g r m (tabulate g.size (loaded g K h (Load p))) y (omega (arith, z.some)) (length-tabulate g.size (loaded g K h (Load p))) b.1
             ∙ tabulate-same g.size (loaded g K h (Load p)) (λ i. W.bytes (g.size * (p % 8) + i)) (W.loads o p h i.0 i.1 f)
 
     -- the chip is idle, so what was under way has ended
@@ -317,27 +315,27 @@ module _ (g : Geometry) (K : Kind) (slot : ℕ) (W : Writer g K slot) (fits : 8 
         (λ z _. (fresh first, (v.0, open_told c.listed c.guarded v.0 v.1 v.2 z, (λ q a u. absurd (omega arith)), v.3, v.4), l)))
     turned some e (reads {p} o i l) v =
         let page = tabulate g.size (λ j. get_or (replied (Read p)) (8 + j) 255) in
-        let told = page_told g r m K h p v.0 b.0 (inside p i.0 i.1).0 in
+        let told = page_told g r m K h p v.0 b.0 (slot-inside g slot few fits p i.0 i.1).0 in
         let f : W.Filled p (read_in g K p h page) = W.reads o p h page i.0 i.1 (subst (W.Was p) (sym told) (v.3 p (omega arith) i.1)) v.4 in
         carry facts g K S limit plan c r m h (Read p) (moved next limit c) (read_in g K p h page) (read_keeps g r K h p) (read_memory g r m K h p) (λ _. (filled p, (v.0, v.1, v.2, v.3, f), l))
-    turned some e (loads {p} o i l) v = load-next o p i v.0 v.1 v.2 v.3 v.4 l
-    turned some e (puts {p} o i f l) v = load-next o p i v.0 v.1 v.2 v.3 (f h v.4) l
+    turned some e (loads {p} o i l) v = load_next o p i v.0 v.1 v.2 v.3 v.4 l
+    turned some e (puts {p} o i f l) v = load_next o p i v.0 v.1 v.2 v.3 (f h v.4) l
     turned some e (programs {p} i l) v =
-        let n = inside p i.0 i.1 in
+        let n = slot-inside g slot few fits p i.0 i.1 in
         sent-next facts g K S limit plan c r m h C.Program p (wrote p) b.0 v.0 n.0 (ap (sealed g r) n.1 ∙ v.1)
         (i, v.0.1, v.1, (λ q a u. v.3 q (omega arith) u), v.4, v.5, inr (refl, v.2)) l
     turned some e (waited {p} l) v =
         wait_next facts g K S limit plan c r m h false (wrote p) (written p) live e (waited l) v l (λ y. (y, v.2, ended_program p v.6 y, v.3, v.4, v.5)) refl
     turned some e (compares {p} i l) v =
-        let n = inside p i.0 i.1 in
+        let n = slot-inside g slot few fits p i.0 i.1 in
         sent-next facts g K S limit plan c r m h C.Compare p (compared p) b.0 v.0 n.0 (ap (sealed g r) n.1 ∙ v.1)
         (i, v.0.1, v.1, v.2, v.3, v.4, v.5, inr refl) l
     turned some e (checks {p} l) v =
         wait_next facts g K S limit plan c r m h true (compared p) (fresh (suc p)) live e (checks l) v l (λ y. (y, v.2, v.3, v.4, v.5)) (compare-told p v.1 v.7)
     turned some e (erases f w l) v =
-        let n = inside (8 * slot) (omega arith) (omega arith) in
+        let n = slot-inside g slot few fits (8 * slot) (omega arith) (omega arith) in
         let k : 8 * slot / 8 ≡ slot = omega arith in
-        sent-next facts g K S limit plan c r m h C.Erase (8 * slot) erased b.0 v.0 n.0 (ap (sealed g r) n.1 ∙ v.1)
+        sent-next facts g K S limit plan c r m h C.Erase (8 * slot) erased b.0 v.0 n.0 v.1
         (v.0.1, v.1, w h v.4, inr (ap (λ (x : ℕ). O.EraseBlock x) k, f)) l
     turned some e (blanks l) v =
         wait_next facts g K S limit plan c r m h false erased (fresh end) live e (blanks l) v l (λ y. (y, v.1, ended_erase v.3 y, (λ q a u. absurd (omega arith)), v.2)) refl
@@ -378,29 +376,29 @@ pub record Wrote (g : Geometry) (K : Kind) (slot : ℕ) (W : Writer g K slot) (z
   pub pages : (q : ℕ) → 8 * slot ≤ q → q < 8 * slot + 8 → page_of g q z.1.memory.array ≡ page_in g W.bytes q
   pub fresh : W.Fresh (8 * slot + 8) z.1.holding
 
-module _ (g : Geometry) (v : Request) (W : Writer g v.asked.kind v.asked.unit) where
+module _ (g : Geometry) (v : Request) (W : Writer g v.asked.kind v.asked.slot) where
   pub call_stores : (x : Secret) (s : State) → part_in s ≡ Known g → g.size ≤ length s.memory.buffer1
       → eqb (number_of (refusal_of g (length s.memory.array) v)) 0 ≡ true
-      → (fits : 8 * v.asked.unit + 8 ≤ g.pages) (few : Sized g (g.pages * g.size))
-      → Lawful g v.asked.kind v.asked.unit W fits few cold (plan_of g v.asked)
-      → W.Opens s.registers s.memory → W.Fresh (8 * v.asked.unit) (start_closed x s.memory).holding
-      → (ran g v x s).0.course.stage ≡ Ended Answers.Done → Wrote g v.asked.kind v.asked.unit W (ran g v x s)
+      → (fits : 8 * v.asked.slot + 8 ≤ g.pages) (few : Sized g (g.pages * g.size))
+      → Lawful g v.asked.kind v.asked.slot W fits few cold (plan_of g v.asked)
+      → W.Opens s.registers s.memory → W.Fresh (8 * v.asked.slot) (start_closed x s.memory).holding
+      → (ran g v x s).0.course.stage ≡ Ended Answers.Done → Wrote g v.asked.kind v.asked.slot W (ran g v x s)
   unfolding ran start_open start_closed first_course is_ended
   call_stores x s p b e fits few law o f stage =
       let n = length s.memory.array in
       let part = (placed_known n s.registers.operation g p).0 in
-      let F = facts g v.asked.kind v.asked.unit W fits few in
-      let t = run_tracked F g v (stays g v.asked.kind v.asked.unit W fits few)
-      (λ c r m h b live x k some z l u. turned g v.asked.kind v.asked.unit W fits few v.asked.limit (plan_of g v.asked) c r m h b live {x = x} {k = k} some z l u)
+      let F = facts g v.asked.kind v.asked.slot W fits few in
+      let t = run_tracked F g v (stays g v.asked.kind v.asked.slot W fits few)
+      (λ c r m h b live x k some z l u. turned g v.asked.kind v.asked.slot W fits few v.asked.limit (plan_of g v.asked) c r m h b live {x = x} {k = k} some z l u)
       (bound g v.asked) (start_open g n v s.registers) (start_closed x s.memory) (begin_ok g n v e)
       (record {
         room = (part, b);
-        here = λ _. (cold, (o, f), subst (Lawful g v.asked.kind v.asked.unit W fits few cold) (sym (rest-zero (plan_of g v.asked))) law);
+        here = λ _. (cold, (o, f), subst (Lawful g v.asked.kind v.asked.slot W fits few cold) (sym (rest-zero (plan_of g v.asked))) law);
         uncut = λ _. refl;
         over = λ h. never (ap is_ended (sym (ap (λ (b : Bool). cond b Going (Ended (refusal_of g n v))) e)) ∙ ap is_ended h);
       }) in
       let z = ran g v x s in
       let k = t.here (inr stage) in
-      let fin = at_finish g v.asked.kind v.asked.unit W fits few z.0.course.listed z.0.course.guarded z.0.registers z.1.memory z.1.holding k.2
+      let fin = at_finish g v.asked.kind v.asked.slot W fits few z.0.course.listed z.0.course.guarded z.0.registers z.1.memory z.1.holding k.2
       (ap is_end (rest-first (plan_of g v.asked) z.0.course.place) ∙ t.over stage) k.1 in
       record { uncut = t.uncut stage; ready = fin.0; room = t.room; pages = fin.1; fresh = fin.2 }

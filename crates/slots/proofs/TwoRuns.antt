@@ -31,10 +31,9 @@ use Rattle.state.specs.Whole.{Whole}
 use Rattle.slots.specs.Plans.{Asked, bound}
 use Rattle.slots.specs.Driver.{verdict_answer, weighed, told_by}
 use Rattle.slots.specs.Refusals.{is_over, is_short, raw_refusal, flaws_in, is_misdated}
-use Rattle.slots.specs.Calls.{Out, Request, Secret, Open, refused, scripted, registers_after, state_after, run, start_open, start_closed, ran, reached, answer_in, answer_at, out_from, call_out, call_next, raw_sent, raw_out, raw_next, cut_last, refreshed}
+use Rattle.slots.specs.Calls.{Out, Request, Secret, Open, refused, scripted, registers_after, state_after, run, start_open, start_closed, ran, reached, answer_in, answer_at, out_from, call_out, call_next, raw_sent, raw_out, raw_next}
 use Rattle.slots.specs.Lists.{Op, asks, secret, met, call_by, raw_by, out_of, called_by, raw_left, next_of, run_list}
 use Rattle.slots.specs.Alike.{Twins, Given, calls, raws, straights, pins, ends, cuts, oversize, call_junk, raw_junk, cut_junk, junk_by, junk_of, Alike, AlikeLists, Soft, FromData, Same, AllSame, misdated}
-use Rattle.slots.proofs.Refreshes.{open_answer, refreshed_open}
 use Rattle.slots.proofs.Parts.{out_at, out_at_lem, next_at, next_at_lem}
 use Rattle.slots.proofs.Blind.{run_blind}
 use Rattle.slots.proofs.Steady.{array_steady, op_keeps, whole_op}
@@ -85,7 +84,7 @@ pub record Near (x y : Out) : Type 0 where
   pub polls : x.polls ≡ y.polls
   pub answer : Agree x.answer y.answer
 
--- ---- put, patch, get, wipe, refresh
+-- ---- put, patch, get, wipe
 
 pub ran_blind : (g : Geometry) {v w : Request} (e : v ≡ w) (x y : Secret) (s t : State) → Twins s t → (ran g v x s).0 ≡ (ran g w y t).0
 unfolding ran
@@ -115,14 +114,12 @@ cut-registers false g junk s = refl
 
 call-registers : (g : Geometry) {v w : Request} (e : v ≡ w) (x y : Secret) (s t : State) → Twins s t → call_junk g v x s ≡ call_junk g w y t
     → (call_next g v x s).registers ≡ (call_next g w y t).registers
-unfolding call_next cut_last call_junk
+unfolding call_next call_junk
 call-registers g {v} {w} e x y s t h j =
     let b : (ran g v x s).0 ≡ (ran g w y t).0 = ran_blind g e x y s t h in
-    refreshed_open g v x s (cut_last g v x s).registers
-    ∙ ap (refreshed v.asked (open_answer (ran g v x s).0)) (cut-registers (ran g v x s).0.cut g x.junk (reached (ran g v x s)))
-    ∙ (λ i. refreshed (e i).asked (open_answer (b i)) (cond (b i).cut (lost g (b i).registers (j i)) (b i).registers))
-    ∙ sym (ap (refreshed w.asked (open_answer (ran g w y t).0)) (cut-registers (ran g w y t).0.cut g y.junk (reached (ran g w y t))))
-    ∙ sym (refreshed_open g w y t (cut_last g w y t).registers)
+    cut-registers (ran g v x s).0.cut g x.junk (reached (ran g v x s))
+    ∙ (λ i. cond (b i).cut (lost g (b i).registers (j i)) (b i).registers)
+    ∙ sym (cut-registers (ran g w y t).0.cut g y.junk (reached (ran g w y t)))
 
 -- ---- raw
 
@@ -159,13 +156,13 @@ raw-registers false false g n f junk s = refl
 -- ---- each call and event
 
 -- of an event's outcome
-pick-state : (b : Bool) (x y : Left) → (cond b x y).state.registers ≡ cond b x.state.registers y.state.registers
-pick-state true x y = refl
-pick-state false x y = refl
+pick_state : (b : Bool) (x y : Left) → (cond b x y).state.registers ≡ cond b x.state.registers y.state.registers
+pick_state true x y = refl
+pick_state false x y = refl
 
-pick-answer : (b : Bool) (x y : Left) → (cond b x y).answer ≡ cond b x.answer y.answer
-pick-answer true x y = refl
-pick-answer false x y = refl
+pick_answer : (b : Bool) (x y : Left) → (cond b x y).answer ≡ cond b x.answer y.answer
+pick_answer true x y = refl
+pick_answer false x y = refl
 
 -- an event compares by its answer
 met-same : (x y : Left) → x.answer ≡ y.answer → Near (met x) (met y)
@@ -189,13 +186,13 @@ module _ (s t : State) (h : Twins s t) where
   out-same (Known g) (raws frame script {j} {k} {l} {m} {a} {b} ej el ea) e = raw_same g frame script j k l m a b s t ej el ea h
   out-same (Known g) (straights frame {a} {b} ea) e =
       met-same (sent_by (Known g) s frame a) (sent_by (Known g) t frame b)
-      (pick-answer (framed (length frame) (length a)) _ _ ∙ (λ i. cond (framed (length frame) (ea i)) Answers.Done Answers.Frame) ∙ sym (pick-answer (framed (length frame) (length b)) _ _))
+      (pick_answer (framed (length frame) (length a)) _ _ ∙ (λ i. cond (framed (length frame) (ea i)) Answers.Done Answers.Frame) ∙ sym (pick_answer (framed (length frame) (length b)) _ _))
   out-same (Known g) (pins high) e = met-same (pin_outcome high s) (pin_outcome high t) refl
   out-same (Known g) ends e = met-same (ended_by (Known g) s) (ended_by (Known g) t) refl
   out-same (Known g) (cuts {j} {k} ej) e =
       met-same (cut_by (Known g) j s) (cut_by (Known g) k t)
-      (pick-answer (cut_fits g (length s.memory.array) (length j)) _ _ ∙ (λ i. cond (cut_fits g (h.size i) (ej i)) Answers.Done Answers.Script)
-      ∙ sym (pick-answer (cut_fits g (length t.memory.array) (length k)) _ _))
+      (pick_answer (cut_fits g (length s.memory.array) (length j)) _ _ ∙ (λ i. cond (cut_fits g (h.size i) (ej i)) Answers.Done Answers.Script)
+      ∙ sym (pick_answer (cut_fits g (length t.memory.array) (length k)) _ _))
   out-same Unknown (calls a script ej el ex) e = refl-same refl refl refl refl
   out-same Unknown (raws frame script ej el ea) e = refl-same refl refl refl refl
   out-same Unknown (straights frame ea) e = refl-same refl refl refl refl
@@ -213,17 +210,17 @@ module _ (s t : State) (h : Twins s t) where
       ∙ (λ i. cond (eqb (number_of (r i)) 0) (cond (eqb (scripted script 0) 2) (lost g (control g (h.registers i) frame).registers (z i)) (registers_after g (scripted script 0) (control g (h.registers i) frame).registers)) (h.registers i))
       ∙ sym (raw-registers (eqb (number_of (raw_refusal g (length t.memory.array) frame (length b) (length m) script (length k))) 0) (eqb (scripted script 0) 2) g (scripted script 0) frame k t)
   registers-same (Known g) (straights frame {a} {b} ea) e z =
-      pick-state (framed (length frame) (length a)) _ _
+      pick_state (framed (length frame) (length a)) _ _
       ∙ (λ i. cond (framed (length frame) (ea i)) (control g (h.registers i) frame).registers (h.registers i))
-      ∙ sym (pick-state (framed (length frame) (length b)) _ _)
+      ∙ sym (pick_state (framed (length frame) (length b)) _ _)
   registers-same (Known g) (pins high) e z = λ i. with_wp (h.registers i) high
   registers-same (Known g) ends e z = λ i. completed g (h.registers i)
   registers-same (Known g) (cuts {j} {k} ej) e z =
-      pick-state (cut_fits g (length s.memory.array) (length j)) _ _
+      pick_state (cut_fits g (length s.memory.array) (length j)) _ _
       ∙ cut-kept (cut_fits g (length s.memory.array) (length j)) s.registers (reaching g s.registers.operation j)
       ∙ (λ i. cond (cut_fits g (h.size i) (ej i)) (lost g (h.registers i) (z i)) (h.registers i))
       ∙ sym (cut-kept (cut_fits g (length t.memory.array) (length k)) t.registers (reaching g t.registers.operation k))
-      ∙ sym (pick-state (cut_fits g (length t.memory.array) (length k)) _ _)
+      ∙ sym (pick_state (cut_fits g (length t.memory.array) (length k)) _ _)
     where
       -- only a cut that is not refused takes junk
       cut-kept : (b : Bool) (r : Registers) (w : List ℕ) → cond b (lost g r w) r ≡ cond b (lost g r (cond b w [])) r

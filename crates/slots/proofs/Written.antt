@@ -34,10 +34,9 @@ use Rattle.slots.proofs.Stores.{Writer, cold, Lawful, opens, lists, frees, reads
 -- ---- put
 
 unfoldable pub put_writer : (g : Geometry) (slot : ℕ) (period : Period) (recipe : List ℕ) → Writer g Put slot
-unfolding read_in judged stored_by run_by
+unfolding read_in judged stored_by
 put_writer g slot period recipe =
     record {
-      starts = refl;
       Loads = Unit {0};
       bytes = image period recipe;
       Was = λ _ _. Unit {0};
@@ -60,10 +59,9 @@ put_lawful g slot period recipe fits few =
 -- ---- wipe
 
 unfoldable pub wipe_writer : (g : Geometry) (slot : ℕ) → Writer g Wipe slot
-unfolding stored_by run_by
+unfolding stored_by
 wipe_writer g slot =
     record {
-      starts = refl;
       Loads = ⊥;
       bytes = λ _. 255;
       Was = λ _ _. Unit {0};
@@ -146,10 +144,9 @@ module _ (g : Geometry) (slot place : ℕ) (bytes : List ℕ) (old : ℕ → ℕ
       judges q x v e f t false z = t (λ y. eqb-false (p % 8) 0 z (omega (arith, y)))
 
   unfoldable pub patch_writer : Writer g Patch slot
-  unfolding stored_by run_by
+  unfolding stored_by
   patch_writer =
       record {
-        starts = refl;
         Loads = Unit {0};
         bytes = λ i. changed verdict_on (head_size (old 0)) place bytes (old i) i;
         Was = λ p page. page ≡ page_in g old p;

@@ -1,13 +1,11 @@
 -- The calls run on the chip, one frame after another, each with its script byte. A run's state has a half that the wire may show (`Open`) and one that it
 -- may not (`Closed`).
 -- Assumes nothing.
-use Rattle.std.specs.Prelude.{ℕ, zero, suc, ◌+◌, ◌/◌, ◌%◌, Bool, true, false, cond, ◌&&◌, List, [], ◌∷◌, ◌++◌, length, get_or, take, drop, replicate, eqb}
+use Rattle.std.specs.Prelude.{ℕ, zero, suc, ◌+◌, ◌/◌, ◌%◌, Bool, false, cond, List, [], ◌∷◌, ◌++◌, length, get_or, take, drop, replicate, eqb}
 use Rattle.geometry.specs.Parts.{slot_room}
 use Rattle.slices.specs.Lists.{over}
 use Rattle.geometry.specs.declared.Geometry.{Geometry}
 use Rattle.registers.specs.declared.Registers.{Registers}
-use Rattle.registers.specs.Fields.{with_tally}
-use Rattle.registers.specs.Tally.{cleared}
 use Rattle.control.specs.Control.{control}
 use Rattle.control.specs.Completion.{completed}
 use Rattle.state.specs.declared.Answer.{Answer}
@@ -20,7 +18,7 @@ use Rattle.slots.specs.declared.Aim.{Aim}
 use Rattle.slots.specs.declared.Course.{Course}
 use Rattle.slots.specs.declared.Flaws.{Flaws}
 use Rattle.slots.specs.declared.Kind.{Kind}
-use Rattle.slots.specs.declared.Kind.TheVariants.{Put, Patch, Get, Wipe, Refresh}
+use Rattle.slots.specs.declared.Kind.TheVariants.{Put, Patch, Get, Wipe}
 use Rattle.slots.specs.declared.Stage.TheVariants.{Going, Ended}
 use Rattle.slots.specs.declared.Told.{Told}
 use Rattle.slots.specs.declared.Told.TheVariants.{Running, Answered}
@@ -66,9 +64,9 @@ memory_after g b r m = cond (eqb b 0) (completed_memory g r.operation m) m
 unfoldable pub state_after : Geometry → ℕ → State → State
 state_after g b s = record { registers = registers_after g b s.registers; memory = memory_after g b s.registers s.memory }
 
--- ---- put, patch, get, wipe, refresh
+-- ---- put, patch, get, wipe
 
--- Aid: what is asked, as far as the wire may depend on it: the call, slot or sector, B, script, the lengths of log and J, what is met of 5 and 14
+-- Aid: what is asked, as far as the wire may depend on it: the call, slot, B, script, the lengths of log and J, what is met of 5 and 14
 pub record Request : Type 0 where
   pub asked : Asked
   pub script : List ℕ
@@ -187,7 +185,6 @@ count_by Put staged = 0
 count_by Patch staged = 0
 count_by Get staged = length_in staged
 count_by Wipe staged = 0
-count_by Refresh staged = 0
 
 -- (11.8) with the answer 0 alone
 unfoldable pub count_of : Kind → Answer → List ℕ → ℕ
@@ -209,7 +206,7 @@ out_from v x z a =
       lent = delivered (count_of v.asked.kind a z.1.holding.staged) z.1.holding.staged x.lent;
     }
 
--- Aid: a call's answer. A run always comes to an end, so that the first row is never met (`call_ends_lem`)
+-- Aid: a call's answer. A run always comes to an end, so that the first row is never met (`call_ends`)
 unfoldable pub answer_in : Told → Answer
 answer_in Running = Answers.Busy
 answer_in (Answered a) = a
@@ -222,31 +219,10 @@ answer_at z = answer_in (told_by z.0.course.stage z.1.holding.verdict)
 unfoldable pub call_out : Geometry → Request → Secret → State → Out
 call_out g v x s = out_from v x (ran g v x s) (answer_at (ran g v x s))
 
--- (11.4) a cut comes behind the call's last frame
+-- (11.4) a cut is the call's last act
 -- (12.16) what was done before stays
-unfoldable pub cut_last : Geometry → Request → Secret → State → State
-cut_last g v x s = cond (ran g v x s).0.cut (cut_state g x.junk (reached (ran g v x s))) (reached (ran g v x s))
-
--- (11.18) a refresh
-unfoldable pub is_refresh : Kind → Bool
-is_refresh Put = false
-is_refresh Patch = false
-is_refresh Get = false
-is_refresh Wipe = false
-is_refresh Refresh = true
-
--- (11.18) the call is a refresh that answers 0
-unfoldable pub is_refreshed : Kind → Answer → Bool
-is_refreshed k n = is_refresh k && eqb (number_of n) 0
-
--- (11.18) its sector's counter is then set to 0; else the registers stay
-unfoldable pub refreshed : Asked → Answer → Registers → Registers
-refreshed a n r = cond (is_refreshed a.kind n) (with_tally r (cleared a.unit r.tally)) r
-
--- (11.18) the chip as a call leaves it
 unfoldable pub call_next : Geometry → Request → Secret → State → State
-call_next g v x s =
-    record { registers = refreshed v.asked (answer_at (ran g v x s)) (cut_last g v x s).registers; memory = (cut_last g v x s).memory }
+call_next g v x s = cond (ran g v x s).0.cut (cut_state g x.junk (reached (ran g v x s))) (reached (ran g v x s))
 
 -- ---- raw
 

@@ -12,9 +12,9 @@ use Rattle.state.specs.Answers.{number_of}
 use Rattle.slots.specs.declared.Aim.{Aim}
 use Rattle.slots.specs.declared.Course.{Course}
 use Rattle.slots.specs.declared.Kind.{Kind}
-use Rattle.slots.specs.declared.Kind.TheVariants.{Put, Patch, Get, Wipe, Refresh}
+use Rattle.slots.specs.declared.Kind.TheVariants.{Put, Patch, Get, Wipe}
 use Rattle.slots.specs.declared.Command.{Command}
-use Rattle.slots.specs.declared.Command.TheVariants.{Program, Erase, Compare, Rewrite}
+use Rattle.slots.specs.declared.Command.TheVariants.{Program, Erase, Compare}
 use Rattle.slots.specs.declared.Step.{Step}
 use Rattle.slots.specs.declared.Step.TheVariants.{Wait, Protection, Lockdown, Read, Load, Send, End}
 use Rattle.slots.specs.declared.Stage.{Stage}
@@ -54,7 +54,6 @@ unfoldable pub opcode_of : Command → ℕ
 opcode_of Program = 0x83
 opcode_of Erase = 0x50
 opcode_of Compare = 0x60
-opcode_of Rewrite = 0x58
 
 -- (10.7) a step's frame but for its data
 unfoldable pub shape_of : Geometry → Step → Shape
@@ -82,7 +81,6 @@ stored_by Put h i = image h.aim.period h.payload i
 stored_by Patch h i = changed h.verdict (head_size (version_in h.staged)) h.aim.place h.payload (get_or h.staged i 0) i
 stored_by Get h i = 0
 stored_by Wipe h i = 0
-stored_by Refresh h i = 0
 
 -- (10.10) the data of an 84: page p is page p mod 8 of its slot
 unfoldable pub loaded : Geometry → Kind → Holding → Step → ℕ → ℕ
@@ -185,7 +183,6 @@ judged g Put h bytes = Good
 judged g Patch h bytes = patch_verdict g (h.aim.place + length h.payload) bytes
 judged g Get h bytes = get_verdict g h.aim.today bytes
 judged g Wipe h bytes = Good
-judged g Refresh h bytes = Good
 
 -- (10.19) page p's bytes go to their place among the slot's
 -- (10.20) the slot's first page is judged

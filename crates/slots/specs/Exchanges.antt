@@ -223,7 +223,7 @@ OneByOne g k h [] (e ∷ es) h' = ⊥
 OneByOne g k h (x ∷ xs) [] h' = ⊥
 OneByOne g k h (x ∷ xs) (e ∷ es) h' = (e.frame ≡ frame_of g k h x) × OneByOne g k (taken_by x g k h e.reply) xs es h'
 
--- (14.14) an idle, awake chip, its registers of their lengths, and the call's sector not sealed where it asks
+-- (14.14) an idle, awake chip, its registers of their lengths, and the slot's sector not sealed where the call asks
 pub record Undisturbed (g : Geometry) (a : Asked) (r : Registers) : Type 0 where
   pub ready : Ready r
   pub lengths : Lengths r
@@ -233,7 +233,7 @@ pub record Undisturbed (g : Geometry) (a : Asked) (r : Registers) : Type 0 where
 pub record AsListed (g : Geometry) (a : Asked) (h : Holding) (es : List Exchange) (o : Out) : Type 0 where
   pub left : Holding
   pub sent : OneByOne g a.kind h (plan_of g a) es left
-  pub frames : o.frames ≡ frames_of a.kind g a.unit
-  pub polls : o.polls ≡ polls_of a.kind g a.unit
+  pub frames : o.frames ≡ frames_of a.kind
+  pub polls : o.polls ≡ polls_of a.kind
   pub lines : o.lines ≡ outlines es
   pub answer : o.answer ≡ verdict_answer left.verdict

@@ -9,4 +9,3 @@ pub mod Alike
 pub mod Exchanges
 pub mod Quiet
 pub mod Leaves
-pub mod Wear

@@ -12,7 +12,7 @@ use Rattle.state.specs.Answers.{number_of}
 use Rattle.slots.specs.declared.Detail.{Detail}
 use Rattle.slots.specs.declared.Flaws.{Flaws}
 use Rattle.slots.specs.declared.Kind.{Kind}
-use Rattle.slots.specs.declared.Kind.TheVariants.{Put, Patch, Get, Wipe, Refresh}
+use Rattle.slots.specs.declared.Kind.TheVariants.{Put, Patch, Get, Wipe}
 use Rattle.slots.specs.Plans.{Asked, stated}
 use Rattle.slots.specs.Details.{aim_of, storing, changing, reading, untold}
 use Rattle.slots.specs.Refusals.{flaws_in}
@@ -34,7 +34,7 @@ pub data Op : Type 0 where
 
 -- Aid: what is asked
 abbrev pub asking : Kind → ℕ → ℕ → Asked
-asking k unit limit = record { kind = k; unit = unit; limit = limit }
+asking k slot limit = record { kind = k; slot = slot; limit = limit }
 
 -- (11.14) put
 abbrev pub put : (slot limit : ℕ) (term : Term) (script recipe junk log : List ℕ) → Op
@@ -51,10 +51,6 @@ get slot limit today script junk log buffer = call (asking Get slot limit) (read
 -- (11.14) wipe
 abbrev pub wipe : (slot limit : ℕ) (script junk log : List ℕ) → Op
 wipe slot limit script junk log = call (asking Wipe slot limit) untold script [] junk log []
-
--- (11.14) refresh
-abbrev pub refresh : (sector limit : ℕ) (script junk log : List ℕ) → Op
-refresh sector limit script junk log = call (asking Refresh sector limit) untold script [] junk log []
 
 -- ---- Aid: what each is asked on a known part
 
@@ -135,19 +131,14 @@ NoMiscompare (o ∷ os) = (o.answer ≡ Answers.Miscompare → ⊥) × NoMiscomp
 
 -- ---- how many frames each may send
 
--- (14.3) the bound of each on a part: events, and a frame sent straight, are no calls, and their frames are not counted
-unfoldable pub bound_by : Part → Op → ℕ
-bound_by (Known g) (call a d script payload junk log lent) = stated a.kind g a.unit a.limit
-bound_by (Known g) (raw frame script junk log reply) = 1
-bound_by (Known g) (straight frame reply) = 0
-bound_by (Known g) (pin high) = 0
-bound_by (Known g) busy_end = 0
-bound_by (Known g) (cut junk) = 0
-bound_by Unknown o = 0
-
--- (14.3) the part looked up; where there is none, nothing is sent
-abbrev pub bound_of : Op → State → ℕ
-bound_of o s = bound_by (part_in s) o
+-- (14.3) the bound of each: events, and a frame sent straight, are no calls, and their frames are not counted
+unfoldable pub bound_of : Op → ℕ
+bound_of (call a d script payload junk log lent) = stated a.kind a.limit
+bound_of (raw frame script junk log reply) = 1
+bound_of (straight frame reply) = 0
+bound_of (pin high) = 0
+bound_of busy_end = 0
+bound_of (cut junk) = 0
 
 -- ---- refusals
 

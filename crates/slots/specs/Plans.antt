@@ -1,21 +1,21 @@
 -- A call is a plan: the frames that it sends, as steps. What follows here from a plan (how many frames, how many waits, which step stands at a
 -- place) is a fold over it.
 -- Assumes nothing.
-use Rattle.std.specs.Prelude.{ℕ, zero, suc, ◌+◌, ◌*◌, ◌/◌, Bool, true, false, cond, List, [], ◌∷◌, ◌++◌}
+use Rattle.std.specs.Prelude.{ℕ, zero, suc, ◌+◌, ◌*◌, Bool, true, false, cond, List, [], ◌∷◌, ◌++◌}
 use Rattle.geometry.specs.declared.Geometry.{Geometry}
 use Rattle.geometry.specs.declared.Run.{Run}
 use Rattle.geometry.specs.Parts.{run}
-use Rattle.geometry.specs.Sectors.{sector_of, sector_run, sector_count}
+use Rattle.geometry.specs.Sectors.{sector_of}
 use Rattle.slots.specs.declared.Kind.{Kind}
-use Rattle.slots.specs.declared.Kind.TheVariants.{Put, Patch, Get, Wipe, Refresh}
-use Rattle.slots.specs.declared.Command.TheVariants.{Program, Erase, Compare, Rewrite}
+use Rattle.slots.specs.declared.Kind.TheVariants.{Put, Patch, Get, Wipe}
+use Rattle.slots.specs.declared.Command.TheVariants.{Program, Erase, Compare}
 use Rattle.slots.specs.declared.Step.{Step}
 use Rattle.slots.specs.declared.Step.TheVariants.{Wait, Protection, Lockdown, Read, Load, Send, End}
 
--- (10.1) what a call is asked, as far as its frames may depend on it before their data: which call, the slot, of a refresh the sector, the poll limit B
+-- (10.1) what a call is asked, as far as its frames may depend on it before their data: which call, the slot, the poll limit B
 pub record Asked : Type 0 where
   pub kind : Kind
-  pub unit : ℕ
+  pub slot : ℕ
   pub limit : ℕ
 
 -- ---- the plans
@@ -31,7 +31,6 @@ is_asking Put = true
 is_asking Patch = true
 is_asking Get = false
 is_asking Wipe = true
-is_asking Refresh = true
 
 -- (10.4) the page compared with what was programmed: the wait after a 60 is checked
 abbrev pub check_page : ℕ → List Step
@@ -47,23 +46,13 @@ page_steps Put p = put_page p
 page_steps Patch p = Read p ∷ put_page p
 page_steps Get p = Read p ∷ []
 page_steps Wipe p = Send Erase p ∷ Wait false ∷ []
-page_steps Refresh p = Send Rewrite p ∷ Wait false ∷ []
 
--- (10.5) the pages: the slot's eight, or its first; those of the sector
+-- (10.5) the pages: the slot's eight, or its first
 unfoldable pub run_by : Kind → Geometry → ℕ → Run
 run_by Put g slot = run (8 * slot) 8
 run_by Patch g slot = run (8 * slot) 8
 run_by Get g slot = run (8 * slot) 8
 run_by Wipe g slot = run (8 * slot) 1
-run_by Refresh g sector = sector_run g sector
-
--- (12.4) how many slots, or of a refresh sectors, the part has
-unfoldable pub units_of : Kind → Geometry → ℕ
-units_of Put g = g.pages / 8
-units_of Patch g = g.pages / 8
-units_of Get g = g.pages / 8
-units_of Wipe g = g.pages / 8
-units_of Refresh g = sector_count g
 
 -- (10.5) n pages in order, from page k on
 unfoldable pub pages : ℕ → ℕ → (ℕ → List Step) → List Step
@@ -72,15 +61,15 @@ pages (suc n) k f = f k ++ pages n (suc k) f
 
 -- (10.2) the opening, then the pages
 unfoldable pub plan_by : Kind → Geometry → ℕ → List Step
-plan_by k g unit = opening (is_asking k) ++ pages (run_by k g unit).count (run_by k g unit).first (page_steps k)
+plan_by k g slot = opening (is_asking k) ++ pages (run_by k g slot).count (run_by k g slot).first (page_steps k)
 
 -- (10.2) of what is asked
 abbrev pub plan_of : Geometry → Asked → List Step
-plan_of g a = plan_by a.kind g a.unit
+plan_of g a = plan_by a.kind g a.slot
 
--- (9.11) the sector of a call, which 32 and 35 are asked for: that of its first page
+-- (9.11) the slot's sector, which 32 and 35 are asked for
 abbrev pub sector_for : Geometry → Asked → ℕ
-sector_for g a = sector_of g (run_by a.kind g a.unit).first
+sector_for g a = sector_of g (8 * a.slot)
 
 -- ---- places
 
@@ -126,26 +115,23 @@ unfoldable pub waits_in : List Step → ℕ
 waits_in [] = 0
 waits_in (x ∷ xs) = cond (is_wait x) 1 0 + waits_in xs
 
--- (10.29) the bounds in numbers, by call, part, slot or sector, and B; a refresh's by the pages of the sector
-unfoldable pub stated : Kind → Geometry → (unit B : ℕ) → ℕ
-stated Put g slot B = 17 * B + 26
-stated Patch g slot B = 17 * B + 34
-stated Get g slot B = B + 8
-stated Wipe g slot B = 2 * B + 3
-stated Refresh g sector B = B + 2 + (sector_run g sector).count * (B + 1)
+-- (10.29) the bounds in numbers, by call and B
+unfoldable pub stated : Kind → ℕ → ℕ
+stated Put B = 17 * B + 26
+stated Patch B = 17 * B + 34
+stated Get B = B + 8
+stated Wipe B = 2 * B + 3
 
 -- (10.30) frames of a call that nothing disturbs
-unfoldable pub frames_of : Kind → Geometry → ℕ → ℕ
-frames_of Put g slot = 43
-frames_of Patch g slot = 51
-frames_of Get g slot = 9
-frames_of Wipe g slot = 5
-frames_of Refresh g sector = 3 + 2 * (sector_run g sector).count
+unfoldable pub frames_of : Kind → ℕ
+frames_of Put = 43
+frames_of Patch = 51
+frames_of Get = 9
+frames_of Wipe = 5
 
 -- (10.30) and its polls
-unfoldable pub polls_of : Kind → Geometry → ℕ → ℕ
-polls_of Put g slot = 17
-polls_of Patch g slot = 17
-polls_of Get g slot = 1
-polls_of Wipe g slot = 2
-polls_of Refresh g sector = 1 + (sector_run g sector).count
+unfoldable pub polls_of : Kind → ℕ
+polls_of Put = 17
+polls_of Patch = 17
+polls_of Get = 1
+polls_of Wipe = 2

@@ -17,8 +17,7 @@ use Rattle.state.specs.declared.Answer.TheVariants as Answers
 use Rattle.state.specs.Answers.{number_of}
 use Rattle.state.specs.Frames.{is_idle}
 use Rattle.state.specs.Memory.{Memory, State}
-use Rattle.state.specs.Outcomes.{framed, part_in, end_outcome}
-use Rattle.slots.specs.declared.Kind.TheVariants.{Refresh}
+use Rattle.state.specs.Outcomes.{framed, part_in}
 use Rattle.slots.specs.declared.Period.{Period}
 use Rattle.slots.specs.declared.Period.TheVariants.{Always, Days}
 use Rattle.slots.specs.Plans.{bound}
@@ -26,7 +25,7 @@ use Rattle.slots.specs.Driver.{is_ended}
 use Rattle.slots.specs.Records.{limit_of, version_of, image, is_within}
 use Rattle.slots.specs.Refusals.{raw_refusal}
 use Rattle.slots.specs.Calls.{Out, Request, Secret, Open, Closed, sends, step_open, step_closed, start_open, start_closed}
-use Rattle.slots.specs.Lists.{Op, call, raw, straight, pin, busy_end, cut, asks, secret, out_of, next_of}
+use Rattle.slots.specs.Lists.{Op, call, raw, straight, pin, busy_end, cut, asks, secret, next_of}
 
 -- (14.5) the operation writes none of the pages
 abbrev pub Spares : Geometry → ℕ → ℕ → Operation → Type 0
@@ -91,24 +90,10 @@ QuietBy first end (Known g) busy_end s = Unit {0}
 QuietBy first end (Known g) (cut junk) s = Unit {0}
 QuietBy first end Unknown o s = Unit {0}
 
--- (14.31) a refresh that answers 0: it programs its pages with their own bytes, and has ended
-abbrev pub Refreshes : Op → State → Type 0
-Refreshes (call a d script payload junk log lent) s = (a.kind ≡ Refresh) × ((out_of (call a d script payload junk log lent) s).answer ≡ Answers.Done)
-Refreshes (raw frame script junk log reply) s = ⊥
-Refreshes (straight frame reply) s = ⊥
-Refreshes (pin high) s = ⊥
-Refreshes busy_end s = ⊥
-Refreshes (cut junk) s = ⊥
-
--- (14.32) what a refresh that is not cut leaves: the array as it was, or as the end of what was under way before it has left it
-abbrev pub ArrayKept : State → State → Type 0
-ArrayKept s t = (t.memory.array ≡ s.memory.array) ⊎ (t.memory.array ≡ (end_outcome s).state.memory.array)
-
 -- (14.6) nor does any of a list
--- (14.31) but for such refreshes
 abbrev pub Quiet : ℕ → ℕ → List Op → State → Type 0
 Quiet first end [] s = Unit {0}
-Quiet first end (o ∷ os) s = (QuietBy first end (part_in s) o s ⊎ Refreshes o s) × Quiet first end os (next_of o s)
+Quiet first end (o ∷ os) s = QuietBy first end (part_in s) o s × Quiet first end os (next_of o s)
 
 -- (14.6) in a slot
 abbrev pub QuietIn : ℕ → List Op → State → Type 0

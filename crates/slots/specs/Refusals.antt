@@ -1,6 +1,6 @@
 -- Refusals 2 to 7 and 14 of the calls; 1 is the part. Done where none applies.
 -- Assumes nothing.
-use Rattle.std.specs.Prelude.{ℕ, ◌+◌, ◌*◌, Bool, false, cond, not, ◌&&◌, ◌||◌, List, [], ◌∷◌, length, eqb, ltb, leb}
+use Rattle.std.specs.Prelude.{ℕ, ◌+◌, ◌*◌, ◌/◌, Bool, false, cond, not, ◌&&◌, ◌||◌, List, [], ◌∷◌, length, eqb, ltb, leb}
 use Rattle.dates.specs.Calendar.{is_date}
 use Rattle.dates.specs.Terms.{is_term}
 use Rattle.geometry.specs.declared.Geometry.{Geometry}
@@ -11,9 +11,9 @@ use Rattle.state.specs.Outcomes.{framed, cut_fits}
 use Rattle.slots.specs.declared.Detail.{Detail}
 use Rattle.slots.specs.declared.Flaws.{Flaws}
 use Rattle.slots.specs.declared.Kind.{Kind}
-use Rattle.slots.specs.declared.Kind.TheVariants.{Put, Patch, Get, Wipe, Refresh}
+use Rattle.slots.specs.declared.Kind.TheVariants.{Put, Patch, Get, Wipe}
 use Rattle.slots.specs.Records.{limit_of, version_of}
-use Rattle.slots.specs.Plans.{Asked, units_of, bound}
+use Rattle.slots.specs.Plans.{Asked, bound}
 use Rattle.slots.specs.Details.{period_of}
 
 -- (12.5) 5 by what is to be stored, n bytes: a put by the limit of its version; a patch, which has not seen the version yet, by version 1's
@@ -22,7 +22,6 @@ is_over Put g d n = ltb (limit_of g (version_of (period_of d.term))) n
 is_over Patch g d n = ltb (limit_of g 1) (d.place + n)
 is_over Get g d n = false
 is_over Wipe g d n = false
-is_over Refresh g d n = false
 
 -- (12.6) 5 by the get buffer that is lent
 unfoldable pub is_short : Kind → Geometry → ℕ → Bool
@@ -30,7 +29,6 @@ is_short Put g lent = false
 is_short Patch g lent = false
 is_short Get g lent = ltb lent (limit_of g 1)
 is_short Wipe g lent = false
-is_short Refresh g lent = false
 
 -- (12.17) 14: a put's term that is none, a get's date of today that does not exist
 unfoldable pub is_misdated : Kind → Detail → Bool
@@ -38,7 +36,6 @@ is_misdated Put d = not (is_term d.term)
 is_misdated Patch d = false
 is_misdated Get d = not (is_date d.today)
 is_misdated Wipe d = false
-is_misdated Refresh d = false
 
 -- (12.5) what is met of 5 and 14: what the call is told, n bytes to be stored, `lent` bytes of get buffer
 unfoldable pub flaws_in : Kind → Geometry → Detail → (n lent : ℕ) → Flaws
@@ -62,10 +59,10 @@ bad_script g array script junk = has_over_two script || (has_cut script && not (
 unfoldable pub late_refusal : Geometry → ℕ → ℕ → ℕ → List ℕ → ℕ → Answer
 late_refusal g array log least script junk = cond (ltb log least) Answers.Log (cond (bad_script g array script junk) Answers.Script Answers.Done)
 
--- (12.4) 3, of a slot or a sector, 4, and then 5 and 14 if they are met
+-- (12.4) 3, 4, and then 5 and 14 if they are met
 unfoldable pub early_refusal : Geometry → Asked → Flaws → Answer
 early_refusal g a flaws =
-    cond (leb (units_of a.kind g) a.unit) Answers.Slot
+    cond (leb (g.pages / 8) a.slot) Answers.Slot
     (cond (not (leb 1 a.limit && leb a.limit 1000)) Answers.Limit
     (cond flaws.size Answers.Size (cond flaws.dates Answers.Dates Answers.Done)))
 
@@ -73,7 +70,7 @@ early_refusal g a flaws =
 unfoldable pub or_else : Answer → Answer → Answer
 or_else a b = cond (eqb (number_of a) 0) b a
 
--- (12.2) put, patch, get, wipe and refresh: what is asked, what is met of 5 and 14, the script, and the lengths of array, log and junk
+-- (12.2) put, patch, get and wipe: what is asked, what is met of 5 and 14, the script, and the lengths of array, log and junk
 -- (12.7) the log has room for the bound
 unfoldable pub call_refusal : Geometry → ℕ → Asked → Flaws → ℕ → List ℕ → ℕ → Answer
 call_refusal g array a flaws log script junk = or_else (early_refusal g a flaws) (late_refusal g array log (6 * bound g a) script junk)

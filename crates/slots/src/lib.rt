@@ -9,16 +9,14 @@ pub enum Kind {
     Patch,
     Get,
     Wipe,
-    Refresh,
 }
 
-// The commands that name a page in four bytes: 83, 50, 60, 58.
+// The commands that name a page in four bytes: 83, 50, 60.
 #[derive(Drop)]
 pub enum Command {
     Program,
     Erase,
     Compare,
-    Rewrite,
 }
 
 // A step of a plan: a wait (D7), 32, 35, a page read (D2), a page loaded (84), a command that names a page; or the plan's end. Pages are
@@ -70,7 +68,7 @@ pub enum Verdict {
     Miscompared,
 }
 
-// What a call is told beside slot or sector, poll limit and bytes: a patch's place, a put's term, a get's date of today. What does not concern
+// What a call is told beside slot, poll limit and bytes: a patch's place, a put's term, a get's date of today. What does not concern
 // the call is not looked at.
 #[derive(Drop)]
 pub struct Detail {
@@ -101,12 +99,12 @@ pub struct Flaws {
     pub dates: bool,
 }
 
-// The slot driver's state: the length of the chip's array, which says the part; the slot, of a refresh the sector, and the poll limit; the call, and what it
-// aims at; the verdict so far; and the control state.
+// The slot driver's state: the length of the chip's array, which says the part; the slot and the poll limit; the call, and what it aims at; the
+// verdict so far; and the control state.
 #[derive(Drop)]
 pub struct Driver {
     pub array: usize,
-    pub unit: usize,
+    pub slot: usize,
     pub limit: usize,
     pub aim: Aim,
     pub kind: Kind,

@@ -1,13 +1,12 @@
 // How a call starts, apart from any chip: refusals 1, 3, 4, 5 and 14, and the first state.
 // Internal to this repository: a caller here meets each `requires`; no entry point is in this crate.
-ghost use Rattle.std.specs.Prelude.{◌≡◌, ◌*◌, ◌<◌, cond, ◌||◌, length, eqb};
+ghost use Rattle.std.specs.Prelude.{◌≡◌, ◌<◌, cond, ◌||◌, length, eqb};
 ghost use Rattle.geometry.specs.declared.Geometry.{Geometry};
-ghost use Rattle.geometry.specs.Parts.{part_of, Sized};
+ghost use Rattle.geometry.specs.Parts.{part_of};
 ghost use Rattle.state.specs.Answers.{number_of};
 ghost use Rattle.slots.specs.Refusals.{is_over, is_short, is_misdated, flaws_in, early_refusal};
 ghost use Rattle.slots.specs.Details.{period_of, aim_of, untold, storing, changing, reading};
 ghost use Rattle.slots.specs.Lists.{asking};
-ghost use Rattle.slots.specs.Plans.{units_of};
 ghost use Rattle.slots.specs.declared.Stage.{Stage};
 ghost use Rattle.records.specs.Held.{Pages};
 ghost use Rattle.worlds.specs.Start.{start_refusal, start_driver};
@@ -19,7 +18,7 @@ use state::Answer;
 
 // ---- what each call is told
 
-// A wipe or a refresh: nothing.
+// A wipe: nothing.
 pub fn untold() -> Detail
     ensures { result ≡ untold }
 {
@@ -113,7 +112,6 @@ fn is_oversize(g: Geometry, kind: Kind, d: Detail, n: usize, lent: usize) -> boo
         Kind::Patch => records::ends_beyond(records::limit_of(g, 1), d.place, n),
         Kind::Get => lent < records::limit_of(g, 1),
         Kind::Wipe => false,
-        Kind::Refresh => false,
     }
 }
 
@@ -128,7 +126,6 @@ fn is_misdated(kind: Kind, d: Detail) -> bool
         Kind::Patch => false,
         Kind::Get => !dates::is_date(today),
         Kind::Wipe => false,
-        Kind::Refresh => false,
     }
 }
 
@@ -143,27 +140,12 @@ fn flaws_in(g: Geometry, kind: Kind, d: Detail, n: usize, lent: usize) -> Flaws
     }
 }
 
-// How many slots the part has, for a refresh how many sectors.
-fn units_of(g: Geometry, kind: Kind) -> usize
-    requires { Sized g (g.pages * g.size) }
-    ensures { result ≡ units_of kind g }
+// 3, 4, 5 and 14, in this order; `flaws` says whether 5 and 14 are met.
+pub fn early_refusal(g: Geometry, kind: Kind, slot: usize, limit: usize, flaws: Flaws) -> Answer
+    ensures { result ≡ early_refusal g (asking kind slot limit) flaws }
 {
     let pages = g.pages;
-    match kind {
-        Kind::Put => pages / 8,
-        Kind::Patch => pages / 8,
-        Kind::Get => pages / 8,
-        Kind::Wipe => pages / 8,
-        Kind::Refresh => geometry::sector_count(g),
-    }
-}
-
-// 3, 4, 5 and 14, in this order; `flaws` says whether 5 and 14 are met.
-pub fn early_refusal(g: Geometry, kind: Kind, unit: usize, limit: usize, flaws: Flaws) -> Answer
-    requires { Sized g (g.pages * g.size) }
-    ensures { result ≡ early_refusal g (asking kind unit limit) flaws }
-{
-    if units_of(g, kind) <= unit {
+    if pages / 8 <= slot {
         return Answer::Slot;
     }
     if limit < 1 {
@@ -185,33 +167,33 @@ pub fn early_refusal(g: Geometry, kind: Kind, unit: usize, limit: usize, flaws: 
 fn refusal_on(
     g: Geometry,
     kind: Kind,
-    unit: usize,
+    slot: usize,
     limit: usize,
     detail: Detail,
     n: usize,
     lent: usize,
 ) -> Answer
-    requires { (Pages g) × (Sized g (g.pages * g.size)) }
-    ensures { result ≡ start_refusal (Part.Known g) (asking kind unit limit) detail n lent }
+    requires { Pages g }
+    ensures { result ≡ start_refusal (Part.Known g) (asking kind slot limit) detail n lent }
 {
     let flaws = flaws_in(g, kind, detail, n, lent);
-    early_refusal(g, kind, unit, limit, flaws)
+    early_refusal(g, kind, slot, limit, flaws)
 }
 
 pub fn refusal(
     array: usize,
     kind: Kind,
-    unit: usize,
+    slot: usize,
     limit: usize,
     detail: Detail,
     n: usize,
     lent: usize,
 ) -> Answer
-    ensures { result ≡ start_refusal (part_of array) (asking kind unit limit) detail n lent }
+    ensures { result ≡ start_refusal (part_of array) (asking kind slot limit) detail n lent }
 {
     let p = geometry::part_of(array);
     match p {
-        Part::Known(g) => refusal_on(g, kind, unit, limit, detail, n, lent),
+        Part::Known(g) => refusal_on(g, kind, slot, limit, detail, n, lent),
         Part::Unknown => Answer::Part,
     }
 }
@@ -229,24 +211,24 @@ pub fn first_stage(refusal: Answer) -> Stage
 pub fn start(
     array: usize,
     kind: Kind,
-    unit: usize,
+    slot: usize,
     limit: usize,
     detail: Detail,
     n: usize,
     lent: usize,
 ) -> Driver
-    ensures { result ≡ start_driver array (asking kind unit limit) detail n lent }
+    ensures { result ≡ start_driver array (asking kind slot limit) detail n lent }
 {
     let course = Course {
         place: 0,
         left: limit,
-        stage: first_stage(refusal(array, kind, unit, limit, detail, n, lent)),
+        stage: first_stage(refusal(array, kind, slot, limit, detail, n, lent)),
         listed: false,
         guarded: false,
     };
     Driver {
         array: array,
-        unit: unit,
+        slot: slot,
         limit: limit,
         aim: aim_of(detail),
         kind: kind,

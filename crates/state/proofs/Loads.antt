@@ -26,7 +26,6 @@ use Rattle.commands.proofs.Frames.{decode_status, decode_protection, decode_lock
 use Rattle.registers.specs.declared.Operation.{Operation}
 use Rattle.registers.specs.declared.Operation.TheVariants.{Idle, Program, Compare, EraseBlock}
 use Rattle.registers.specs.declared.Registers.{Registers}
-use Rattle.registers.specs.Fields.{with_operation}
 use Rattle.registers.specs.Operations.{buffer_used, run_of, sectors_of}
 use Rattle.registers.specs.Protection.{sealed}
 use Rattle.control.specs.declared.Action.TheVariants as A
@@ -34,7 +33,7 @@ use Rattle.control.specs.declared.Decision.{Decision}
 use Rattle.control.specs.Control.{decided, ignored, started_on, row_decided, row_of, control}
 use Rattle.control.specs.Starts.{Ready}
 use Rattle.control.proofs.Rows.{control_cases}
-use Rattle.control.proofs.Frames.{load-obeyed}
+use Rattle.control.proofs.Frames.{load_obeyed}
 use Rattle.control.proofs.Ends.{completed_idle}
 use Rattle.memory.specs.Pages.{programmed, differing, erased}
 use Rattle.memory.proofs.Pages.{programmed_page, programmed_other}
@@ -54,37 +53,37 @@ module _ (g : Geometry) (r : Registers) (m : Memory) where
   sent-decided f d e = λ i. acted g (e i).action (drop (e i).lead f) m
 
   -- whatever the address
-  pub load-memory : (a b c : ℕ) (t : List ℕ) → Ready r
+  pub load_memory : (a b c : ℕ) (t : List ℕ) → Ready r
       → sent_memory g r (0x84 ∷ a ∷ b ∷ c ∷ t) m ≡ put_buffer One (ring_write g.size (byte_at g (address_at (0x84 ∷ a ∷ b ∷ c ∷ t) 1)) t m.buffer1) m
   unfolding acted buffer_written written
-  load-memory a b c t y =
-      sent-decided (0x84 ∷ a ∷ b ∷ c ∷ t) (decided r (A.WriteBuffer One (byte_at g (address_at (0x84 ∷ a ∷ b ∷ c ∷ t) 1))) 4) (load-obeyed g r a b c t y)
+  load_memory a b c t y =
+      sent-decided (0x84 ∷ a ∷ b ∷ c ∷ t) (decided r (A.WriteBuffer One (byte_at g (address_at (0x84 ∷ a ∷ b ∷ c ∷ t) 1))) 4) (load_obeyed g r a b c t y)
 
   byte-zero : (t : List ℕ) → byte_at g (address_at (0x84 ∷ 0 ∷ 0 ∷ 0 ∷ t) 1) ≡ 0
   unfolding byte_at address_at
   byte-zero t = ap (λ (x : ℕ). x % g.size) (zero-mod g.field) ∙ zero-mod g.size
 
-  load-zero : (t : List ℕ) → Ready r → sent_memory g r (0x84 ∷ 0 ∷ 0 ∷ 0 ∷ t) m ≡ put_buffer One (ring_write g.size 0 t m.buffer1) m
-  load-zero t y = load-memory 0 0 0 t y ∙ ap (λ (s : ℕ). put_buffer One (ring_write g.size s t m.buffer1) m) (byte-zero t)
+  load_zero : (t : List ℕ) → Ready r → sent_memory g r (0x84 ∷ 0 ∷ 0 ∷ 0 ∷ t) m ≡ put_buffer One (ring_write g.size 0 t m.buffer1) m
+  load_zero t y = load_memory 0 0 0 t y ∙ ap (λ (s : ℕ). put_buffer One (ring_write g.size s t m.buffer1) m) (byte-zero t)
 
   -- a page's length of data, from byte 0 on: laid over buffer 1
-  pub load-over : (t : List ℕ) → Ready r → 0 < g.size → length t ≡ g.size → sent_memory g r (0x84 ∷ 0 ∷ 0 ∷ 0 ∷ t) m ≡ put_buffer One (over t m.buffer1) m
-  load-over t y s l =
-      load-zero t y ∙ ap (λ (b : List ℕ). put_buffer One b m) (ring_write-splice g.size 0 t m.buffer1 s (omega arith) ∙ splice-zero t m.buffer1)
+  pub load_over : (t : List ℕ) → Ready r → 0 < g.size → length t ≡ g.size → sent_memory g r (0x84 ∷ 0 ∷ 0 ∷ 0 ∷ t) m ≡ put_buffer One (over t m.buffer1) m
+  load_over t y s l =
+      load_zero t y ∙ ap (λ (b : List ℕ). put_buffer One b m) (ring_write-splice g.size 0 t m.buffer1 s (omega arith) ∙ splice-zero t m.buffer1)
 
   -- so that the buffer's first bytes are the data
-  pub load-first : (t : List ℕ) → Ready r → 0 < g.size → length t ≡ g.size → g.size ≤ length m.buffer1
+  pub load_first : (t : List ℕ) → Ready r → 0 < g.size → length t ≡ g.size → g.size ≤ length m.buffer1
       → take g.size (sent_memory g r (0x84 ∷ 0 ∷ 0 ∷ 0 ∷ t) m).buffer1 ≡ t
-  load-first t y s l h =
-      ap (λ (k : Memory). take g.size k.buffer1) (load-over t y s l)
+  load_first t y s l h =
+      ap (λ (k : Memory). take g.size k.buffer1) (load_over t y s l)
       ∙ ap (λ (n : ℕ). take n (over t m.buffer1)) (sym l)
       ∙ ap (take (length t)) (sym (splice-zero t m.buffer1))
       ∙ splice-part 0 t m.buffer1 (omega arith)
 
   -- and a buffer as long as a page is the data
-  pub load-whole : (t : List ℕ) → Ready r → 0 < g.size → length t ≡ g.size → length m.buffer1 ≡ g.size
+  pub load_whole : (t : List ℕ) → Ready r → 0 < g.size → length t ≡ g.size → length m.buffer1 ≡ g.size
       → sent_memory g r (0x84 ∷ 0 ∷ 0 ∷ 0 ∷ t) m ≡ put_buffer One t m
-  load-whole t y s l h = load-zero t y ∙ ap (λ (b : List ℕ). put_buffer One b m) (ring_write-whole g.size t m.buffer1 (sym l) (sym h) s)
+  load_whole t y s l h = load_zero t y ∙ ap (λ (b : List ℕ). put_buffer One b m) (ring_write-whole g.size t m.buffer1 (sym l) (sym h) s)
 
 -- ---- frames that leave the memory
 module _ (g : Geometry) (r : Registers) (m : Memory) where
@@ -106,7 +105,7 @@ module _ (g : Geometry) (r : Registers) (m : Memory) where
   unfolding started_on
   started_silent page o bytes = go (sealed g r (sector_of g page))
     where
-      go : (b : Bool) → acted g (cond b (ignored r) (decided (with_operation r o) A.Silent 0)).action bytes m ≡ m
+      go : (b : Bool) → acted g (cond b (ignored r) (decided (record { protection = r.protection; lockdown = r.lockdown; user = r.user; factory = r.factory; used = r.used; protect = r.protect; wp = r.wp; deep = r.deep; operation = o }) A.Silent 0)).action bytes m ≡ m
       go true = silent bytes
       go false = silent bytes
 

@@ -24,7 +24,7 @@ use Rattle.control.specs.Control.{decided, ignored, control}
 use Rattle.control.specs.Starts.{Ready}
 use Rattle.control.proofs.Frames.{status-obeyed, status-ignored, protection-obeyed, lockdown-obeyed, page_obeyed}
 use Rattle.memory.specs.Replies.{replied, once_data, ring_data}
-use Rattle.memory.proofs.Replies.{replied_data, replied-nothing, replied-parts}
+use Rattle.memory.proofs.Replies.{replied_data, replied_nothing, replied-parts}
 use Rattle.state.specs.Memory.{Memory}
 use Rattle.state.specs.Frames.{is_idle, status_of, data_of, reply_of}
 
@@ -43,7 +43,7 @@ module _ (g : Geometry) (r : Registers) (m : Memory) where
   -- an ignored frame's
   pub reply-ignored : (f : List ℕ) → control g r f ≡ ignored r → reply_of g r m f ≡ replicate (length f) 255
   unfolding data_of
-  reply-ignored f e = reply-decided f (ignored r) e ∙ replied-nothing (length f) 0
+  reply-ignored f e = reply-decided f (ignored r) e ∙ replied_nothing (length f) 0
 
   -- ---- D7: every byte after the first is the status byte; a deep chip tells nothing
   pub reply-status : (t : List ℕ) → r.deep ≡ false

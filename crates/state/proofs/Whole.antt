@@ -17,7 +17,7 @@ use Rattle.state.proofs.Lengths.{sent-first-length, sent_second_length, complete
 
 pub fresh_whole : (factory xs : List ℕ) → length factory ≡ 64 → Whole (chip_in (fresh_state factory xs))
 unfolding fresh_state fresh_registers
-fresh_whole factory xs l = record { registers = record { protection = refl; lockdown = refl; user = refl; factory = l; tally = refl }; buffer1 = refl; buffer2 = refl }
+fresh_whole factory xs l = record { registers = record { protection = refl; lockdown = refl; user = refl; factory = l }; buffer1 = refl; buffer2 = refl }
 
 -- ---- on a known part
 module _ (s : State) (w : Whole (chip_in s)) where
@@ -43,7 +43,7 @@ module _ (s : State) (w : Whole (chip_in s)) where
   unfolding pinned_state
   pinned_whole high =
       let k = w.registers in
-      record { registers = record { protection = k.protection; lockdown = k.lockdown; user = k.user; factory = k.factory; tally = k.tally }; buffer1 = w.buffer1; buffer2 = w.buffer2 }
+      record { registers = record { protection = k.protection; lockdown = k.lockdown; user = k.user; factory = k.factory }; buffer1 = w.buffer1; buffer2 = w.buffer2 }
 
   pub cut-whole : (g : Geometry) (junk : List ℕ) → Whole (chip_in (cut_state g junk s))
   unfolding cut_state

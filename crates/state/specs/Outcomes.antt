@@ -9,7 +9,6 @@ use Rattle.registers.specs.declared.Operation.TheVariants.{Idle}
 use Rattle.registers.specs.declared.Registers.{Registers}
 use Rattle.registers.specs.Fields.{with_wp}
 use Rattle.registers.specs.Operations.{placed}
-use Rattle.registers.specs.Tally.{unworn}
 use Rattle.control.specs.Control.{control}
 use Rattle.control.specs.Completion.{completed}
 use Rattle.control.specs.PowerLoss.{reaching, lost}
@@ -57,7 +56,6 @@ fresh_registers factory =
       wp = true;
       deep = false;
       operation = Idle;
-      tally = unworn;
     }
 
 -- (2.14) its buffers and its compare bit

@@ -1,9 +1,9 @@
 // The stage of a driver's state as it counts: one that no call comes to has ended.
 // Internal to this repository: a caller here meets each `requires`; no entry point is in this crate.
 ghost use Rattle.std.specs.Prelude.{◌≡◌, ◌<◌, ◌*◌};
-ghost use Rattle.geometry.specs.Parts.{part_of, Sized};
+ghost use Rattle.geometry.specs.declared.Geometry.{Geometry};
+ghost use Rattle.geometry.specs.Parts.{part_of};
 ghost use Rattle.slots.specs.Driver.{is_ended};
-ghost use Rattle.slots.specs.Plans.{units_of};
 ghost use Rattle.slots.specs.declared.Stage.{Stage};
 ghost use Rattle.worlds.specs.Step.{stray_refusal, fault_by, stage_by};
 
@@ -12,9 +12,9 @@ use slots::{Driver, Flaws, Stage};
 use state::Answer;
 
 // The polls left, and the place.
-fn stray_refusal(g: Geometry, d: Driver) -> Answer
-    requires { (Sized g (g.pages * g.size)) × (d.unit < units_of d.kind g) }
-    ensures { result ≡ stray_refusal g d }
+fn stray_refusal(d: Driver) -> Answer
+    requires { 8 * d.slot < 4096 }
+    ensures { (g : Geometry) → result ≡ stray_refusal g d }
 {
     let c = d.course;
     let k = d.kind;
@@ -24,7 +24,7 @@ fn stray_refusal(g: Geometry, d: Driver) -> Answer
     if d.limit < c.left {
         return Answer::Limit;
     }
-    if steps::is_end(steps::step_at(g, k, d.unit, c.place)) {
+    if steps::is_end(steps::step_at(k, d.slot, c.place)) {
         return Answer::Slot;
     }
     Answer::Done
@@ -39,11 +39,11 @@ fn fault_on(g: Geometry, d: Driver) -> Answer
         size: false,
         dates: false,
     };
-    let early = starts::early_refusal(g, k, d.unit, d.limit, flaws);
+    let early = starts::early_refusal(g, k, d.slot, d.limit, flaws);
     if state::number(early) != 0 {
         return early;
     }
-    stray_refusal(g, d)
+    stray_refusal(d)
 }
 
 fn fault(p: Part, d: Driver) -> Answer

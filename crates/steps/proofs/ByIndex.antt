@@ -9,13 +9,12 @@ use mathlib.Core.Bool.{Bool, true, false}
 use mathlib.Core.List.{List, [], ◌∷◌, ◌++◌}
 use lib.ListN.{length}
 use Rattle.geometry.specs.declared.Geometry.{Geometry}
-use Rattle.geometry.specs.declared.Run.{Run}
 use Rattle.slots.specs.declared.Kind.{Kind}
-use Rattle.slots.specs.declared.Kind.TheVariants.{Put, Patch, Get, Wipe, Refresh}
+use Rattle.slots.specs.declared.Kind.TheVariants.{Put, Patch, Get, Wipe}
 use Rattle.slots.specs.declared.Step.{Step}
 use Rattle.slots.specs.declared.Step.TheVariants.{Wait, Protection, Lockdown, End}
 use Rattle.slots.specs.Plans.{pages, opening, is_asking, page_steps, run_by, plan_by, step_at}
-use Rattle.steps.specs.Places.{per_page}
+use Rattle.steps.specs.Places.{per_page, page_count}
 
 at_left : (xs ys : List Step) (i : ℕ) → i < length xs → step_at (xs ++ ys) i ≡ step_at xs i
 unfolding step_at
@@ -58,7 +57,20 @@ per_page_lem Put p = refl
 per_page_lem Patch p = refl
 per_page_lem Get p = refl
 per_page_lem Wipe p = refl
-per_page_lem Refresh p = refl
+
+run-first : (k : Kind) (g : Geometry) (slot : ℕ) → (run_by k g slot).first ≡ 8 * slot
+unfolding run_by
+run-first Put g slot = refl
+run-first Patch g slot = refl
+run-first Get g slot = refl
+run-first Wipe g slot = refl
+
+run-count : (k : Kind) (g : Geometry) (slot : ℕ) → (run_by k g slot).count ≡ page_count k
+unfolding run_by page_count
+run-count Put g slot = refl
+run-count Patch g slot = refl
+run-count Get g slot = refl
+run-count Wipe g slot = refl
 
 -- ---- as the code has it: n steps open, m a page
 
@@ -66,34 +78,32 @@ per_page_lem Refresh p = refl
 pub page_low : {m q j : ℕ} (k : Kind) → m ≡ per_page k → q ≡ j / per_page k → q * m ≤ j
 page_low {m} {q} {j} k f d = omega (arith, div-mul-le_self j m, ap (λ (x : ℕ). x * m) (d ∙ ap (λ (x : ℕ). j / x) (sym f)))
 
-module _ (k : Kind) (g : Geometry) (unit : ℕ) where
-  abbrev r : Run
-  r = run_by k g unit
-
-  abbrev rest : List Step
-  rest = pages r.count r.first (page_steps k)
-
-  pub at_opening : {n : ℕ} (i : ℕ) → n ≡ length (opening (is_asking k)) → i < n → step_at (opening (is_asking k)) i ≡ step_at (plan_by k g unit) i
+module _ (k : Kind) (g : Geometry) (slot : ℕ) where
+  laid_out : plan_by k g slot ≡ opening (is_asking k) ++ pages (page_count k) (8 * slot) (page_steps k)
   unfolding plan_by
-  at_opening i e l = sym (at_left (opening (is_asking k)) rest i (omega (arith, e)))
+  laid_out = λ i. opening (is_asking k) ++ pages (run-count k g slot i) (run-first k g slot i) (page_steps k)
 
-  pub at_page : {n m q : ℕ} (i : ℕ) → n ≡ length (opening (is_asking k)) → m ≡ per_page k → 0 < m → n ≤ i → q ≡ (i - n) / per_page k → q < r.count
-      → step_at (page_steps k (r.first + q)) (i - n - q * m) ≡ step_at (plan_by k g unit) i
-  unfolding plan_by
+  pub at_opening : {n : ℕ} (i : ℕ) → n ≡ length (opening (is_asking k)) → i < n → step_at (opening (is_asking k)) i ≡ step_at (plan_by k g slot) i
+  at_opening i e l =
+      sym (at_left (opening (is_asking k)) (pages (page_count k) (8 * slot) (page_steps k)) i (omega (arith, e))) ∙ ap (λ (xs : List Step). step_at xs i) (sym laid_out)
+
+  pub at_page : {n m q : ℕ} (i : ℕ) → n ≡ length (opening (is_asking k)) → m ≡ per_page k → 0 < m → n ≤ i → q ≡ (i - n) / per_page k → q < page_count k
+      → step_at (page_steps k (8 * slot + q)) (i - n - q * m) ≡ step_at (plan_by k g slot) i
   at_page {n} {m} {q} i e f z l d u =
       let low = page_low k f d in
       let high : i - n < suc q * m = (div-lt_iff_lt-mul z).0 (omega (arith, d, ap (λ (x : ℕ). (i - n) / x) f)) in
-      let s : i - n ≡ q * m + (i - n - q * m) = omega (arith, low) in
-      sym (at_right (opening (is_asking k)) rest i (i - n) (omega (arith, e))
-      ∙ pages_at m (page_steps k) (λ p. per_page_lem k p ∙ sym f) r.count r.first q (i - n - q * m) (i - n) u (omega (arith, low, high)) s)
+      let r : i - n ≡ q * m + (i - n - q * m) = omega (arith, low) in
+      sym (ap (λ (xs : List Step). step_at xs i) laid_out
+      ∙ at_right (opening (is_asking k)) (pages (page_count k) (8 * slot) (page_steps k)) i (i - n) (omega (arith, e))
+      ∙ pages_at m (page_steps k) (λ p. per_page_lem k p ∙ sym f) (page_count k) (8 * slot) q (i - n - q * m) (i - n) u (omega (arith, low, high)) r)
 
-  pub at_end : {n q : ℕ} (i : ℕ) → n ≡ length (opening (is_asking k)) → n ≤ i → q ≡ (i - n) / per_page k → r.count ≤ q → End ≡ step_at (plan_by k g unit) i
-  unfolding plan_by
+  pub at_end : {n q : ℕ} (i : ℕ) → n ≡ length (opening (is_asking k)) → n ≤ i → q ≡ (i - n) / per_page k → page_count k ≤ q → End ≡ step_at (plan_by k g slot) i
   at_end {n} {q} i e l d u =
       let low = page_low k refl d in
-      let c : r.count * per_page k ≤ q * per_page k = mul-le-mul_right (per_page k) u in
-      sym (at_right (opening (is_asking k)) rest i (i - n) (omega (arith, e))
-      ∙ pages-end (per_page k) (page_steps k) (per_page_lem k) r.count r.first (i - n) (omega (arith, low, c)))
+      let c : page_count k * per_page k ≤ q * per_page k = mul-le-mul_right (per_page k) u in
+      sym (ap (λ (xs : List Step). step_at xs i) laid_out
+      ∙ at_right (opening (is_asking k)) (pages (page_count k) (8 * slot) (page_steps k)) i (i - n) (omega (arith, e))
+      ∙ pages-end (per_page k) (page_steps k) (per_page_lem k) (page_count k) (8 * slot) (i - n) (omega (arith, low, c)))
 
 -- ---- the first steps, by their number
 
@@ -136,9 +146,9 @@ at_two x y (suc (suc j)) e f = refl
 
 -- ---- the opening, with or without 32 and 35
 
-pub opens-first : (i : ℕ) → i ≡ 0 → (b : Bool) → i < length (opening b) → Wait false ≡ step_at (opening b) i
-opens-first i e true l = at_first (Wait false) (Protection ∷ Lockdown ∷ []) i e
-opens-first i e false l = at_first (Wait false) [] i e
+pub opens_first : (i : ℕ) → i ≡ 0 → (b : Bool) → i < length (opening b) → Wait false ≡ step_at (opening b) i
+opens_first i e true l = at_first (Wait false) (Protection ∷ Lockdown ∷ []) i e
+opens_first i e false l = at_first (Wait false) [] i e
 
 pub opens_second : (i : ℕ) → i ≡ 1 → (b : Bool) → i < length (opening b) → Protection ≡ step_at (opening b) i
 opens_second i e true l = at_second (Wait false) Protection (Lockdown ∷ []) i e

@@ -18,16 +18,16 @@ use Rattle.slots.specs.Plans.{plan_by, step_at, is_end, frames_of}
 use Rattle.slots.proofs.Counts.{steps}
 use Rattle.slots.proofs.Places.{every, both, second, plan_proper}
 
-end-from : (xs : List Step) (i : ℕ) → every (λ x. not (is_end x)) xs ≡ true → leb (length xs) i ≡ is_end (step_at xs i)
+end_from : (xs : List Step) (i : ℕ) → every (λ x. not (is_end x)) xs ≡ true → leb (length xs) i ≡ is_end (step_at xs i)
 unfolding step_at is_end every
-end-from [] i e = leb-zero i
-end-from (x ∷ xs) zero e = leb-suc-zero (length xs) ∙ sym (not-true (is_end x) (both (not (is_end x)) (every (λ x. not (is_end x)) xs) e))
-end-from (x ∷ xs) (suc i) e = leb-suc-suc (length xs) i ∙ end-from xs i (second (not (is_end x)) (every (λ x. not (is_end x)) xs) e)
+end_from [] i e = leb-zero i
+end_from (x ∷ xs) zero e = leb-suc-zero (length xs) ∙ sym (not-true (is_end x) (both (not (is_end x)) (every (λ x. not (is_end x)) xs) e))
+end_from (x ∷ xs) (suc i) e = leb-suc-suc (length xs) i ∙ end_from xs i (second (not (is_end x)) (every (λ x. not (is_end x)) xs) e)
 
 -- a plan of n + 1 steps has its last at place n
-pub last-from : {n : ℕ} (k : Kind) (g : Geometry) (unit i : ℕ) → frames_of k g unit ≡ suc n → leb n i ≡ is_end (step_at (plan_by k g unit) (suc i))
-last-from {n} k g unit i e =
-    sym (leb-suc-suc n i) ∙ ap (λ (m : ℕ). leb m (suc i)) (sym (steps k g unit ∙ e)) ∙ end-from (plan_by k g unit) (suc i) (plan_proper k g unit)
+pub last_from : {n : ℕ} (k : Kind) (i : ℕ) → frames_of k ≡ suc n → (g : Geometry) (slot : ℕ) → leb n i ≡ is_end (step_at (plan_by k g slot) (suc i))
+last_from {n} k i e g slot =
+    sym (leb-suc-suc n i) ∙ ap (λ (m : ℕ). leb m (suc i)) (sym (steps k g slot ∙ e)) ∙ end_from (plan_by k g slot) (suc i) (plan_proper k g slot)
 
 -- a step whose tag is not the end's
 pub not_end : (x : Step) → OneOf (0 ∷ 1 ∷ 2 ∷ 3 ∷ 4 ∷ 5 ∷ []) (tag_of the_type x) → false ≡ is_end x

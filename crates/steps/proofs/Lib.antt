@@ -1,3 +1,2 @@
 pub mod ByIndex
 pub mod Last
-pub mod Reach

@@ -2,7 +2,7 @@
 -- Assumes nothing.
 use Rattle.std.specs.Prelude.{ℕ}
 use Rattle.slots.specs.declared.Kind.{Kind}
-use Rattle.slots.specs.declared.Kind.TheVariants.{Put, Patch, Get, Wipe, Refresh}
+use Rattle.slots.specs.declared.Kind.TheVariants.{Put, Patch, Get, Wipe}
 use Rattle.slots.specs.declared.Step.{Step}
 use Rattle.slots.specs.declared.Step.TheVariants.{Wait, Protection, Lockdown, Read, Load, Send, End}
 
@@ -12,7 +12,13 @@ per_page Put = 5
 per_page Patch = 6
 per_page Get = 1
 per_page Wipe = 2
-per_page Refresh = 2
+
+-- how many pages
+unfoldable pub page_count : Kind → ℕ
+page_count Put = 8
+page_count Patch = 8
+page_count Get = 8
+page_count Wipe = 1
 
 -- the page that a step names; 0 where it names none
 unfoldable pub page_by : Step → ℕ

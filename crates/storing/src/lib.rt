@@ -1,10 +1,7 @@
-// Writing a chip, the level of its WP pin or one of its counters into the record block.
+// Writing a chip, or the level of its WP pin, into the record block.
 // Internal to this repository: a caller here meets each `requires`; no entry point is in this crate.
-ghost use Rattle.std.specs.Prelude.{◌≡◌, ◌+◌, ◌*◌, ◌<◌, length};
-ghost use Rattle.slices.specs.Lists.{over, splice};
-ghost use Rattle.slices.specs.Words.{four_at, four_bytes};
-ghost use Rattle.geometry.specs.Parts.{sector_room};
-ghost use Rattle.registers.specs.Tally.{raised};
+ghost use Rattle.std.specs.Prelude.{◌≡◌, length};
+ghost use Rattle.slices.specs.Lists.{over};
 ghost use Rattle.state.specs.Answers.{number_of};
 ghost use Rattle.blocks.specs.Block.{encode_registers, encode_chip};
 ghost use Rattle.blocks.specs.Promises.{stored_by, pin_moved};
@@ -14,7 +11,7 @@ use state::{Chip, Outcome};
 
 // The registers stored into the block's first 236 bytes.
 fn encode_registers(block: &mut [u8], r: Registers)
-    requires { length block.old ≡ 833 }
+    requires { length block.old ≡ 765 }
     ensures { block.new ≡ over (encode_registers r) block.old }
 {
     let protection = r.protection;
@@ -31,7 +28,7 @@ fn encode_registers(block: &mut [u8], r: Registers)
 
 // The WP pin's level stored.
 pub fn move_pin(block: &mut [u8], high: bool)
-    requires { length block.old ≡ 833 }
+    requires { length block.old ≡ 765 }
     ensures { block.new ≡ pin_moved block.old high }
 {
     block[162] = block_parts::flag_byte(high);
@@ -39,7 +36,7 @@ pub fn move_pin(block: &mut [u8], high: bool)
 
 // The chip stored into the block.
 fn encode(block: &mut [u8], c: Chip)
-    requires { length block.old ≡ 833 }
+    requires { length block.old ≡ 765 }
     ensures { block.new ≡ encode_chip c }
 {
     let r = c.registers;
@@ -49,38 +46,11 @@ fn encode(block: &mut [u8], c: Chip)
     let buffer2 = c.buffer2;
     block_parts::put(block, 500, &buffer2);
     block[764] = block_parts::flag_byte(c.compare);
-    let t = r.tally;
-    block_parts::put_tally(block, t);
-}
-
-// One sector's counter stored.
-fn put_count(block: &mut [u8], sector: usize, count: u32)
-    requires { (length block.old ≡ 833) × (sector < sector_room) }
-    ensures { block.new ≡ splice (765 + 4 * sector) (four_bytes count) block.old }
-{
-    slices::put_four(block, 765 + 4 * sector, count);
-}
-
-// One sector's counter raised by the pages that were written in it.
-pub fn wear(block: &mut [u8], sector: usize, pages: usize)
-    requires { (length block.old ≡ 833) × (sector < sector_room) }
-    ensures { block.new ≡ splice (765 + 4 * sector) (four_bytes (raised (four_at block.old (765 + 4 * sector)) pages)) block.old }
-{
-    let count = slices::four_at(block, 765 + 4 * sector);
-    put_count(block, sector, tallies::raise(count, pages));
-}
-
-// One sector's counter set to 0.
-pub fn clear(block: &mut [u8], sector: usize)
-    requires { (length block.old ≡ 833) × (sector < sector_room) }
-    ensures { block.new ≡ splice (765 + 4 * sector) (four_bytes 0) block.old }
-{
-    put_count(block, sector, 0);
 }
 
 // What the outcome leaves in the block, and its answer's number.
 pub fn store(block: &mut [u8], o: Outcome) -> u8
-    requires { length block.old ≡ 833 }
+    requires { length block.old ≡ 765 }
     ensures { (result ≡ number_of o.answer) × (block.new ≡ stored_by block.old o.answer o.chip) }
 {
     let a = o.answer;

@@ -55,6 +55,5 @@ pub fn count_of(kind: Kind, a: Answer, staged: &[u8]) -> usize
         Kind::Patch => 0,
         Kind::Get => records::record_length(staged),
         Kind::Wipe => 0,
-        Kind::Refresh => 0,
     }
 }

@@ -107,10 +107,10 @@ pub named-few : (x : Step) {y : Step} → page_by x < 4096 → x ≡ y → page_
 named-few x l e = subst (λ (z : Step). page_by z < 4096) e l
 
 -- what was written for a step's form is its frame
-pub by-step : (g : Geometry) (d : Driver) (payload staged frame : List ℕ) {x y : Step} {n : ℕ} {f ys : List ℕ} → x ≡ y → n ≡ (shape_of g y).length → ys ≡ over f frame
+pub by_step : (g : Geometry) (d : Driver) (payload staged frame : List ℕ) {x y : Step} {n : ℕ} {f ys : List ℕ} → x ≡ y → n ≡ (shape_of g y).length → ys ≡ over f frame
     → f ≡ frame_of g d.kind (holding_of d payload staged) y
     → (n ≡ (shape_of g x).length) × (ys ≡ over (frame_of g d.kind (holding_of d payload staged) x) frame)
-by-step g d payload staged frame e n z f = (
+by_step g d payload staged frame e n z f = (
   n ∙ ap (λ (w : Step). (shape_of g w).length) (sym e),
   z ∙ ap (λ (l : List ℕ). over l frame) f ∙ ap (λ (w : Step). over (frame_of g d.kind (holding_of d payload staged) w) frame) (sym e),
 )

@@ -1,4 +1,4 @@
--- What a turn's code goes by: a sound state's place lies in the plan, and its pages in the part.
+-- What a turn's code goes by: a sound state's place lies in the plan, and its slot's pages in the part.
 -- Assumes nothing.
 use Prim.Native.Nat.{ℕ, ◌*◌, ◌+◌, ◌/◌, ◌<◌, ◌≤◌}
 use native.Mathlib.Omega.{arith}
@@ -17,10 +17,9 @@ use Rattle.slots.specs.declared.Kind.{Kind}
 use Rattle.slots.specs.declared.Step.{Step}
 use Rattle.slots.specs.declared.Step.TheVariants.{Wait, Protection, Lockdown, Read, Load, Send, End}
 use Rattle.slots.specs.contracts.Step.{the_type}
-use Rattle.slots.specs.Plans.{run_by, units_of, is_wait}
+use Rattle.slots.specs.Plans.{is_wait}
 use Rattle.slots.specs.Driver.{Holding, compare_in, miscomparing, marred, taken_by}
 use Rattle.slots.proofs.Counts.{place-few}
-use Rattle.slots.proofs.Named.{run-starts}
 use Rattle.records.specs.Held.{Pages}
 use Rattle.records.proofs.Parts.{part-pages}
 use Rattle.worlds.specs.Turns.{Sound}
@@ -32,18 +31,15 @@ module _ {g : Geometry} {d : Driver} (s : Sound g d) where
   pub sound_sized : Sized g (g.pages * g.size)
   sound_sized = sized_own g d.array (sized d.array g s.part)
 
-  -- its slot or sector is one of the part's
-  pub sound-unit : (Sized g (g.pages * g.size)) × (d.unit < units_of d.kind g)
-  sound-unit = (sound_sized, s.unit)
+  pub sound-slot : 8 * d.slot < 4096
+  sound-slot = omega (arith, s.slot, sound_sized.few)
 
   -- its sector is one that the registers serve
-  pub sound_sector : {t : ℕ} → t ≡ sector_of g (run_by d.kind g d.unit).first → t < register_room + 1
-  sound_sector e =
-      let n = g.pages * g.size in
-      omega (arith, e, sector_served g n (run_by d.kind g d.unit).first sound_sized (run-starts g n sound_sized d.kind d.unit s.unit))
+  pub sound_sector : {t : ℕ} → t ≡ sector_of g (8 * d.slot) → t < register_room + 1
+  sound_sector e = omega (arith, e, sector_served g (g.pages * g.size) (8 * d.slot) sound_sized (omega (arith, s.slot)))
 
-  pub sound-place : d.course.place < 10000
-  sound-place = omega (arith, place-few d.kind g d.unit d.course.place s.step, sound_sized.few)
+  pub sound-place : d.course.place < 1000
+  sound-place = omega (arith, place-few d.kind g d.slot d.course.place s.step)
 
 -- ---- steps by their form
 

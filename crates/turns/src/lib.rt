@@ -21,7 +21,6 @@ fn opcode_of(c: Command) -> u8
         Command::Program => 0x83,
         Command::Erase => 0x50,
         Command::Compare => 0x60,
-        Command::Rewrite => 0x58,
     }
 }
 
@@ -134,9 +133,8 @@ pub fn take_course(g: Geometry, d: Driver, x: Step, reply: &[u8]) -> Course
 {
     let k = d.kind;
     let c = d.course;
-    let run = steps::run_of(g, k, d.unit);
-    let sector = geometry::sector_of(g, run.first);
-    let last = steps::is_last(g, k, d.unit, c.place);
+    let sector = geometry::sector_of(g, 8 * d.slot);
+    let last = steps::is_last(k, c.place);
     courses::take_course(c, x, last, d.limit, sector, reply)
 }
 
@@ -183,7 +181,7 @@ pub fn with(d: Driver, verdict: Verdict, course: Course) -> Driver
     let aim = d.aim;
     Driver {
         array: d.array,
-        unit: d.unit,
+        slot: d.slot,
         limit: d.limit,
         aim: aim,
         kind: k,

@@ -7,7 +7,7 @@ use Rattle.text.specs.Words.{is_blank, not_blank}
 use Rattle.words.specs.Letters.{bytes}
 use Rattle.words.specs.declared.Span.{Span}
 use Rattle.words.specs.declared.Command.{Command}
-use Rattle.words.specs.declared.Command.TheVariants.{Put, Patch, Get, Wipe, Refresh, Raw, Send, End, Pin, Cut, Part, Tally, Sum}
+use Rattle.words.specs.declared.Command.TheVariants.{Put, Patch, Get, Wipe, Raw, Send, End, Pin, Cut, Part, Sum}
 use Rattle.words.specs.declared.Key.{Key}
 use Rattle.words.specs.declared.Key.TheVariants.{Limit, Script, Seed, Junk, Log, Buffer, Reply, First, Last, Today}
 use Rattle.words.specs.declared.Chosen.{Chosen}
@@ -42,15 +42,13 @@ command_of w =
     (if_named w (bytes "patch") Patch
     (if_named w (bytes "get") Get
     (if_named w (bytes "wipe") Wipe
-    (if_named w (bytes "refresh") Refresh
     (if_named w (bytes "raw") Raw
     (if_named w (bytes "send") Send
     (if_named w (bytes "end") End
     (if_named w (bytes "pin") Pin
     (if_named w (bytes "cut") Cut
     (if_named w (bytes "part") Part
-    (if_named w (bytes "tally") Tally
-    (if_named w (bytes "sum") Sum Chosen.Unknown))))))))))))
+    (if_named w (bytes "sum") Sum Chosen.Unknown))))))))))
 
 -- the option k where the word begins with its name, and the index at which its value begins; else the other
 abbrev pub if_begun : List ℕ → List ℕ → Key → Keyed → Keyed
@@ -70,18 +68,16 @@ key_of w =
     (if_begun w (bytes "last=") Last
     (if_begun w (bytes "today=") Today Keyed.Unknown)))))))))
 
--- the six calls alone take options
+-- the five calls alone take options
 abbrev pub is_call : Command → Bool
 is_call Put = true
 is_call Patch = true
 is_call Get = true
 is_call Wipe = true
-is_call Refresh = true
 is_call Raw = true
 is_call Send = false
 is_call End = false
 is_call Pin = false
 is_call Cut = false
 is_call Part = false
-is_call Tally = false
 is_call Sum = false

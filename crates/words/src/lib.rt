@@ -9,14 +9,12 @@ pub enum Command {
     Patch,
     Get,
     Wipe,
-    Refresh,
     Raw,
     Send,
     End,
     Pin,
     Cut,
     Part,
-    Tally,
     Sum,
 }
 
@@ -84,14 +82,12 @@ pub fn command_of(word: &[u8]) -> Chosen
 {
     let r = Chosen::Unknown;
     let r = if_named(word, b"sum", Command::Sum, r);
-    let r = if_named(word, b"tally", Command::Tally, r);
     let r = if_named(word, b"part", Command::Part, r);
     let r = if_named(word, b"cut", Command::Cut, r);
     let r = if_named(word, b"pin", Command::Pin, r);
     let r = if_named(word, b"end", Command::End, r);
     let r = if_named(word, b"send", Command::Send, r);
     let r = if_named(word, b"raw", Command::Raw, r);
-    let r = if_named(word, b"refresh", Command::Refresh, r);
     let r = if_named(word, b"wipe", Command::Wipe, r);
     let r = if_named(word, b"get", Command::Get, r);
     let r = if_named(word, b"patch", Command::Patch, r);
@@ -129,7 +125,7 @@ pub fn key_of(word: &[u8]) -> Keyed
     if_begun(word, b"b=", Key::Limit, r)
 }
 
-// put, patch, get, wipe, refresh, raw: the six calls. They alone take options.
+// put, patch, get, wipe, raw: the five calls. They alone take options.
 pub fn is_call(c: Command) -> bool
     ensures { result ≡ is_call c }
 {
@@ -138,14 +134,12 @@ pub fn is_call(c: Command) -> bool
         Command::Patch => true,
         Command::Get => true,
         Command::Wipe => true,
-        Command::Refresh => true,
         Command::Raw => true,
         Command::Send => false,
         Command::End => false,
         Command::Pin => false,
         Command::Cut => false,
         Command::Part => false,
-        Command::Tally => false,
         Command::Sum => false,
     }
 }

@@ -33,7 +33,7 @@ use Rattle.worlds.specs.Talks.{Talk, opened, talked, talk, exchanges_in, HeardAl
 use Rattle.worlds.specs.Turns.{asked_of, holding_of, step_in, data_after, course_after, took_on}
 use Rattle.worlds.specs.Start.{start_refusal, start_driver}
 use Rattle.worlds.specs.Step.{stage_by, stage_in, frame_by, frame_in, poll_by, poll_in, staged_by, staged_in, told_in}
-use Rattle.worlds.specs.Chains.{Chain, begun, most_by, most_in, linked, chain, exchanged, AgreeIn, SameChain}
+use Rattle.worlds.specs.Chains.{Chain, begun, linked, chain, exchanged, AgreeIn, SameChain}
 use Rattle.worlds.proofs.Talks.{any_world, any_miscompares, talk-ends}
 use Rattle.worlds.proofs.Sane.{Facts, Sane, going-facts, sane_stage, took_going, took_keeps, start_sane, ended_off}
 use Rattle.slots.specs.declared.Detail.{Detail}
@@ -175,7 +175,7 @@ start-talk : (g : Geometry) (array : ℕ) (a : Asked) (d : Detail) (lent : ℕ) 
     ≡ opened g a (flaws_in a.kind g d (length payload) lent) (record { payload = payload; aim = aim_of d; staged = staged; verdict = Good })
 unfolding start_driver start_refusal opened
 start-talk g array a d lent payload staged p = λ i.
-    talk_of payload (begun (record { array = array; unit = a.unit; limit = a.limit; aim = aim_of d; kind = a.kind; verdict = Good; course = ap (λ (q : Part). first_course (start_refusal q a d (length payload) lent) a.limit) p i }) staged)
+    talk_of payload (begun (record { array = array; slot = a.slot; limit = a.limit; aim = aim_of d; kind = a.kind; verdict = Good; course = ap (λ (q : Part). first_course (start_refusal q a d (length payload) lent) a.limit) p i }) staged)
 
 chain_same : (payload others : List ℕ) {g : Geometry} {y z : Chain} → Sane g y.driver → Sane g z.driver
     → SameTalk (talk_of payload y) (talk_of others z) → SameChain y z
@@ -280,7 +280,7 @@ cost_few B left x xs h = go (is_wait x)
     go true = omega arith
     go false = omega arith
 
-facts_ok : (g : Geometry) (d : Driver) → Facts g d → Ok (plan_of g (asked_of d)) d.limit (stated d.kind g d.unit d.limit) d.course
+facts_ok : (g : Geometry) (d : Driver) → Facts g d → Ok (plan_of g (asked_of d)) d.limit (stated d.kind d.limit) d.course
 facts_ok g d w =
     let plan = plan_of g (asked_of d) in
     let e = rest-step plan d.course.place w.step in
@@ -290,8 +290,8 @@ facts_ok g d w =
       wait = w.asked.some;
       left = w.some;
       step = λ _. w.step;
-      few = λ _. subst (λ (xs : List Step). cost_of d.limit d.course.left xs ≤ stated d.kind g d.unit d.limit) (sym e)
-          (omega (arith, c, ap (frames_most d.limit) e, r, bounds d.kind g d.unit d.limit));
+      few = λ _. subst (λ (xs : List Step). cost_of d.limit d.course.left xs ≤ stated d.kind d.limit) (sym e)
+          (omega (arith, c, ap (frames_most d.limit) e, r, bounds d.kind g d.slot d.limit));
     }
 
 -- a chain that has ended stays as it is
@@ -304,12 +304,11 @@ chain-ended (suc n) payload replies z e =
 
 -- EVERY STATE ENDS within its bound, whatever comes back
 pub any_state-ends : (d : Driver) (payload staged : List ℕ) (replies : ℕ → List ℕ)
-    → is_ended (stage_in (chain (most_in d) payload replies (begun d staged)).driver) ≡ true
-unfolding most_by
+    → is_ended (stage_in (chain (stated d.kind d.limit) payload replies (begun d staged)).driver) ≡ true
 any_state-ends d payload staged replies = go (is_ended (stage_in d)) refl (part_of d.array) refl
   where
     n : ℕ
-    n = most_in d
+    n = stated d.kind d.limit
 
     stopped : is_ended (stage_in d) ≡ true → is_ended (stage_in (chain n payload replies (begun d staged)).driver) ≡ true
     stopped e = ap (λ (z : Chain). is_ended (stage_in z.driver)) (chain-ended n payload replies (begun d staged) e) ∙ e
@@ -318,11 +317,9 @@ any_state-ends d payload staged replies = go (is_ended (stage_in d)) refl (part_
     going g p e =
         let f = going-facts g d e in
         let w : Sane g d = record { part = p; facts = λ _. f.1 } in
-        let m : n ≡ stated d.kind g d.unit d.limit = ap (λ (q : Part). most_by q d) p in
         let t = chain-talk n g payload replies (begun d staged) w in
         ap is_ended (sane_stage t.1) ∙ ap (λ (t : Talk). is_ended t.course.stage) t.0
-        ∙ talk-ends g (asked_of d) replies n (talk_of payload (begun d staged))
-        (subst (λ (i : ℕ). Ok (plan_of g (asked_of d)) d.limit i d.course) (sym m) (facts_ok g d f.1))
+        ∙ talk-ends g (asked_of d) replies n (talk_of payload (begun d staged)) (facts_ok g d f.1)
 
     go : (b : Bool) → is_ended (stage_in d) ≡ b → (p : Part) → part_of d.array ≡ p → is_ended (stage_in (chain n payload replies (begun d staged)).driver) ≡ true
     go true e p q = stopped e

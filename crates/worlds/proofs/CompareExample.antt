@@ -20,7 +20,7 @@ use Rattle.slots.specs.declared.Period.TheVariants.{Always}
 use Rattle.slots.specs.declared.Told.{Told}
 use Rattle.slots.specs.declared.Told.TheVariants.{Answered}
 use Rattle.slots.specs.declared.Verdict.TheVariants.{Good}
-use Rattle.slots.specs.Plans.{is_asking, page_steps, run_by, units_of, pages, plan_by, step_at, is_end, is_wait}
+use Rattle.slots.specs.Plans.{is_asking, page_steps, run_by, pages, plan_by, step_at, is_end, is_wait}
 use Rattle.slots.specs.Refusals.{early_refusal}
 use Rattle.slots.specs.Calls.{first_course}
 use Rattle.slots.specs.Driver.{Holding, register_in, heard, course_by, compare_in, miscomparing, taken_by, is_ended, weighed, verdict_answer, told_by}
@@ -64,5 +64,5 @@ pub record Compares : Type 0 where
   pub earlier : told (ran 2 (λ n. cond (eqb n 0 || (eqb ((n - 4) % 7) 2 || eqb ((n - 4) % 7) 5)) busy ready)) ≡ Answered Done
 
 pub compares : Compares
-unfolding tabulate sector_of has_bits bits_of number_of is_asking page_steps run_by units_of pages plan_by step_at is_end is_wait early_refusal first_course register_in heard course_by compare_in miscomparing taken_by is_ended weighed verdict_answer told_by opened talked talk
+unfolding tabulate sector_of has_bits bits_of number_of is_asking page_steps run_by pages plan_by step_at is_end is_wait early_refusal first_course register_in heard course_by compare_in miscomparing taken_by is_ended weighed verdict_answer told_by opened talked talk
 compares = record { every = refl; sent = refl; last = refl; none = refl; programmed = refl; earlier = refl }

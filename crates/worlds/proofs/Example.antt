@@ -13,7 +13,7 @@ use Rattle.slots.specs.declared.Kind.TheVariants.{Wipe}
 use Rattle.state.specs.declared.Answer.TheVariants.{Done}
 use Rattle.slots.specs.declared.Driver.{Driver}
 use Rattle.slots.specs.declared.Told.TheVariants.{Answered}
-use Rattle.slots.specs.Plans.{is_asking, page_steps, run_by, units_of, pages, plan_by, step_at, is_end}
+use Rattle.slots.specs.Plans.{is_asking, page_steps, run_by, pages, plan_by, step_at, is_end}
 use Rattle.slots.specs.Refusals.{is_over, is_short, early_refusal, or_else, flaws_in, is_misdated}
 use Rattle.slots.specs.Calls.{first_course}
 use Rattle.slots.specs.Driver.{opcode_of, shape_of, frame_byte, loaded, register_in, heard, course_by, taken_by, is_ended, weighed, verdict_answer, told_by}
@@ -61,5 +61,5 @@ pub record WipeTwo : Type 0 where
   pub answer : told_in done ≡ Answered Done
 
 pub wipe_two_lem : WipeTwo
-unfolding start_driver start_refusal early_refusal flaws_in is_over is_short is_misdated or_else first_course number_of parts part_among part_of stray_refusal fault_by stage_by stage_in is_asking page_steps run_by units_of pages plan_by step_at is_end frame_in frame_by tabulate opcode_of shape_of frame_byte loaded took_in took_by taken_by course_by heard register_in has_bits bits_of sector_of is_ended told_in told_by weighed verdict_answer
+unfolding start_driver start_refusal early_refusal flaws_in is_over is_short is_misdated or_else first_course number_of parts part_among part_of stray_refusal fault_by stage_by stage_in is_asking page_steps run_by pages plan_by step_at is_end frame_in frame_by tabulate opcode_of shape_of frame_byte loaded took_in took_by taken_by course_by heard register_in has_bits bits_of sector_of is_ended told_in told_by weighed verdict_answer
 wipe_two_lem = record { first = refl; second = refl; third = refl; fourth = refl; fifth = refl; none = refl; answer = refl }

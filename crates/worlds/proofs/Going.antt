@@ -1,18 +1,18 @@
 -- A state that counts as going is sound: the test of states asks for a slot of the part and for a step at the place, and a part has at most 4,096 pages.
 -- Assumes nothing.
 use Prim.Native.Nat.{ℕ, ◌<◌, ◌*◌}
+use native.Mathlib.Omega.{arith}
 use mathlib.Core.Path.{◌≡◌, sym, ◌∙◌}
 use mathlib.Core.Bool.{true, false}
 use lib.Dec.{eqb}
 use borrow.Author.Tests.{eq-eqb, ne_eqb}
 use Rattle.geometry.specs.declared.Geometry.{Geometry}
 use Rattle.geometry.specs.declared.Part.TheVariants.{Known}
-use Rattle.geometry.specs.Parts.{part_of, Sized}
-use Rattle.geometry.proofs.Pages.{sized, sized_own}
+use Rattle.geometry.specs.Parts.{part_of}
+use Rattle.geometry.proofs.Pages.{sized}
 use Rattle.state.specs.declared.Answer.{Answer}
 use Rattle.state.specs.Answers.{number_of}
 use Rattle.slots.specs.declared.Driver.{Driver}
-use Rattle.slots.specs.Plans.{units_of}
 use Rattle.slots.specs.Driver.{is_ended}
 use Rattle.slots.specs.Refusals.{early_refusal}
 use Rattle.slots.proofs.Accepted.{early}
@@ -31,10 +31,10 @@ some a e z = ne_eqb (number_of a) 0 (λ h. z (e ∙ h))
 -- ---- states
 
 module _ (g : Geometry) (d : Driver) (p : part_of d.array ≡ Known g) where
-  pub asked-unit : eqb (number_of (early_refusal g (asked_of d) flawless)) 0 ≡ true → (Sized g (g.pages * g.size)) × (d.unit < units_of d.kind g)
-  asked-unit e = (sized_own g d.array (sized d.array g p), (early g (asked_of d) flawless e).unit)
+  pub asked-slot : eqb (number_of (early_refusal g (asked_of d) flawless)) 0 ≡ true → 8 * d.slot < 4096
+  asked-slot e = let z = sized d.array g p in omega (arith, (early g (asked_of d) flawless e).fits, z.few)
 
   pub going-sound : is_ended (stage_by (Known g) d) ≡ false → Sound g d
   going-sound e =
       let f = (going-facts g d e).1 in
-      record { part = p; unit = f.asked.unit; step = f.step }
+      record { part = p; slot = omega (arith, f.asked.fits); step = f.step }

@@ -13,7 +13,7 @@ use Rattle.geometry.specs.declared.Part.TheVariants.{Known, Unknown}
 use Rattle.geometry.specs.Parts.{part_of}
 use Rattle.slots.specs.declared.Driver.{Driver}
 use Rattle.slots.specs.declared.Kind.{Kind}
-use Rattle.slots.specs.declared.Kind.TheVariants.{Put, Patch, Get, Wipe, Refresh}
+use Rattle.slots.specs.declared.Kind.TheVariants.{Put, Patch, Get, Wipe}
 use Rattle.slots.specs.declared.Step.{Step}
 use Rattle.slots.specs.Plans.{is_asking, page_steps, plan_by, plan_of, step_at, is_end}
 use Rattle.slots.specs.Driver.{Holding, opcode_of, shape_of, frame_byte, loaded, frame_of, is_ended}
@@ -65,13 +65,12 @@ opcodes Put g slot = every_plan (λ x. may_begin Put (shape_of g x).opcode) Put 
 opcodes Patch g slot = every_plan (λ x. may_begin Patch (shape_of g x).opcode) Patch g slot refl (λ p. refl)
 opcodes Get g slot = every_plan (λ x. may_begin Get (shape_of g x).opcode) Get g slot refl (λ p. refl)
 opcodes Wipe g slot = every_plan (λ x. may_begin Wipe (shape_of g x).opcode) Wipe g slot refl (λ p. refl)
-opcodes Refresh g sector = every_plan (λ x. may_begin Refresh (shape_of g x).opcode) Refresh g sector refl (λ p. refl)
 
 first_byte : (g : Geometry) (k : Kind) (h : Holding) (x : Step) → is_end x ≡ false → get_or (frame_of g k h x) 0 0 ≡ (shape_of g x).opcode
 unfolding frame_byte
 first_byte g k h x e = get_or-tabulate (shape_of g x).length (frame_byte (shape_of g x) (loaded g k h x)) 0 0 (shape_some g x e)
 
--- OWN OPCODES: no state of a get programs or erases, only a wipe's erases a block, and only a refresh's rewrites
+-- OWN OPCODES: no state of a get programs or erases, and only a wipe's erases
 pub own_opcode : (d : Driver) (payload staged : List ℕ) → (frame_in d payload staged ≡ []) ⊎ (may_begin d.kind (get_or (frame_in d payload staged) 0 0) ≡ true)
 own_opcode d payload staged = go (own_plan d payload staged)
   where
@@ -81,4 +80,4 @@ own_opcode d payload staged = go (own_plan d payload staged)
         let g = w.geometry in
         inr (ap (λ (f : List ℕ). may_begin d.kind (get_or f 0 0)) w.frame
         ∙ ap (may_begin d.kind) (first_byte g d.kind (holding_of d payload staged) (step_in g d) w.step)
-        ∙ every_at (λ x. may_begin d.kind (shape_of g x).opcode) (plan_of g (asked_of d)) d.course.place (opcodes d.kind g d.unit) w.step)
+        ∙ every_at (λ x. may_begin d.kind (shape_of g x).opcode) (plan_of g (asked_of d)) d.course.place (opcodes d.kind g d.slot) w.step)

@@ -18,7 +18,7 @@ use Rattle.slots.specs.declared.Course.{Course}
 use Rattle.slots.specs.declared.Driver.{Driver}
 use Rattle.slots.specs.declared.Stage.{Stage}
 use Rattle.slots.specs.declared.Stage.TheVariants.{Going, Ended}
-use Rattle.slots.specs.Plans.{Asked, units_of, plan_of, sector_for, step_at, is_end}
+use Rattle.slots.specs.Plans.{Asked, plan_of, sector_for, step_at, is_end}
 use Rattle.slots.specs.Refusals.{is_over, is_short, early_refusal, or_else, flaws_in}
 use Rattle.slots.specs.Driver.{Heard, heard, after, is_ended}
 use Rattle.slots.specs.Calls.{first_course}
@@ -61,7 +61,7 @@ fault_facts g d e =
 early_none : (g : Geometry) (a : Asked) → Early g a flawless → early_refusal g a flawless ≡ Answers.Done
 unfolding early_refusal
 early_none g a w =
-    simp (lt-leb (units_of a.kind g) a.unit w.unit, le-leb 1 a.limit w.some, le-leb a.limit 1000 w.most)
+    simp (lt-leb (g.pages / 8) a.slot (omega (arith, w.fits)), le-leb 1 a.limit w.some, le-leb a.limit 1000 w.most)
 
 facts_fault : (g : Geometry) (d : Driver) → Facts g d → fault_by (Known g) d ≡ Answers.Done
 unfolding fault_by stray_refusal or_else number_of
@@ -168,10 +168,10 @@ start_sane g array a d payload lent p = record { part = p; facts = λ h. go (eqb
     go true e h =
         let w = none e in
         record {
-          asked = record { unit = w.unit; some = w.some; most = w.most; size = refl; dates = refl };
+          asked = record { fits = w.fits; some = w.some; most = w.most; size = refl; dates = refl };
           some = w.some;
           most = omega arith;
-          step = first_some a.kind g a.unit;
+          step = first_some a.kind g a.slot;
         }
     go false e h = never (sym h)
 

@@ -18,7 +18,7 @@ use Rattle.slots.specs.declared.Stage.TheVariants.{Going, Ended}
 use Rattle.slots.specs.declared.Told.TheVariants.{Answered}
 use Rattle.slots.specs.declared.Verdict.{Verdict}
 use Rattle.slots.specs.declared.Verdict.TheVariants.{Good}
-use Rattle.slots.specs.Plans.{Asked, units_of, plan_of, sector_for, bound, is_wait}
+use Rattle.slots.specs.Plans.{Asked, plan_of, sector_for, bound, is_wait}
 use Rattle.slots.specs.Driver.{Holding, shape_of, loaded, frame_of, heard, after, taken_by, step_of, is_ended, verdict_answer, weighed, told_by}
 use Rattle.slots.specs.Refusals.{early_refusal}
 use Rattle.slots.specs.Calls.{outline, first_course}
@@ -174,7 +174,7 @@ module _ (g : Geometry) (a : Asked) (flaws : Flaws) (h : Holding) (replies : ℕ
   unfolding opened
   opened_ok e =
       subst (Ok (plan_of g a) a.limit (bound g a)) (accepted-course g a flaws e)
-      (start_ok (plan_of g a) a.limit (first_some a.kind g a.unit) (early g a flaws e).some)
+      (start_ok (plan_of g a) a.limit (first_some a.kind g a.slot) (early g a flaws e).some)
 
   -- a call ends within its bound for every sequence of replies
   pub any_ends : is_ended (talk (bound g a) g a replies (opened g a flaws h)).course.stage ≡ true
@@ -211,7 +211,7 @@ module _ (g : Geometry) (a : Asked) (replies : ℕ → List ℕ) where
 early_other : (g : Geometry) (a : Asked) (flaws : Flaws) → No16 (early_refusal g a flaws)
 unfolding early_refusal number_of
 early_other g a flaws =
-    cases No16 (leb (units_of a.kind g) a.unit) (by_number Answers.Slot refl)
+    cases No16 (leb (g.pages / 8) a.slot) (by_number Answers.Slot refl)
     (cases No16 (not (leb 1 a.limit && leb a.limit 1000)) (by_number Answers.Limit refl)
     (cases No16 flaws.size (by_number Answers.Size refl) (cases No16 flaws.dates (by_number Answers.Dates refl) (by_number Answers.Done refl))))
 

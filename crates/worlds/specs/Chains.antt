@@ -2,13 +2,10 @@
 -- Assumes nothing.
 use Rattle.std.specs.Prelude.{ℕ, zero, suc, ◌+◌, ◌≡◌, false, cond, List, [], ◌∷◌, ◌++◌, ◌⊎◌}
 use Rattle.geometry.specs.declared.Geometry.{Geometry}
-use Rattle.geometry.specs.declared.Part.{Part}
-use Rattle.geometry.specs.declared.Part.TheVariants.{Known, Unknown}
-use Rattle.geometry.specs.Parts.{part_of}
 use Rattle.state.specs.declared.Answer.{Answer}
 use Rattle.slots.specs.declared.Driver.{Driver}
 use Rattle.slots.specs.declared.Told.TheVariants.{Answered}
-use Rattle.slots.specs.Plans.{sector_for, stated}
+use Rattle.slots.specs.Plans.{sector_for}
 use Rattle.slots.specs.Driver.{Heard, heard, is_ended}
 use Rattle.slots.specs.Calls.{outline}
 use Rattle.slots.specs.Alike.{FromData}
@@ -27,15 +24,6 @@ pub record Chain : Type 0 where
 -- Aid: nothing is sent yet
 abbrev pub begun : Driver → List ℕ → Chain
 begun d staged = record { driver = d; staged = staged; lines = []; frames = 0; polls = 0 }
-
--- (14.25) how many frames a state's call may send: as many as are stated for it on the part of its array's length
-unfoldable pub most_by : Part → Driver → ℕ
-most_by (Known g) d = stated d.kind g d.unit d.limit
-most_by Unknown d = 0
-
--- (14.25) the part looked up
-abbrev pub most_in : Driver → ℕ
-most_in d = most_by (part_of d.array) d
 
 -- (14.25) its frame sent, and reply number `frames` taken in; after the end nothing
 unfoldable pub linked : List ℕ → (ℕ → List ℕ) → Chain → Chain

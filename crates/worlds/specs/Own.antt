@@ -2,7 +2,7 @@
 -- Assumes nothing.
 use Rattle.std.specs.Prelude.{ℕ, Bool, ◌||◌, eqb}
 use Rattle.slots.specs.declared.Kind.{Kind}
-use Rattle.slots.specs.declared.Kind.TheVariants.{Put, Patch, Get, Wipe, Refresh}
+use Rattle.slots.specs.declared.Kind.TheVariants.{Put, Patch, Get, Wipe}
 
 -- (10.28) D7, 32, 35
 unfoldable pub asks : ℕ → Bool
@@ -14,4 +14,3 @@ may_begin Put n = asks n || (eqb n 0x84 || (eqb n 0x83 || eqb n 0x60))
 may_begin Patch n = asks n || (eqb n 0xD2 || (eqb n 0x84 || (eqb n 0x83 || eqb n 0x60)))
 may_begin Get n = eqb n 0xD7 || eqb n 0xD2
 may_begin Wipe n = asks n || eqb n 0x50
-may_begin Refresh n = asks n || eqb n 0x58

@@ -24,7 +24,7 @@ unfoldable pub start_driver : ℕ → Asked → Detail → (payload lent : ℕ) 
 start_driver array a d payload lent =
     record {
       array = array;
-      unit = a.unit;
+      slot = a.slot;
       limit = a.limit;
       aim = aim_of d;
       kind = a.kind;

@@ -13,10 +13,6 @@ use std::process::Command;
 /// polled twice after 83 and after 60: 2 + 20 + 20 + 8 * (268 + 2 * (4 + 2 + 2)) =
 /// 2,314 bytes in 3 + 8 * 7 = 59 frames, for either recipe. Pages of 256 bytes take
 /// 64 less.
-///
-/// Each of four puts writes eight pages of 0b, which has 248. A refresh has three
-/// frames, and two for each page; over the driver, with its second poll, three:
-/// 3 + 3 * 248 = 747 frames of 2 + 20 + 20 + 248 * (4 + 2 + 2) = 2,026 bytes.
 fn output(page: u32, driver_get: u32, driver_put: u32, longest: u32) -> String {
     format!(
         "\
@@ -34,11 +30,6 @@ recipe: {longest} bytes, as put
 call put_term: answer 0, frames 43, polls 17
 call get: answer 15, frames 9, polls 1
 driver get: answer 15, frames 9, bytes on the wire {driver_get}
-pages written: 0a 0, 0b 32
-driver refresh: answer 0, frames 747, bytes on the wire 2026
-pages written: 0a 0, 0b 280
-call refresh: answer 0, frames 499, polls 249
-pages written: 0a 0, 0b 0
 "
     )
 }

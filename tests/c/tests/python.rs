@@ -51,14 +51,12 @@ fn the_example_prints_the_status() {
 
 /// Put and get refuse what is over 2,109 or 2,045 with 5, a put with a term what is
 /// over eight bytes less; gets outside the term answer 15, on a day that there is
-/// not 14; and a cut meets junk of the other page size with 7. Two puts have written
-/// 16 pages of 0b; its refresh sends 3 frames and two a page, of which there are 248 or
-/// 120. Sectors that the part lacks are answered 3.
+/// not 14; and a cut meets junk of the other page size with 7.
 const EVERY_PART: &str = "\
-4096 264 A4 5 0 5 True True 5 0 15 0 0 15 14 True 7 0 16 0 499 True 0 0 3 3
-4096 256 A5 5 0 5 True True 5 0 15 0 0 15 14 True 7 0 16 0 499 True 0 0 3 3
-128 264 A4 5 0 5 True True 5 0 15 0 0 15 14 True 7 0 16 0 243 True 3 3 3 3
-128 256 A5 5 0 5 True True 5 0 15 0 0 15 14 True 7 0 16 0 243 True 3 3 3 3
+4096 264 A4 5 0 5 True True 5 0 15 0 0 15 14 True 7 0
+4096 256 A5 5 0 5 True True 5 0 15 0 0 15 14 True 7 0
+128 264 A4 5 0 5 True True 5 0 15 0 0 15 14 True 7 0
+128 256 A5 5 0 5 True True 5 0 15 0 0 15 14 True 7 0
 ";
 
 #[test]

@@ -22,8 +22,8 @@ pub struct Coverage {
     /// changed or the reply has data; as ignored if the frame was complete and
     /// the model says so.
     pub rows: [[Count; OPERATIONS.len()]; ROWS.len()],
-    /// By function (fresh, send, end busy, move pin, cut, tally, then put, patch,
-    /// get, wipe, refresh, raw) and answer.
+    /// By function (fresh, send, end busy, move pin, cut, then put, patch, get,
+    /// wipe, raw) and answer.
     pub answers: [[u64; ANSWERS]; CHIP_FUNCTIONS + KINDS.len()],
 }
 
@@ -56,7 +56,7 @@ impl Coverage {
             .collect()
     }
 
-    /// How often each of put, patch, get, wipe, refresh and raw was called.
+    /// How often each of put, patch, get, wipe and raw was called.
     pub fn calls(&self) -> [u64; KINDS.len()] {
         std::array::from_fn(|kind| self.answers[CHIP_FUNCTIONS + kind].iter().sum())
     }

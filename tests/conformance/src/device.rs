@@ -1,10 +1,10 @@
-//! What is compared: the chip's six functions and the slot calls, over a
+//! What is compared: the chip's five functions and the slot calls, over a
 //! record block.
 
 use at45db081d_model::{record, Call, Date, Lent, Outcome, Record, Term};
-use slipknoll::{Chip, Error, Level, Run, Tally};
+use slipknoll::{Chip, Error, Level, Run};
 
-/// An implementation of the chip and its calls over record blocks of 833
+/// An implementation of the chip and its calls over record blocks of 765
 /// bytes.
 pub trait Device {
     fn fresh(&mut self, record: &mut Record, factory: &[u8; 64], array: &mut [u8]) -> u8;
@@ -12,8 +12,7 @@ pub trait Device {
     fn end_busy(&mut self, record: &mut Record, array: &mut [u8]) -> u8;
     fn move_pin(&mut self, record: &mut Record, high: bool) -> u8;
     fn cut(&mut self, record: &mut Record, array: &mut [u8], junk: &[u8]) -> u8;
-    fn tally(&mut self, record: &Record, tally: &mut Tally);
-    /// Put, patch, get, wipe, refresh or raw.
+    /// Put, patch, get, wipe or raw.
     fn call(&mut self, record: &mut Record, lent: Lent, call: Call) -> Outcome;
 }
 
@@ -39,10 +38,6 @@ impl Device for Model {
 
     fn cut(&mut self, record: &mut Record, array: &mut [u8], junk: &[u8]) -> u8 {
         record::cut(record, array, junk)
-    }
-
-    fn tally(&mut self, record: &Record, tally: &mut Tally) {
-        *tally = record::tally(record);
     }
 
     fn call(&mut self, record: &mut Record, lent: Lent, call: Call) -> Outcome {
@@ -86,10 +81,6 @@ impl Device for Library {
         number(Chip::from_record_mut(record).cut(array, junk))
     }
 
-    fn tally(&mut self, record: &Record, tally: &mut Tally) {
-        slipknoll::ffi::tally(record, tally);
-    }
-
     fn call(&mut self, record: &mut Record, lent: Lent, call: Call) -> Outcome {
         let array = lent.array;
         // Counts of a call that sets none of them.
@@ -129,9 +120,6 @@ impl Device for Library {
                 buffer,
             } => number(chip.get_ymd(array, slot, poll_limit, ymd(today), buffer, &mut run)),
             Call::Wipe { slot, poll_limit } => number(chip.wipe(array, slot, poll_limit, &mut run)),
-            Call::Refresh { sector, poll_limit } => {
-                number(chip.refresh(array, sector, poll_limit, &mut run))
-            }
             Call::Raw { frame, reply } => number(chip.raw(array, frame, reply, &mut run)),
         };
         let [frames, polls, n] = run.counts;

@@ -92,8 +92,8 @@ fn part_of(array_len: usize, request: &Request) -> Result<Part, u8> {
     let part = Part::from_array_len(array_len).ok_or(answer::PART)?;
     let mut buffer = vec![0; request.lent_len()];
     let call = request.with_lent(&mut buffer);
-    let (target, poll_limit) = call.target().expect("a call with a slot or sector");
-    if target.pages(part).is_none() {
+    let (slot, poll_limit) = call.target().expect("a call with a slot");
+    if slot >= part.blocks() {
         Err(answer::SLOT)
     } else if !(1..=1000).contains(&poll_limit) {
         Err(answer::LIMIT)
@@ -195,9 +195,6 @@ impl Driver for LibraryDriver {
             }
             Request::Wipe { slot, poll_limit } => {
                 driver::start_wipe(state, array_len, *slot, *poll_limit);
-            }
-            Request::Refresh { sector, poll_limit } => {
-                driver::start_refresh(state, array_len, *sector, *poll_limit);
             }
             Request::Raw { .. } => panic!("raw has no driver"),
         }

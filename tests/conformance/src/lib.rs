@@ -1,8 +1,8 @@
 //! Compares an implementation of the chip with the second model, step by step.
 //!
 //! A [`Pair`] keeps two devices with memories of their own, does each [`Step`]
-//! on both and compares answer, counts, record, array, reply, log, get buffer
-//! and tally. A [`Scenario`] is a numbered list of cases; each case stands alone,
+//! on both and compares answer, counts, record, array, reply, log and get
+//! buffer. A [`Scenario`] is a numbered list of cases; each case stands alone,
 //! so that one that fails can be run again by its number:
 //!
 //! ```text

@@ -61,8 +61,7 @@ fn field_name(name: &str, index: usize) -> &'static str {
         (field::DATA.end, " (operation's data)"),
         (field::BUFFER_1.end, " (buffer 1)"),
         (field::BUFFER_2.end, " (buffer 2)"),
-        (field::TALLY.start, " (compare bit)"),
-        (RECORD_LEN, " (tally)"),
+        (RECORD_LEN, " (compare bit)"),
     ];
     fields
         .iter()

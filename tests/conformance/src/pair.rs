@@ -165,7 +165,7 @@ impl<'a> Pair<'a> {
         }
     }
 
-    /// A call writes in its slot or sector, a raw frame what its operation says.
+    /// A call writes in its slot, a raw frame what its operation says.
     fn note_call(&mut self, request: &Request, part: Part, before: &Record) {
         if let Request::Raw { frame, .. } = request {
             let mut chip = Chip::from_record(before);
@@ -173,9 +173,8 @@ impl<'a> Pair<'a> {
             chip.send(array, frame, &mut vec![0; frame.len()]);
             return self.note_operation(&chip.operation, part);
         }
-        let target = request.with_lent(&mut []).target();
-        if let Some(pages) = target.and_then(|(target, _)| target.pages(part)) {
-            self.note_range(pages.start * part.page_size..pages.end * part.page_size);
+        if let Some(slot) = request.slot().filter(|&slot| slot < part.blocks()) {
+            self.note_range(part.block_range(slot as u16));
         }
     }
 
@@ -263,7 +262,6 @@ impl<'a> Pair<'a> {
                 self.compare_arrays_now_and_then()
             }
             Step::Fresh { .. } | Step::EndBusy { .. } | Step::Cut { .. } => self.compare_arrays(),
-            Step::Tally => self.compare_tallies(),
             _ => self.compare_arrays_now_and_then(),
         }
     }
@@ -285,15 +283,6 @@ impl<'a> Pair<'a> {
     fn compare_replies(&self, name: &str, len: usize) -> Result<(), Mismatch> {
         let lent = ..len + 2 * GUARD;
         self.alike(name, &self.model.reply[lent], &self.subject.reply[lent])
-    }
-
-    /// Compares what is lent for the counts, and what stands before and behind it.
-    fn compare_tallies(&self) -> Result<(), Mismatch> {
-        let (model, subject) = (self.model.tally, self.subject.tally);
-        match model == subject {
-            true => Ok(()),
-            false => Err(self.mismatch(format!("tally: model {model:?}, device {subject:?}"))),
-        }
     }
 
     /// Compares the parts of the array that the last step may have changed.

@@ -42,14 +42,8 @@ pub const PATTERNS: [u8; 13] = [
     0x00, 0x01, 0x02, 0x04, 0x08, 0x10, 0x20, 0x40, 0x80, 0x0F, 0x30, 0xC0, 0xFF,
 ];
 
-/// How far counts stand below the highest number, so that a page, a block or a
-/// sector more reaches it, goes beyond it or does not come to it.
-pub const SHORT_OF: [u32; 20] = [
-    0, 1, 2, 7, 8, 9, 95, 119, 120, 121, 127, 128, 129, 247, 248, 249, 255, 256, 257, 1000,
-];
-
-/// An idle record with random bytes in registers and buffers, with counts of every
-/// kind and with random marks, of which deep is rare.
+/// An idle record with random bytes in registers and buffers and with random
+/// marks, of which deep is rare.
 pub fn random(rng: &mut Rng) -> Record {
     let mut record = [0; RECORD_LEN];
     rng.fill(&mut record);
@@ -66,40 +60,7 @@ pub fn random(rng: &mut Rng) -> Record {
     record[field::DEEP_POWER_DOWN] = u8::from(rng.one_in(16));
     record[field::TAG] = tag::IDLE;
     record[field::BUFFER] = 0;
-    random_counts(rng, &mut record);
     record
-}
-
-/// The counts, which stand behind the compare bit (13.1, 13.3).
-pub fn counts(record: &Record) -> [u32; 17] {
-    std::array::from_fn(|sector| {
-        let bytes = &record[765 + 4 * sector..][..4];
-        bytes.iter().fold(0, |n, &byte| n << 8 | u32::from(byte))
-    })
-}
-
-/// Makes one count this number.
-pub fn set_count(record: &mut Record, sector: usize, count: u32) {
-    record[765 + 4 * sector..][..4].copy_from_slice(&count.to_be_bytes());
-}
-
-/// Makes the counts these numbers.
-pub fn set_counts(record: &mut Record, counts: [u32; 17]) {
-    for (sector, count) in counts.into_iter().enumerate() {
-        set_count(record, sector, count);
-    }
-}
-
-/// Makes the counts small, any numbers, or such as will stop.
-pub fn random_counts(rng: &mut Rng, record: &mut Record) {
-    for sector in 0..17 {
-        let count = match rng.below(4) {
-            0 => rng.below(1000) as u32,
-            1 => rng.next_u64() as u32,
-            _ => u32::MAX - rng.pick(&SHORT_OF),
-        };
-        set_count(record, sector, count);
-    }
 }
 
 /// Fills a protection or lockdown register; it has something set once in
@@ -173,9 +134,8 @@ fn stale_fields(tag: u8) -> [Range<usize>; 3] {
     [number, sectors, data]
 }
 
-/// A record alike in registers, counts among them, and otherwise different: buffers,
-/// compare bit, fields that the operation does not have, and the byte that stands
-/// for a mark.
+/// A record alike in registers, and otherwise different: buffers, compare bit,
+/// fields that the operation does not have, and the byte that stands for a mark.
 pub fn alike_in_registers(rng: &mut Rng, record: &Record) -> Record {
     let mut other = *record;
     rng.fill(&mut other[field::BUFFER_1]);

@@ -11,10 +11,10 @@ use crate::parts;
 use crate::records;
 use crate::request::Request;
 use crate::rng::Rng;
-use crate::scenarios::calls::{request, slot, DRIVER_KINDS, REFRESH};
+use crate::scenarios::calls::{request, slot, SLOT_KINDS};
 
 /// Turns of the longest case, and turns after the end.
-const LONGEST: usize = 900;
+const LONGEST: usize = 130;
 const AFTER: usize = 3;
 
 /// The compare bit of a status.
@@ -39,9 +39,8 @@ enum Source {
 pub struct Shown {
     /// Frames that were compared.
     pub frames: u64,
-    /// Ends by their answers, and refreshes that came to their end with 0.
+    /// Ends by their answers.
     pub answers: [u64; 17],
-    pub refreshed: u64,
 }
 
 /// Runs one case; adds to what was shown.
@@ -71,9 +70,7 @@ pub fn check(subject: &mut dyn Driver, seed: u64, shown: &mut Shown) -> Result<(
             }
             Turn::End(_) if after == AFTER => break,
             Turn::End(answer) => {
-                let refreshed = matches!(request, Request::Refresh { .. }) && *answer == 0;
                 shown.answers[usize::from(*answer)] += u64::from(after == 0);
-                shown.refreshed += u64::from(after == 0 && refreshed);
                 after += 1;
                 from_nowhere(&mut rng, &[0xD7, 0x00], 4)
             }
@@ -140,17 +137,8 @@ fn any_request(rng: &mut Rng, part: Part) -> Request {
         2 => Request::get(slot, limit, dates::any_date(rng, 4), part.max_recipe() - 1),
         3 => Request::put(slot, limit, Some(dates::no_term(rng)), vec![7]),
         4 => Request::get(slot, limit, dates::no_date(rng), part.max_recipe()),
-        5 => {
-            let beyond = [2, 16, 17, 1 << 32, usize::MAX];
-            Request::refresh(rng.pick(&beyond), limit)
-        }
         _ => {
-            let kind = rng.below(DRIVER_KINDS);
-            // A refresh is of a slot's sector: only a slot that there is has one.
-            let slot = match kind {
-                REFRESH => slot.min(part.blocks() - 1),
-                _ => slot,
-            };
+            let kind = rng.below(SLOT_KINDS);
             request(rng, part, kind, slot, limit)
         }
     }

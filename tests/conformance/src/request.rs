@@ -4,17 +4,16 @@
 use std::fmt;
 
 use at45db081d_model::calls::LOG_LINE;
-use at45db081d_model::{Call, Date, Part, Target, Term};
+use at45db081d_model::{Call, Date, Part, Term};
 
 /// The calls by name, in the order of [`Request::kind`].
-pub const KINDS: [&str; 6] = ["put", "patch", "get", "wipe", "refresh", "raw"];
+pub const KINDS: [&str; 5] = ["put", "patch", "get", "wipe", "raw"];
 
 /// The answers that each call can meet on a chip; 16 is not among them.
 pub const ANSWERS: [&[usize]; KINDS.len()] = [
     &[0, 1, 3, 4, 5, 6, 7, 8, 9, 10, 11, 14],
     &[0, 1, 3, 4, 5, 6, 7, 8, 9, 10, 11, 12, 13],
     &[0, 1, 3, 4, 5, 6, 7, 8, 9, 11, 12, 14, 15],
-    &[0, 1, 3, 4, 6, 7, 8, 9, 10, 11],
     &[0, 1, 3, 4, 6, 7, 8, 9, 10, 11],
     &[0, 1, 2, 6, 7, 11],
 ];
@@ -41,10 +40,6 @@ pub enum Request {
     },
     Wipe {
         slot: usize,
-        poll_limit: usize,
-    },
-    Refresh {
-        sector: usize,
         poll_limit: usize,
     },
     Raw {
@@ -85,10 +80,6 @@ impl Request {
         Request::Wipe { slot, poll_limit }
     }
 
-    pub fn refresh(sector: usize, poll_limit: usize) -> Request {
-        Request::Refresh { sector, poll_limit }
-    }
-
     /// A raw frame with a reply of its own length.
     pub fn raw(frame: Vec<u8>) -> Request {
         let reply_len = frame.len();
@@ -102,17 +93,12 @@ impl Request {
             Request::Patch { .. } => 1,
             Request::Get { .. } => 2,
             Request::Wipe { .. } => 3,
-            Request::Refresh { .. } => 4,
-            Request::Raw { .. } => 5,
+            Request::Raw { .. } => 4,
         }
     }
 
-    /// The slot; None for refresh and raw.
     pub fn slot(&self) -> Option<usize> {
-        match self.with_lent(&mut []).target() {
-            Some((Target::Slot(slot), _)) => Some(slot),
-            _ => None,
-        }
+        self.with_lent(&mut []).target().map(|(slot, _)| slot)
     }
 
     /// The length of the get buffer or of raw's reply; 0 for the others.
@@ -125,19 +111,14 @@ impl Request {
     }
 
     /// The shortest log that is long enough, for a poll limit of at most 1,000:
-    /// a line for each frame that the call can send (10.29, 12.7). Of a refresh of a
-    /// sector that the part lacks, as long as a sector's of 256 pages.
-    pub fn log_len(&self, part: Part) -> usize {
+    /// a line for each frame that the call can send (10.29, 12.7).
+    pub fn log_len(&self) -> usize {
         let limit = |poll_limit: usize| poll_limit.min(1000);
         let frames = match *self {
             Request::Put { poll_limit, .. } => 17 * limit(poll_limit) + 26,
             Request::Patch { poll_limit, .. } => 17 * limit(poll_limit) + 34,
             Request::Get { poll_limit, .. } => limit(poll_limit) + 8,
             Request::Wipe { poll_limit, .. } => 2 * limit(poll_limit) + 3,
-            Request::Refresh { sector, poll_limit } => {
-                let limit = limit(poll_limit);
-                limit + 2 + sector_pages(part, sector) * (limit + 1)
-            }
             Request::Raw { .. } => 1,
         };
         LOG_LINE * frames
@@ -180,7 +161,6 @@ impl Request {
                 buffer: lent,
             },
             &Request::Wipe { slot, poll_limit } => Call::Wipe { slot, poll_limit },
-            &Request::Refresh { sector, poll_limit } => Call::Refresh { sector, poll_limit },
             Request::Raw { frame, .. } => Call::Raw { frame, reply: lent },
         }
     }
@@ -189,10 +169,8 @@ impl Request {
 impl fmt::Display for Request {
     fn fmt(&self, f: &mut fmt::Formatter) -> fmt::Result {
         write!(f, "{}", KINDS[self.kind()])?;
-        match self.with_lent(&mut []).target() {
-            Some((Target::Slot(slot), limit)) => write!(f, " slot {slot} B {limit}")?,
-            Some((Target::Sector(sector), limit)) => write!(f, " sector {sector} B {limit}")?,
-            None => {}
+        if let Some((slot, poll_limit)) = self.with_lent(&mut []).target() {
+            write!(f, " slot {slot} B {poll_limit}")?;
         }
         match self {
             Request::Put { term, recipe, .. } => {
@@ -210,7 +188,7 @@ impl fmt::Display for Request {
             Request::Get {
                 today, buffer_len, ..
             } => write!(f, " on {}, buffer {buffer_len}", shown(*today)),
-            Request::Wipe { .. } | Request::Refresh { .. } => Ok(()),
+            Request::Wipe { .. } => Ok(()),
             Request::Raw { frame, reply_len } => {
                 let shown = &frame[..frame.len().min(8)];
                 write!(f, " {shown:02X?} of {}, reply {reply_len}", frame.len())
@@ -221,16 +199,6 @@ impl fmt::Display for Request {
 
 fn shown(date: Date) -> String {
     format!("{}-{}-{}", date.year, date.month, date.day)
-}
-
-/// The pages of a sector, typed once more.
-pub fn sector_pages(part: Part, sector: usize) -> usize {
-    match (sector, part.pages) {
-        (0, _) => 8,
-        (1, 128) => 120,
-        (1, _) => 248,
-        _ => 256,
-    }
 }
 
 /// A call with everything that it is lent.
@@ -253,7 +221,7 @@ impl CallStep {
     pub fn new(part: Part, request: Request) -> CallStep {
         CallStep {
             array_len: part.array_len(),
-            log_len: request.log_len(part),
+            log_len: request.log_len(),
             request,
             script: Vec::new(),
             junk_len: part.junk_len(),

@@ -3,7 +3,6 @@
 use std::ops::Range;
 
 use at45db081d_model::{Lent, Outcome, Record, RECORD_LEN};
-use slipknoll::TALLY_LEN;
 
 use crate::device::Device;
 use crate::request::CallStep;
@@ -15,9 +14,8 @@ pub const GUARD: usize = 32;
 /// The longest reply or get buffer that a case lends.
 const MAX_REPLY: usize = 2300;
 
-/// The longest log that a case lends: a refresh of 256 pages with the highest poll
-/// limit needs 1,543,548 bytes.
-const MAX_LOG: usize = 1_544_000;
+/// The longest log that a case lends.
+const MAX_LOG: usize = 103_000;
 
 /// A device with memories of its own, each between guards.
 pub struct Side<'a> {
@@ -27,8 +25,6 @@ pub struct Side<'a> {
     /// The reply of a frame, or the get buffer.
     pub reply: Vec<u8>,
     pub log: Vec<u8>,
-    /// Counts, with as many before and behind them.
-    pub tally: [u32; 3 * TALLY_LEN],
 }
 
 impl<'a> Side<'a> {
@@ -39,7 +35,6 @@ impl<'a> Side<'a> {
             array: pristine.to_vec(),
             reply: vec![0; MAX_REPLY + 2 * GUARD],
             log: vec![0; MAX_LOG + 2 * GUARD],
-            tally: [0; 3 * TALLY_LEN],
         }
     }
 
@@ -52,7 +47,6 @@ impl<'a> Side<'a> {
         let (reply_len, log_len) = match step {
             Step::Send { reply_len, .. } => (*reply_len, 0),
             Step::Call(call) => (call.request.lent_len(), call.log_len),
-            Step::Tally => return self.tally.fill(u32::from_ne_bytes([stale; 4])),
             _ => return,
         };
         self.reply[..reply_len + 2 * GUARD].fill(stale);
@@ -88,12 +82,6 @@ impl<'a> Side<'a> {
             } => {
                 let array = &mut self.array[inside(*array_len)];
                 self.device.cut(record, array, &junk[..*junk_len])
-            }
-            Step::Tally => {
-                let tally = &mut self.tally[TALLY_LEN..2 * TALLY_LEN];
-                let tally = tally.try_into().expect("the length of a tally");
-                self.device.tally(record, tally);
-                0
             }
             Step::Call(call) => return self.call(call, junk),
             Step::Store { at, bytes } => {

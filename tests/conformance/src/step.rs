@@ -41,14 +41,12 @@ pub enum Step {
         seed: u64,
         register: u8,
     },
-    /// The counts are read.
-    Tally,
-    /// Put, patch, get, wipe, refresh or raw.
+    /// Put, patch, get, wipe or raw.
     Call(Box<CallStep>),
 }
 
 /// The functions of the chip; the calls are counted behind them.
-pub const CHIP_FUNCTIONS: usize = 6;
+pub const CHIP_FUNCTIONS: usize = 5;
 
 impl Step {
     pub fn call(call: CallStep) -> Step {
@@ -85,7 +83,6 @@ impl Step {
             Step::EndBusy { .. } => Some(2),
             Step::MovePin { .. } => Some(3),
             Step::Cut { .. } => Some(4),
-            Step::Tally => Some(5),
             Step::Call(call) => Some(CHIP_FUNCTIONS + call.request.kind()),
         }
     }
@@ -125,20 +122,18 @@ impl fmt::Display for Step {
                 f,
                 "cut, junk {junk_len}, register's {register:02X}, array {array_len}"
             ),
-            Step::Tally => write!(f, "tally"),
         }
     }
 }
 
-/// The fields of a record that decide most: marks, operation, sectors and counts.
+/// The fields of a record that decide most: marks, operation and sectors.
 fn summary(record: &Record) -> String {
     format!(
-        "used/protect/WP/deep {}, operation {}, protection {}, lockdown {}, tally {}",
+        "used/protect/WP/deep {}, operation {}, protection {}, lockdown {}",
         hex(&record[field::SECURITY_PROGRAMMED..field::TAG]),
         hex(&record[field::TAG..field::DATA.start]),
         hex(&record[field::PROTECTION]),
         hex(&record[field::LOCKDOWN]),
-        hex(&record[field::TALLY]),
     )
 }
 

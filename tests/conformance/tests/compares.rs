@@ -8,7 +8,7 @@ use conformance::compares::{Case, Work};
 use conformance::driving::{Driver, LibraryDriver, Turn};
 use conformance::lists::Broken;
 use conformance::replies::{self, Shown};
-use conformance::scenarios::calls::{request, slot, DRIVER_KINDS};
+use conformance::scenarios::calls::{request, slot, SLOT_KINDS};
 use conformance::slips::drivers::{DriverSlip, FaultyDriver, DRIVER_SLIPS};
 use conformance::{parts, Rng};
 
@@ -17,7 +17,7 @@ use conformance::{parts, Rng};
 const CASES: u64 = 5 * 4 * 2 * 8 * 2 * (1 + 2 + 3);
 
 /// Pairs of runs, by their seeds.
-const PAIRS: u64 = 25_000;
+const PAIRS: u64 = 20_000;
 
 /// The compare bit of a status.
 const DIFFERS: u8 = 0x40;
@@ -129,7 +129,7 @@ fn heard_alike(rng: &mut Rng, frame: &[u8], reply: &[u8]) -> Vec<u8> {
 fn heard_twice(seed: u64, mut drivers: [Box<dyn Driver>; 2]) -> Result<[Turn; 2], String> {
     let mut rng = Rng::new(seed);
     let part: Part = parts::pick(&mut rng, 20);
-    let (kind, slot) = (rng.below(DRIVER_KINDS), slot(&mut rng, part));
+    let (kind, slot) = (rng.below(SLOT_KINDS), slot(&mut rng, part));
     let request = request(&mut rng, part, kind, slot, 4);
     let [first, second] = &mut drivers;
     let array_len = part.array_len();
@@ -167,7 +167,7 @@ fn compare_bits_do_not_show() {
         "compare bits: {PAIRS} pairs, {unlike} ended unlike, {told} of these with 16 in one"
     ));
     // 95 in 100 of those that there are.
-    assert!(unlike >= 7_100 && told >= 2_970);
+    assert!(unlike >= 7_150 && told >= 2_950);
 }
 
 #[test]

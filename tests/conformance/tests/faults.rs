@@ -3,10 +3,8 @@
 
 use at45db081d_model::record::{field, tag};
 use at45db081d_model::{answer, Call, Chip, Lent, Outcome, Part, Record};
-use conformance::records::{counts, set_counts};
 use conformance::runner::runs_one_case;
 use conformance::{run_cases, scenarios, Cases, Device, Failure, Model};
-use slipknoll::Tally;
 
 #[derive(Clone, Copy, Debug, PartialEq)]
 enum Fault {
@@ -49,23 +47,9 @@ enum Fault {
     CutLocksLate,
     /// A cut's junk is tested before the part.
     CutTestsJunkFirst,
-    /// Fresh leaves the counts.
-    FreshKeepsCounts,
-    /// A page erase counts when its frame ends too.
-    FrameCounts,
-    /// A busy end that is refused counts.
-    RefusedEndCounts,
-    /// A cut sets the counts to 0.
-    CutClearsCounts,
-    /// A pin move sets the counts to 0.
-    PinClearsCounts,
-    /// Counts of sectors that the part lacks are read as 0.
-    LackingCountsHidden,
-    /// Counts stop at 2,147,483,647.
-    CountsStopEarly,
 }
 
-const FAULTS: [Fault; 26] = [
+const FAULTS: [Fault; 19] = [
     Fault::ProgramWithoutAnd,
     Fault::StrayWrite,
     Fault::SealTestedTwice,
@@ -85,13 +69,6 @@ const FAULTS: [Fault; 26] = [
     Fault::CutRaisesWp,
     Fault::CutLocksLate,
     Fault::CutTestsJunkFirst,
-    Fault::FreshKeepsCounts,
-    Fault::FrameCounts,
-    Fault::RefusedEndCounts,
-    Fault::CutClearsCounts,
-    Fault::PinClearsCounts,
-    Fault::LackingCountsHidden,
-    Fault::CountsStopEarly,
 ];
 
 const MARKS: [usize; 5] = [
@@ -107,12 +84,7 @@ struct Faulty(Fault);
 
 impl Device for Faulty {
     fn fresh(&mut self, record: &mut Record, factory: &[u8; 64], array: &mut [u8]) -> u8 {
-        let before = counts(record);
-        let answer = Model.fresh(record, factory, array);
-        if self.0 == Fault::FreshKeepsCounts {
-            set_counts(record, before);
-        }
-        answer
+        Model.fresh(record, factory, array)
     }
 
     fn send(&mut self, record: &mut Record, array: &[u8], frame: &[u8], reply: &mut [u8]) -> u8 {
@@ -131,11 +103,6 @@ impl Device for Faulty {
         }
         self.restore_after_send(record, &before, &frame);
         self.spoil_marks(record, &before, answer);
-        let erases = before[field::TAG] == tag::IDLE && record[field::TAG] == tag::ERASE_PAGE;
-        if self.0 == Fault::FrameCounts && erases {
-            let raised = counts(record).map(|count| count.saturating_add(1));
-            set_counts(record, raised);
-        }
         answer
     }
 
@@ -148,15 +115,12 @@ impl Device for Faulty {
             *array.last_mut().expect("an array") ^= 1;
         }
         self.spoil_marks(record, &before, answer);
-        self.spoil_counts(record, answer);
         answer
     }
 
     fn move_pin(&mut self, record: &mut Record, high: bool) -> u8 {
-        match self.0 {
-            Fault::PinTidiesRecord => tidy_marks(record),
-            Fault::PinClearsCounts => set_counts(record, [0; 17]),
-            _ => {}
+        if self.0 == Fault::PinTidiesRecord {
+            tidy_marks(record);
         }
         Model.move_pin(record, high)
     }
@@ -179,19 +143,11 @@ impl Device for Faulty {
             match self.0 {
                 Fault::CutClearsLockdown => record[field::LOCKDOWN].fill(0),
                 Fault::CutRaisesWp => record[field::WP_HIGH] = 1,
-                Fault::CutClearsCounts => set_counts(record, [0; 17]),
                 _ => {}
             }
         }
         self.spoil_marks(record, &before, answer);
         answer
-    }
-
-    fn tally(&mut self, record: &Record, tally: &mut Tally) {
-        Model.tally(record, tally);
-        if self.0 == Fault::LackingCountsHidden {
-            tally[2..].fill(0);
-        }
     }
 
     fn call(&mut self, record: &mut Record, lent: Lent, call: Call) -> Outcome {
@@ -260,19 +216,6 @@ impl Faulty {
         if self.0 == Fault::StraySectorsIgnored && chip_erase {
             record[field::SECTORS.start] = 0;
             record[field::SECTORS.start + 1] &= 1;
-        }
-    }
-
-    fn spoil_counts(&self, record: &mut Record, answer: u8) {
-        let counts = counts(record);
-        match self.0 {
-            Fault::RefusedEndCounts if answer != answer::ACCEPTED => {
-                set_counts(record, counts.map(|count| count.saturating_add(1)));
-            }
-            Fault::CountsStopEarly if answer == answer::ACCEPTED => {
-                set_counts(record, counts.map(|count| count.min(0x7FFF_FFFF)));
-            }
-            _ => {}
         }
     }
 

@@ -18,14 +18,13 @@ use conformance::{run_cases, scenarios, Cases, Coverage, Library, Scenario};
 /// The steps that each test compares at least: 95 in 100 of those that it does.
 mod least {
     pub const ROWS: u64 = 1_445_000;
-    pub const SEALS: u64 = 937_000;
+    pub const SEALS: u64 = 936_000;
     pub const ADDRESSES: u64 = 866_000;
     pub const BUSY_ENDS: u64 = 311_000;
-    pub const CALLER_RECORDS: u64 = 174_000;
+    pub const CALLER_RECORDS: u64 = 154_000;
     pub const REFUSALS: u64 = 447_000;
     pub const OTHER_PARTS: u64 = 86_000;
-    pub const TALLIES: u64 = 80_800;
-    pub const RANDOM_RUNS: u64 = 1_541_000;
+    pub const RANDOM_RUNS: u64 = 1_507_000;
 }
 
 /// Says something even when the test passes.
@@ -113,17 +112,10 @@ fn every_tag_of_a_callers_record() {
         None => return,
     };
     for reached in reached {
-        let answers = [0, 1, 2, 3, 4, 5].map(|call| reached.answers_of(call));
+        let answers = [0, 1, 2, 3, 4].map(|call| reached.answers_of(call));
         assert_eq!(
             answers,
-            [
-                vec![0],
-                vec![0, 1],
-                vec![0, 1],
-                vec![0],
-                vec![0, 1],
-                vec![0]
-            ]
+            [vec![0], vec![0, 1], vec![0, 1], vec![0], vec![0, 1]]
         );
     }
 }
@@ -157,25 +149,19 @@ fn operations_met_by_other_parts() {
 }
 
 #[test]
-fn every_count_of_every_operation() {
-    compare(scenarios::TALLIES, 4, least::TALLIES);
-}
-
-#[test]
 fn random_runs() {
     let reached = match compare(scenarios::RANDOM_RUN, 1, least::RANDOM_RUNS) {
         Some(reached) => reached,
         None => return,
     };
     for reached in reached {
-        let answers = [0, 1, 2, 3, 4, 5].map(|call| reached.answers_of(call));
+        let answers = [0, 1, 2, 3, 4].map(|call| reached.answers_of(call));
         let expected = [
             vec![0, 1],
             vec![0, 1, 2],
             vec![0, 1],
             vec![0],
             vec![0, 1, 7],
-            vec![0],
         ];
         assert_eq!(answers, expected);
         for (i, row) in ROWS.iter().enumerate() {

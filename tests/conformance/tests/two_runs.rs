@@ -1,6 +1,5 @@
 //! What `two-runs` says, on compiled code: random lists on two chips alike in
-//! registers and otherwise different show the same outlines, and leave the same
-//! counts.
+//! registers and otherwise different show the same outlines.
 
 use std::io::Write;
 use std::time::Instant;
@@ -18,7 +17,7 @@ const PAIRS: u64 = 48_000;
 const LEAST_BY_PART: [u64; 4] = [22_300, 22_300, 106, 112];
 
 /// Builds that leak something of the recipes.
-const LEAKS: [Slip; 22] = [
+const LEAKS: [Slip; 20] = [
     Slip::SkipsPageAlreadyThere,
     Slip::SkipsPageOutsidePatch,
     Slip::GetStopsAtStoredLength,
@@ -39,8 +38,6 @@ const LEAKS: [Slip; 22] = [
     Slip::EarlierPollCounts,
     Slip::ProgramWaitCounts,
     Slip::KeptPagesNotCompared,
-    Slip::CountsChangedPages,
-    Slip::RefreshSkipsEmptyPages,
 ];
 
 /// Says something even when the test passes.
@@ -68,8 +65,6 @@ fn nothing_of_the_recipes_shows() {
         ("unlike answers among 0, 12, 13, 15", shown.unlike_answers),
         ("puts with a term in one run", shown.unlike_terms),
         ("gets on unlike days", shown.unlike_days),
-        ("items that raised a count", shown.raised),
-        ("refreshes that lowered one", shown.lowered),
     ]);
     let seconds = begin.elapsed().as_secs_f64();
     say(&format!(
@@ -78,37 +73,17 @@ fn nothing_of_the_recipes_shows() {
     ));
     // 95 in 100 of what is reached.
     assert_eq!(shown.pairs, PAIRS);
-    assert!(shown.calls() >= 192_600);
-    assert!(shown.frames >= 3_158_500);
-    assert!(shown.unlike_answers >= 20_000);
-    assert!(shown.unlike_terms >= 6_400);
-    assert!(shown.unlike_days >= 28_900);
-    assert!(shown.raised >= 59_000);
-    assert!(shown.lowered >= 9_300);
+    assert!(shown.calls() >= 192_700);
+    assert!(shown.frames >= 2_092_800);
+    assert!(shown.unlike_answers >= 22_900);
+    assert!(shown.unlike_terms >= 7_500);
+    assert!(shown.unlike_days >= 33_100);
     for (shown, least) in shown.parts.iter().zip(&LEAST_BY_PART) {
         assert!(shown >= least, "only {shown} of {least} on a part");
     }
     for (kind, expected) in ANSWERS.iter().enumerate() {
         let met: Vec<usize> = (0..17).filter(|&n| shown.answers[kind][n] > 0).collect();
         assert_eq!(met, *expected, "answers of {}", KINDS[kind]);
-    }
-}
-
-/// Builds that lower counts where they must not, or do not where they must.
-#[test]
-fn wrong_counts_are_noticed() {
-    for wrong in [
-        Slip::CountsWrap,
-        Slip::CountClearedUnder9,
-        Slip::CountClearedUnder11,
-        Slip::CountClearedFirst,
-        Slip::CountNotCleared,
-        Slip::AllCountsCleared,
-    ] {
-        match run(&mut Faulty(wrong), Without::Nothing) {
-            Ok(_) => panic!("{wrong:?} not noticed"),
-            Err(broken) => println!("{wrong:?}: {broken}"),
-        }
     }
 }
 

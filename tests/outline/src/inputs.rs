@@ -104,9 +104,7 @@ const VALUES: [(&str, &[&str]); 10] = [
     ),
     (
         "log",
-        &[
-            "258", "114", "113", "54", "30", "6", "5", "0", "1458", "1543548", "1543549",
-        ],
+        &["258", "54", "30", "6", "5", "0", "102204", "102205"],
     ),
     (
         "buffer",
@@ -135,18 +133,16 @@ const RECIPE_LENS: [usize; 24] = [
 const DATA_LENS: [usize; 12] = [0, 1, 2, 3, 16, 17, 64, 256, 264, 300, 1096, 1097];
 
 /// Lines that are brief.
-const BRIEF: [&[u8]; 12] = [
+const BRIEF: [&[u8]; 10] = [
     b"",
     b" ",
     b"\r",
     b"\t \t",
     b"sum 1",
-    b"tally 1",
     b"end -",
     b"patch 1",
     b"patch 1 1",
     b"put 1",
-    b"refresh",
     b"raw",
 ];
 
@@ -188,15 +184,14 @@ const OPENINGS: [&[u8]; 34] = [
     &[0x77],
 ];
 
-/// Whole frames: the last four list and lock sectors, one before them erases all.
-const FRAMES: [&[u8]; 11] = [
+/// Whole frames: the last four list and lock sectors.
+const FRAMES: [&[u8]; 10] = [
     &[0xD7, 0],
     &[0x9F, 0, 0, 0, 0, 0],
     &[0xB9],
     &[0xAB],
     &[0x00],
     &[],
-    &[0xC7, 0x94, 0x80, 0x9A],
     &[0x3D, 0x2A, 0x7F, 0xCF],
     &[0x3D, 0x2A, 0x7F, 0xA9],
     &[0x3D, 0x2A, 0x7F, 0x30, 0, 0, 0],
@@ -239,18 +234,16 @@ fn lines(rng: &mut Rng, damaged: bool) -> Vec<u8> {
     };
     input.extend(first);
     input.extend(end);
-    for _ in 0..=rng.below(29) {
+    for _ in 0..=rng.below(24) {
         let mut line = line(rng).into_bytes();
         if damaged && rng.one_in(2) {
             damage(rng, &mut line);
         }
         input.extend(line);
         input.extend(end);
-        for (report, rarity) in [("tally", 4), ("sum", 2)] {
-            if rng.one_in(rarity) {
-                input.extend(report.as_bytes());
-                input.extend(end);
-            }
+        if rng.one_in(2) {
+            input.extend(b"sum");
+            input.extend(end);
         }
     }
     if rng.one_in(3) {
@@ -261,18 +254,16 @@ fn lines(rng: &mut Rng, damaged: bool) -> Vec<u8> {
 
 /// A line that can be read, but for a number or an option now and then.
 fn line(rng: &mut Rng) -> String {
-    let line = match rng.below(22) {
+    let line = match rng.below(18) {
         0..=3 => format!("put {} {}", slot(rng), recipe(rng)),
         4 | 5 => format!("patch {} {} {}", slot(rng), place(rng), recipe(rng)),
         6..=8 => format!("get {}", slot(rng)),
         9 => format!("wipe {}", slot(rng)),
-        10..=12 => format!("refresh {}", sector(rng)),
-        13 | 14 => format!("raw {}", frame(rng)),
-        15 | 16 => return format!("send {}", frame(rng)),
-        17 => return "end".into(),
-        18 => return format!("pin {}", rng.pick(&LEVELS)),
-        19 => return format!("cut {}", number(rng, 300)),
-        20 => return "tally".into(),
+        10 | 11 => format!("raw {}", frame(rng)),
+        12 | 13 => return format!("send {}", frame(rng)),
+        14 => return "end".into(),
+        15 => return format!("pin {}", rng.pick(&LEVELS)),
+        16 => return format!("cut {}", number(rng, 300)),
         _ => return format!("part {}", rng.pick(&PARTS)),
     };
     line.clone() + &days(rng, &line) + &options(rng)
@@ -307,15 +298,6 @@ fn slot(rng: &mut Rng) -> String {
         0 => number(rng, 520),
         1 => rng.pick(&["16", "511", "512"]).into(),
         _ => rng.pick(&["0", "1", "15"]).into(),
-    }
-}
-
-/// Mostly 0a and 0b, which every part has.
-fn sector(rng: &mut Rng) -> String {
-    match rng.below(10) {
-        0 => number(rng, 20),
-        1 | 2 => rng.pick(&["2", "9", "16", "17"]).into(),
-        _ => rng.pick(&["0", "0", "1"]).into(),
     }
 }
 

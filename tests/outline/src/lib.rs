@@ -4,12 +4,11 @@
 //! - [`order`]: what a line says, or what is wrong with it
 //! - [`session`]: the chip, what is done to it line by line, and what is printed
 //! - [`rules`]: what a wrong version of the reference has otherwise
-//! - [`wrong`]: calls and cuts of wrong versions
 //! - [`crc`]: the CRC-32 that sum prints
 //! - [`inputs`]: random inputs
 //! - [`pairs`]: pairs of inputs that differ in everything secret
 //! - [`stored`]: inputs that are stored, with what must be printed on them
-//! - [`met`]: what an input meets: messages, answers, refreshes, counts
+//! - [`met`]: which messages and answers an output has
 //! - [`difference`]: the first place where an output is not the reference's
 //! - [`trial`]: a program run with its input and output as a test has them
 //! - [`system`]: pipes and signals
@@ -25,7 +24,6 @@ pub mod session;
 pub mod stored;
 pub mod system;
 pub mod trial;
-pub mod wrong;
 
 pub use difference::{difference, Difference};
 pub use rules::{Rules, RULES};

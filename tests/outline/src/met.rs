@@ -1,11 +1,6 @@
-//! What an input meets: messages, answers, refreshes, counts.
+//! Which messages and answers an output has.
 
 use std::collections::BTreeSet;
-
-use at45db081d_model::Part;
-
-use crate::order::{self, Order, Request, PARTS};
-use crate::{printed_by_line, rules, RULES};
 
 /// Every message about a line, behind its number.
 pub const MESSAGES: [&str; 48] = [
@@ -42,7 +37,7 @@ pub const MESSAGES: [&str; 48] = [
     "junklen is over 1114112",
     "log is not a number",
     "log is too large",
-    "log is over 1543548",
+    "log is over 102204",
     "buffer is not a number",
     "buffer is too large",
     "buffer is over 65536",
@@ -66,74 +61,29 @@ pub const ANSWERS: [&str; 15] = [
     "0", "2", "3", "4", "5", "6", "7", "8", "9", "10", "11", "12", "13", "14", "15",
 ];
 
-/// Those that a refresh can meet.
-pub const REFRESH_ANSWERS: [&str; 9] = ["0", "3", "4", "6", "7", "8", "9", "10", "11"];
-
-/// What some inputs meet.
+/// Messages and answers of some outputs.
 #[derive(Clone, Debug, Default, PartialEq, Eq)]
 pub struct Met {
     pub messages: BTreeSet<String>,
     pub answers: BTreeSet<String>,
-    /// Those of refreshes.
-    pub refresh_answers: BTreeSet<String>,
-    /// The parts on which a refresh answers 0, and those on which one answers 3, by
-    /// their words.
-    pub refreshed: BTreeSet<&'static str>,
-    pub lacking: BTreeSet<&'static str>,
-    /// The sectors of which a tally shows a count over 0.
-    pub counted: BTreeSet<usize>,
 }
 
 impl Met {
-    /// All that lines can meet.
+    /// Every message and every answer.
     pub fn all() -> Met {
-        let words = PARTS.map(|(word, _)| word);
         Met {
             messages: MESSAGES.map(String::from).into(),
             answers: ANSWERS.map(String::from).into(),
-            refresh_answers: REFRESH_ANSWERS.map(String::from).into(),
-            refreshed: words.into(),
-            lacking: words.into(),
-            counted: (0..17).collect(),
         }
     }
 
-    /// Adds what an input meets, by the reference.
-    pub fn add(&mut self, input: &[u8]) {
-        let mut part = Part::SHORT;
-        let printed = printed_by_line(&RULES, input);
-        for (line, text) in rules::lines(input).into_iter().zip(&printed) {
-            let last = text.lines().last().unwrap_or("");
-            let behind = |mark: &str| last.rsplit_once(mark).map(|(_, it)| it.to_string());
-            match order::read(line, &RULES) {
-                Err(_) => self.messages.extend(behind(": ")),
-                Ok(Order::Part(named)) => part = named,
-                Ok(Order::Tally) => self.add_counts(last),
-                Ok(order) => {
-                    let answer = behind("answer ");
-                    if let Order::Call(Request::Refresh { .. }, _) = order {
-                        self.add_refresh(part, answer.as_deref());
-                    }
-                    self.answers.extend(answer);
-                }
+    pub fn add(&mut self, output: &[u8]) {
+        for line in String::from_utf8_lossy(output).lines() {
+            if let Some((_, message)) = line.split_once(": ") {
+                self.messages.insert(message.into());
+            } else if let Some((_, answer)) = line.rsplit_once("answer ") {
+                self.answers.insert(answer.into());
             }
         }
-    }
-
-    fn add_refresh(&mut self, part: Part, answer: Option<&str>) {
-        let words = PARTS.iter().filter(|(_, it)| *it == part);
-        let words = words.map(|(word, _)| *word);
-        match answer {
-            Some("0") => self.refreshed.extend(words),
-            Some("3") => self.lacking.extend(words),
-            _ => {}
-        }
-        self.refresh_answers.extend(answer.map(String::from));
-    }
-
-    fn add_counts(&mut self, tally: &str) {
-        let counts = tally.split(' ').enumerate();
-        let over_0 = counts.filter(|(_, count)| *count != "0");
-        self.counted.extend(over_0.map(|(sector, _)| sector));
     }
 }

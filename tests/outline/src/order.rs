@@ -5,7 +5,7 @@ use at45db081d_model::{Date, Part, Term};
 use crate::rules::Rules;
 
 /// Rooms of the lengths lent: a log has room for any call's frames.
-const LOG_ROOM: usize = 1_543_548;
+const LOG_ROOM: usize = 102_204;
 const OUTPUT_ROOM: usize = 65_536;
 const JUNK_ROOM: usize = 1_114_112;
 
@@ -35,7 +35,6 @@ pub enum Order {
     Cut(u64),
     /// A fresh part.
     Part(Part),
-    Tally,
     Sum,
 }
 
@@ -56,9 +55,6 @@ pub enum Request {
     },
     Wipe {
         slot: usize,
-    },
-    Refresh {
-        sector: usize,
     },
     Raw {
         frame: Vec<u8>,
@@ -140,9 +136,6 @@ fn read_call<'a>(
         b"wipe" => Request::Wipe {
             slot: next_number("S", words)? as usize,
         },
-        b"refresh" => Request::Refresh {
-            sector: next_number("S", words)? as usize,
-        },
         b"raw" => Request::Raw {
             frame: next_hex(words)?,
         },
@@ -171,7 +164,6 @@ fn read_other<'a>(
                 None => Err("part is not 128, 4096, 128x256 or 4096x256".into()),
             }
         }
-        b"tally" => Ok(Order::Tally),
         b"sum" => Ok(Order::Sum),
         _ => Err("unknown command".into()),
     }

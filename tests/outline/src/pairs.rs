@@ -1,5 +1,5 @@
 //! Pairs of inputs that differ in everything that must not show: recipes and their
-//! terms, patches, junk and today's date. Their outlines are alike, and their tallies.
+//! terms, patches, junk and today's date. Their outlines are alike.
 
 use at45db081d_model::Part;
 use random::Rng;
@@ -7,8 +7,8 @@ use random::Rng;
 use crate::order::PARTS;
 use crate::rules;
 
-/// A pair of inputs, alike in the part and line by line in call, slot or sector, b
-/// and script.
+/// A pair of inputs, alike in the part and line by line in call, slot, b and
+/// script.
 #[derive(Clone, Debug)]
 pub struct Pair {
     /// With recipes of at most 20 bytes.
@@ -46,17 +46,14 @@ pub fn pair(seed: u64) -> Pair {
         short: format!("part {word}\n"),
         long: format!("part {word}\n"),
     };
-    for _ in 0..3 + rng.below(13) {
+    for _ in 0..3 + rng.below(10) {
         let [short, long] = match with_registers && rng.one_in(4) {
             true => [rng.pick(&REGISTER_LINES); 2].map(String::from),
             false => calls(&mut rng, part, with_registers),
         };
-        let tally = if rng.one_in(3) { "tally\n" } else { "" };
-        pair.short += &(short + "\n" + tally);
-        pair.long += &(long + "\n" + tally);
+        pair.short += &(short + "\n");
+        pair.long += &(long + "\n");
     }
-    pair.short += "tally\n";
-    pair.long += "tally\n";
     pair
 }
 
@@ -69,8 +66,7 @@ fn part(rng: &mut Rng) -> (&'static str, Part) {
 /// A call, with a short recipe and with a long one.
 fn calls(rng: &mut Rng, part: Part, junk_alike: bool) -> [String; 2] {
     let slot = rng.pick(&[0, 1, 1, 15]);
-    let sector = rng.pick(&[0, 0, 0, 1, 2]);
-    let call = rng.below(12);
+    let call = rng.below(10);
     let script: String = script(rng)
         .iter()
         .map(|byte| format!("{byte:02X}"))
@@ -95,8 +91,7 @@ fn calls(rng: &mut Rng, part: Part, junk_alike: bool) -> [String; 2] {
                 let year = 2000 + rng.below(200);
                 format!("get {slot} today={}", date(rng, year))
             }
-            9 => format!("wipe {slot}"),
-            _ => format!("refresh {sector}"),
+            _ => format!("wipe {slot}"),
         };
         format!("{first} {alike} junk={seed}")
     };
@@ -148,18 +143,12 @@ pub struct Shown {
     pub lines: usize,
     /// Lines with unlike answers among 0, 12, 13 and 15.
     pub unlike_answers: usize,
-    /// 58s, and lines of counts.
-    pub rewrites: usize,
-    pub tallies: usize,
 }
 
 impl Shown {
     /// Whether this is at least 95 in 100 of what all pairs show.
     pub fn is_enough(&self) -> bool {
-        self.lines >= 193_500
-            && self.unlike_answers >= 375
-            && self.rewrites >= 23_300
-            && self.tallies >= 2_990
+        self.lines >= 139_600 && self.unlike_answers >= 319
     }
 }
 
@@ -175,14 +164,8 @@ pub fn check(run: impl Fn(&[u8]) -> Vec<u8>) -> Result<Shown, String> {
         let (short, long) = (rules::lines(&short), rules::lines(&long));
         shown.lines += short.len();
         shown.unlike_answers += short.iter().zip(&long).filter(|(x, y)| x != y).count();
-        shown.rewrites += short.iter().filter(|it| it.starts_with(b"4 58 ")).count();
-        shown.tallies += short.iter().filter(|it| is_tally(it)).count();
     }
     Ok(shown)
-}
-
-fn is_tally(line: &[u8]) -> bool {
-    line.split(|&byte| byte == b' ').count() == 17
 }
 
 /// The lines of an output, with answers 0, 12, 13 and 15 alike.

@@ -1,7 +1,7 @@
 //! What the reference does by a rule that stands alone. A wrong version of it
 //! is these rules but for one.
 
-use at45db081d_model::{Call, Chip, Lent, Outcome, Part, Record};
+use at45db081d_model::{Outcome, Record};
 
 use crate::crc::{crc32, Crc};
 use crate::order::{self, Order, Request};
@@ -25,20 +25,12 @@ pub struct Rules {
     /// Byte i of the junk with this seed.
     pub junk_byte: fn(u64, usize) -> u8,
     /// The frames that the log has room for if its length is not given.
-    pub log_frames: fn(Part, &Request, usize) -> usize,
-    /// A call on the chip.
-    pub call: fn(&mut Chip, Lent, Call) -> Outcome,
-    /// A cut on its own.
-    pub cut: fn(&mut Chip, &mut [u8], &[u8]) -> u8,
+    pub log_frames: fn(&Request, usize) -> usize,
     /// What is printed of a frame, from its six log bytes.
     pub frame_text: fn(&[u8]) -> String,
     /// What is printed behind the frames.
     pub totals_text: fn(&Outcome) -> String,
     pub sum_text: fn(&Record, &[u8], &Step) -> String,
-    /// What is printed of the chip's counts.
-    pub tally_text: fn(&[u32]) -> String,
-    /// What a tally does to the step that sum speaks of.
-    pub after_tally: fn(&mut Step),
 }
 
 /// The rules as they are.
@@ -52,13 +44,9 @@ pub const RULES: Rules = Rules {
     stale: 0xA5,
     junk_byte,
     log_frames,
-    call: Chip::call,
-    cut: Chip::cut,
     frame_text,
     totals_text,
     sum_text,
-    tally_text,
-    after_tally: |_| {},
 };
 
 /// A line ends with LF or at the end of the input; an empty rest after the
@@ -77,24 +65,14 @@ pub fn junk_byte(seed: u64, i: usize) -> u8 {
     (seed % 256 * 7 + i * 13 + i / 256 * 31) as u8
 }
 
-/// The bound of the call on this part, for a poll limit of at most 1,000. A sector
-/// that the part lacks has no pages.
-pub fn log_frames(part: Part, request: &Request, limit: usize) -> usize {
+/// The bound of the call, for a poll limit of at most 1,000.
+pub fn log_frames(request: &Request, limit: usize) -> usize {
     let b = limit.min(1000);
-    match *request {
+    match request {
         Request::Put { .. } => 17 * b + 26,
         Request::Patch { .. } => 17 * b + 34,
         Request::Get { .. } => b + 8,
         Request::Wipe { .. } => 2 * b + 3,
-        Request::Refresh { sector } => {
-            let pages = match (sector, part.pages) {
-                (0, _) => 8,
-                (1, pages) => pages.min(256) - 8,
-                (2..=16, 4096) => 256,
-                _ => 0,
-            };
-            b + 2 + pages * (b + 1)
-        }
         Request::Raw { .. } => 1,
     }
 }
@@ -124,10 +102,4 @@ pub fn sum_text(record: &Record, array: &[u8], step: &Step) -> String {
     let state = Crc::default().then(record).then(array).end();
     let (log, out) = (crc32(&step.log), crc32(&step.out));
     format!("sum {state:08X} log {log:08X} out {out:08X} n {}\n", step.n)
-}
-
-/// The counts in decimal, one space between them.
-pub fn tally_text(counts: &[u32]) -> String {
-    let counts: Vec<String> = counts.iter().map(u32::to_string).collect();
-    counts.join(" ") + "\n"
 }

@@ -9,9 +9,6 @@ use crate::rules::Rules;
 /// Factory bytes of every fresh part.
 const FACTORY: [u8; 64] = [0; 64];
 
-/// The script byte of a cut.
-const CUT: u8 = 2;
-
 /// What sum says of the last step beside the chip's state.
 #[derive(Clone, Debug, Default)]
 pub struct Step {
@@ -59,7 +56,6 @@ impl<'a> Session<'a> {
     fn carry_out(&mut self, order: Order) -> String {
         match order {
             Order::Sum => self.sum(),
-            Order::Tally => self.tally(),
             Order::Call(request, options) => self.call(&request, &options),
             Order::Part(part) => {
                 self.part = part;
@@ -77,11 +73,6 @@ impl<'a> Session<'a> {
         (self.rules.sum_text)(&record, &self.array, &self.step)
     }
 
-    fn tally(&mut self) -> String {
-        (self.rules.after_tally)(&mut self.step);
-        (self.rules.tally_text)(&self.chip.tally)
-    }
-
     /// A frame sent straight, a busy end, a pin move or a cut; its answer.
     fn event(&mut self, event: Order) -> u8 {
         self.step = Step::default();
@@ -93,7 +84,7 @@ impl<'a> Session<'a> {
             Order::Pin(high) => self.chip.move_pin(high),
             Order::Cut(seed) => {
                 let junk = self.junk(seed, self.part.junk_len());
-                (self.rules.cut)(&mut self.chip, &mut self.array, &junk)
+                self.chip.cut(&mut self.array, &junk)
             }
             _ => self.chip.end_busy(&mut self.array),
         }
@@ -101,12 +92,8 @@ impl<'a> Session<'a> {
 
     fn call(&mut self, request: &Request, options: &Options) -> String {
         let junk_len = options.junk_len.unwrap_or(self.part.junk_len());
-        // Its bytes matter to a cut alone, and to make them takes time.
-        let junk = match options.script.contains(&CUT) {
-            true => self.junk(options.seed, junk_len),
-            false => vec![0; junk_len],
-        };
-        let frames = (self.rules.log_frames)(self.part, request, options.limit);
+        let junk = self.junk(options.seed, junk_len);
+        let frames = (self.rules.log_frames)(request, options.limit);
         let log_len = options.log_len.unwrap_or(LOG_LINE * frames);
         let mut step = Step {
             log: vec![self.rules.stale; log_len],
@@ -120,7 +107,7 @@ impl<'a> Session<'a> {
             log: &mut step.log,
         };
         let call = with_lent(request, options, &mut step.out);
-        let outcome = (self.rules.call)(&mut self.chip, lent, call);
+        let outcome = self.chip.call(lent, call);
         step.n = outcome.n;
         self.step = step;
         self.outline(&outcome)
@@ -181,7 +168,6 @@ fn with_lent<'a>(request: &'a Request, options: &Options, out: &'a mut [u8]) -> 
             buffer: out,
         },
         Request::Wipe { slot } => Call::Wipe { slot, poll_limit },
-        Request::Refresh { sector } => Call::Refresh { sector, poll_limit },
         Request::Raw { ref frame } => Call::Raw { frame, reply: out },
     }
 }

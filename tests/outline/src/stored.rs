@@ -49,14 +49,6 @@ pub const COMPARES: Stored = stored(
     "tests/outline/compares.out",
 );
 
-/// Refreshes of every part, of sectors that it has and that it lacks, undisturbed,
-/// cut, late and refused; and the counts behind them.
-pub const REFRESHES: Stored = stored(
-    "refreshes and counts",
-    "tests/outline/refreshes.in",
-    "tests/outline/refreshes.out",
-);
-
 /// The two examples of `make run`, whose outlines are one.
 pub const SHORT: Stored = example("the short recipe", "examples/outline/short.txt");
 pub const LONG: Stored = example("the long recipe", "examples/outline/long.txt");
@@ -65,9 +57,7 @@ const fn example(name: &'static str, input: &'static str) -> Stored {
     stored(name, input, "examples/outline/outline.txt")
 }
 
-pub const ALL: [Stored; 8] = [
-    RUN, WIPE, PAGES_256, TERMS, COMPARES, REFRESHES, SHORT, LONG,
-];
+pub const ALL: [Stored; 7] = [RUN, WIPE, PAGES_256, TERMS, COMPARES, SHORT, LONG];
 
 impl Stored {
     pub fn input(&self) -> Vec<u8> {

@@ -2,19 +2,18 @@
 //! each stand in for the program.
 
 use at45db081d_model::calls::LOG_LINE;
-use at45db081d_model::record::field;
 use at45db081d_model::{Date, Outcome, Part, Record};
 use outline_tests::crc::{crc32, Crc};
 use outline_tests::inputs::{input, INPUTS};
 use outline_tests::order::{self, Options, Order, Request};
 use outline_tests::session::Step;
-use outline_tests::stored::{Stored, COMPARES, PAGES_256, REFRESHES, RUN, TERMS};
-use outline_tests::{difference, rules, run_by, wrong, Difference, Rules, RULES};
+use outline_tests::stored::{Stored, COMPARES, PAGES_256, RUN, TERMS};
+use outline_tests::{difference, rules, run_by, Difference, Rules, RULES};
 
 /// What is wrong, and how.
 type Fault = (&'static str, fn(&mut Rules));
 
-const FAULTS: [Fault; 68] = [
+const FAULTS: [Fault; 45] = [
     ("padding shown", |it| it.frame_text = padding_shown),
     ("three bytes shown", |it| it.frame_text = three_shown),
     ("lower-case digits", |it| it.frame_text = lower_case),
@@ -66,33 +65,6 @@ const FAULTS: [Fault; 68] = [
     ("16 bits of a year", |it| it.read = narrow_years),
     ("no room for compares", |it| it.log_frames = uncompared),
     ("logs of 65,536", |it| it.log_frames = small_logs),
-    ("logs of 102,204", |it| it.log_frames = former_logs),
-    ("refresh's log short", |it| it.log_frames = short_refresh),
-    ("any sector of 256 pages", |it| {
-        it.log_frames = whole_sectors
-    }),
-    ("0b of 248 pages", |it| it.log_frames = long_0b),
-    ("sectors that are lacking", |it| it.log_frames = lacking),
-    ("refresh beyond 1,000", |it| it.log_frames = any_refresh),
-    ("sector j for j + 1", |it| it.read = sheet_sectors),
-    ("slot for sector", |it| it.read = slots),
-    ("refresh undisturbed", |it| it.read = undisturbed),
-    ("words behind tally", |it| it.read = more_words),
-    ("tally as step", |it| {
-        it.after_tally = |step| *step = Step::default()
-    }),
-    ("16 counts", |it| it.tally_text = sixteen),
-    ("counts turned round", |it| it.tally_text = last_first),
-    ("counts of one byte", |it| it.tally_text = one_byte),
-    ("hexadecimal counts", |it| it.tally_text = hexadecimal),
-    ("record of 765 bytes", |it| it.sum_text = no_tally),
-    ("counts little-endian", |it| it.sum_text = little_endian),
-    ("changed pages counted", |it| it.call = wrong::changed_pages),
-    ("refresh leaves its count", |it| it.call = wrong::kept_count),
-    ("any refresh forgets", |it| it.call = wrong::hasty_count),
-    ("refresh forgets all", |it| it.call = wrong::all_counts),
-    ("highest page first", |it| it.call = wrong::highest_first),
-    ("cut not counted", |it| it.cut = wrong::uncounted_cut),
 ];
 
 fn faulty(fault: Fault) -> Rules {
@@ -128,7 +100,7 @@ fn stored_runs_notice_faults() {
     };
     for fault in FAULTS {
         let rules = faulty(fault);
-        let runs = [RUN, PAGES_256, TERMS, COMPARES, REFRESHES];
+        let runs = [RUN, PAGES_256, TERMS, COMPARES];
         let noticed = runs.iter().any(|it| notices(it, &rules));
         assert!(noticed, "not noticed: {}", fault.0);
     }
@@ -267,82 +239,36 @@ fn seedless(_: u64, i: usize) -> u8 {
     rules::junk_byte(0, i)
 }
 
-fn short_logs(part: Part, request: &Request, limit: usize) -> usize {
+fn short_logs(request: &Request, limit: usize) -> usize {
     match request {
-        Request::Put { .. } => rules::log_frames(part, request, limit) - 1,
-        _ => rules::log_frames(part, request, limit),
+        Request::Put { .. } => rules::log_frames(request, limit) - 1,
+        _ => rules::log_frames(request, limit),
     }
 }
 
-fn long_logs(part: Part, request: &Request, limit: usize) -> usize {
+fn long_logs(request: &Request, limit: usize) -> usize {
     match request {
-        Request::Get { .. } => rules::log_frames(part, request, limit) + 1,
-        _ => rules::log_frames(part, request, limit),
+        Request::Get { .. } => rules::log_frames(request, limit) + 1,
+        _ => rules::log_frames(request, limit),
     }
 }
 
-fn any_limit(part: Part, request: &Request, limit: usize) -> usize {
+fn any_limit(request: &Request, limit: usize) -> usize {
     let more = limit.saturating_sub(1000).min(1);
-    rules::log_frames(part, request, limit) + more
+    rules::log_frames(request, limit) + more
 }
 
 /// As many as a call would send without its compares.
-fn uncompared(part: Part, request: &Request, limit: usize) -> usize {
+fn uncompared(request: &Request, limit: usize) -> usize {
     let compares = 8 * (limit.min(1000) + 1);
     match request {
-        Request::Put { .. } | Request::Patch { .. } => {
-            rules::log_frames(part, request, limit) - compares
-        }
-        _ => rules::log_frames(part, request, limit),
+        Request::Put { .. } | Request::Patch { .. } => rules::log_frames(request, limit) - compares,
+        _ => rules::log_frames(request, limit),
     }
 }
 
-fn small_logs(part: Part, request: &Request, limit: usize) -> usize {
-    rules::log_frames(part, request, limit).min(65_536 / LOG_LINE)
-}
-
-fn former_logs(part: Part, request: &Request, limit: usize) -> usize {
-    rules::log_frames(part, request, limit).min(102_204 / LOG_LINE)
-}
-
-/// As many as a refresh sends undisturbed.
-fn short_refresh(part: Part, request: &Request, limit: usize) -> usize {
-    match request {
-        Request::Refresh { .. } => rules::log_frames(part, request, 1),
-        _ => rules::log_frames(part, request, limit),
-    }
-}
-
-/// Sector 1 of a full part stands for all.
-fn whole_sectors(part: Part, request: &Request, limit: usize) -> usize {
-    match request {
-        Request::Refresh { .. } => {
-            rules::log_frames(Part::FULL, &Request::Refresh { sector: 2 }, limit)
-        }
-        _ => rules::log_frames(part, request, limit),
-    }
-}
-
-fn long_0b(part: Part, request: &Request, limit: usize) -> usize {
-    match request {
-        Request::Refresh { sector: 1 } => rules::log_frames(Part::FULL, request, limit),
-        _ => rules::log_frames(part, request, limit),
-    }
-}
-
-/// A short part's sectors are those of a full one, but for 0b.
-fn lacking(part: Part, request: &Request, limit: usize) -> usize {
-    match request {
-        Request::Refresh { sector: 2..=16 } => rules::log_frames(Part::FULL, request, limit),
-        _ => rules::log_frames(part, request, limit),
-    }
-}
-
-fn any_refresh(part: Part, request: &Request, limit: usize) -> usize {
-    match request {
-        Request::Refresh { .. } => any_limit(part, request, limit),
-        _ => rules::log_frames(part, request, limit),
-    }
+fn small_logs(request: &Request, limit: usize) -> usize {
+    rules::log_frames(request, limit).min(65_536 / LOG_LINE)
 }
 
 fn from_0(number: usize, what: &str) -> String {
@@ -442,80 +368,6 @@ fn narrow_years(line: &[u8], rules: &Rules) -> Result<Order, String> {
 fn fourteen_for_15(outcome: &Outcome) -> String {
     let answer = outcome.answer.min(14);
     rules::totals_text(&Outcome { answer, ..*outcome })
-}
-
-/// The sheet's numbers, which 0a and 0b share.
-fn sheet_sectors(line: &[u8], rules: &Rules) -> Result<Order, String> {
-    refreshing(line, rules, |sector| match sector {
-        0 => 0,
-        _ => sector.saturating_add(1),
-    })
-}
-
-/// The sector of a slot.
-fn slots(line: &[u8], rules: &Rules) -> Result<Order, String> {
-    refreshing(line, rules, |slot| match slot {
-        0 => 0,
-        1..=31 => 1,
-        _ => slot / 32 + 1,
-    })
-}
-
-/// A refresh's sector as changed.
-fn refreshing(line: &[u8], rules: &Rules, change: fn(usize) -> usize) -> Result<Order, String> {
-    let mut order = order::read(line, rules)?;
-    if let Order::Call(Request::Refresh { sector }, _) = &mut order {
-        *sector = change(*sector);
-    }
-    Ok(order)
-}
-
-/// A refresh takes no script.
-fn undisturbed(line: &[u8], rules: &Rules) -> Result<Order, String> {
-    let mut order = order::read(line, rules)?;
-    if let Order::Call(Request::Refresh { .. }, options) = &mut order {
-        options.script.clear();
-    }
-    Ok(order)
-}
-
-fn more_words(line: &[u8], rules: &Rules) -> Result<Order, String> {
-    match order::read(line, rules) {
-        Err(what) if what == "too many words" && line.starts_with(b"tally") => Ok(Order::Tally),
-        read => read,
-    }
-}
-
-fn sixteen(counts: &[u32]) -> String {
-    rules::tally_text(&counts[..16])
-}
-
-fn last_first(counts: &[u32]) -> String {
-    let counts: Vec<u32> = counts.iter().rev().copied().collect();
-    rules::tally_text(&counts)
-}
-
-fn one_byte(counts: &[u32]) -> String {
-    let counts: Vec<u32> = counts.iter().map(|count| count % 256).collect();
-    rules::tally_text(&counts)
-}
-
-fn hexadecimal(counts: &[u32]) -> String {
-    let counts: Vec<String> = counts.iter().map(|count| format!("{count:X}")).collect();
-    counts.join(" ") + "\n"
-}
-
-fn no_tally(record: &Record, array: &[u8], step: &Step) -> String {
-    let record = &record[..field::TALLY.start];
-    sum(Crc::default().then(record).then(array).end(), step)
-}
-
-fn little_endian(record: &Record, array: &[u8], step: &Step) -> String {
-    let mut record = *record;
-    for count in record[field::TALLY].chunks_mut(4) {
-        count.reverse();
-    }
-    rules::sum_text(&record, array, step)
 }
 
 /// A call's options as changed.

@@ -3,12 +3,13 @@
 use outline_tests::inputs::{input, INPUTS};
 use outline_tests::met::Met;
 use outline_tests::order::PARTS;
+use outline_tests::run;
 
 #[test]
-fn inputs_meet_everything() {
+fn inputs_meet_every_message_and_answer() {
     let mut met = Met::default();
     for seed in 0..INPUTS {
-        met.add(&input(seed));
+        met.add(&run(&input(seed)));
     }
     assert_eq!(met, Met::all());
 }

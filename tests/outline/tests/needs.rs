@@ -12,15 +12,15 @@ fn run_after(prepare: fn()) -> Ended {
 #[test]
 fn stack_that_is_said_is_enough() {
     let document = std::fs::read_to_string(in_repository("docs/OUTLINE.md"));
-    assert!(document.expect("the document").contains("`ulimit -s 4096`"));
-    let ended = run_after(|| limit_stack(4096 * 1024));
+    assert!(document.expect("the document").contains("`ulimit -s 2560`"));
+    let ended = run_after(|| limit_stack(2560 * 1024));
     assert_eq!(ended.signal, None);
     assert!(ended.output == RUN.output());
 }
 
 /// If it is, the document can say less.
 #[test]
-fn three_and_a_half_mib_are_not() {
-    let ended = run_after(|| limit_stack(3584 * 1024));
+fn two_mib_are_not() {
+    let ended = run_after(|| limit_stack(2048 * 1024));
     assert_eq!((ended.signal, ended.output.len()), (Some(SIGSEGV), 0));
 }

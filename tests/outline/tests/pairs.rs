@@ -1,12 +1,10 @@
 //! Pairs of inputs with recipes of very different lengths, with and without terms:
-//! their outlines are alike, but for answers 0, 12, 13 and 15, and so are their
-//! tallies.
+//! their outlines are alike, but for answers 0, 12, 13 and 15.
 
-use at45db081d_model::{Outcome, Part};
-use outline_tests::met::Met;
+use at45db081d_model::Outcome;
 use outline_tests::order::{self, Order, Request, PARTS};
 use outline_tests::pairs::{check, pair, PAIRS};
-use outline_tests::{rules, run, run_by, wrong, Rules, RULES};
+use outline_tests::{rules, run, run_by, Rules, RULES};
 
 #[test]
 fn outlines_are_alike() {
@@ -36,19 +34,6 @@ fn recipes_have_very_different_lengths() {
         }
     }
     assert!(puts >= 1_900, "{puts}");
-}
-
-/// Refreshes on every part: undisturbed, of sectors that it lacks, of deep, busy and
-/// sealed chips, and cut.
-#[test]
-fn refreshes_stand_in_pairs() {
-    let mut met = Met::default();
-    for pair in (0..PAIRS).map(pair) {
-        met.add(pair.short.as_bytes());
-    }
-    assert_eq!(met.refreshed, Met::all().refreshed);
-    let answers = ["0", "3", "8", "9", "10", "11"].map(String::from);
-    assert_eq!(met.refresh_answers, answers.into());
 }
 
 /// Puts with a term in one input alone, in both, with other days.
@@ -85,7 +70,7 @@ fn dates_in(line: &str) -> Vec<&str> {
 /// What shows something of a recipe, and how.
 type Leak = (&'static str, fn(&mut Rules));
 
-const LEAKS: [Leak; 9] = [
+const LEAKS: [Leak; 7] = [
     ("n among the polls", |it| it.totals_text = n_polled),
     ("12 and 13 a frame shorter", |it| it.totals_text = shorter),
     ("15 a frame shorter", |it| it.totals_text = shorter_outside),
@@ -93,8 +78,6 @@ const LEAKS: [Leak; 9] = [
     ("log by the day", |it| it.read = log_by_day),
     ("log by the recipe", |it| it.log_frames = log_by_recipe),
     ("long lines not read", |it| it.longest_line = 2000),
-    ("changed pages counted", |it| it.call = wrong::changed_pages),
-    ("zeros passed over", |it| it.call = wrong::zeros_passed_over),
 ];
 
 #[test]
@@ -140,9 +123,9 @@ fn log_by_day(line: &[u8], rules: &Rules) -> Result<Order, String> {
     Ok(order)
 }
 
-fn log_by_recipe(part: Part, request: &Request, limit: usize) -> usize {
+fn log_by_recipe(request: &Request, limit: usize) -> usize {
     match request {
         Request::Put { recipe, .. } => 3 + (recipe.len() + 255) / 256 * 5,
-        _ => rules::log_frames(part, request, limit),
+        _ => rules::log_frames(request, limit),
     }
 }

@@ -2,7 +2,7 @@
 
 use outline_tests::crc::crc32;
 use outline_tests::met::Met;
-use outline_tests::stored::{ALL, LONG, REFRESHES, RUN, SHORT, TERMS, WIPE};
+use outline_tests::stored::{ALL, LONG, RUN, SHORT, TERMS, WIPE};
 use outline_tests::{difference, run};
 
 #[test]
@@ -30,55 +30,19 @@ frames 5 polls 2 answer 0
     assert_eq!(WIPE.output(), lines.as_bytes());
 }
 
-/// A page of 0a and a slot of 0b are erased; then 0a is refreshed.
-#[test]
-fn refresh_0_and_tally() {
-    let input = b"send 81000200\nend\nsend 50001000\nend\ntally\nrefresh 0\ntally\n";
-    let lines = "\
-answer 0
-answer 0
-answer 0
-answer 0
-1 8 0 0 0 0 0 0 0 0 0 0 0 0 0 0 0
-2 D7 00
-20 32 00 00 00
-20 35 00 00 00
-4 58 00 00 00
-2 D7 00
-4 58 00 02 00
-2 D7 00
-4 58 00 04 00
-2 D7 00
-4 58 00 06 00
-2 D7 00
-4 58 00 08 00
-2 D7 00
-4 58 00 0A 00
-2 D7 00
-4 58 00 0C 00
-2 D7 00
-4 58 00 0E 00
-2 D7 00
-frames 19 polls 9 answer 0
-0 8 0 0 0 0 0 0 0 0 0 0 0 0 0 0 0
-";
-    assert_eq!(run(input), lines.as_bytes());
-}
-
 #[test]
 fn crc_of_123456789() {
     assert_eq!(crc32(b"123456789"), 0xCBF4_3926);
     assert_eq!(crc32(b""), 0);
 }
 
-/// The stored run, with those of terms and dates and of refreshes, meets all that
-/// lines can meet, and has a line of 8,192 characters and a longer one.
+/// The stored run, with that of terms and dates, meets every message and every
+/// answer that lines can meet, and has a line of 8,192 characters and a longer one.
 #[test]
 fn stored_runs_meet_everything() {
     let mut met = Met::default();
-    for stored in [RUN, TERMS, REFRESHES] {
-        met.add(&stored.input());
-    }
+    met.add(&RUN.output());
+    met.add(&TERMS.output());
     assert_eq!(met, Met::all());
     let input = RUN.input();
     let lens: Vec<usize> = input

@@ -1,5 +1,5 @@
-//! The slot calls: put, with a term or without, patch, get, wipe, refresh and raw.
-//! A date is `[year, month, day]`, any numbers.
+//! The slot calls: put, with a term or without, patch, get, wipe and raw. A date
+//! is `[year, month, day]`, any numbers.
 
 use crate::{Record, Run};
 
@@ -89,21 +89,6 @@ pub mod raw {
             array: *mut u8,
             array_len: usize,
             slot: usize,
-            poll_limit: usize,
-            script: *const u8,
-            script_len: usize,
-            junk: *const u8,
-            junk_len: usize,
-            log: *mut u8,
-            log_len: usize,
-            counts: *mut u64,
-        ) -> u8;
-
-        pub fn slipknoll_refresh(
-            record: *mut u8,
-            array: *mut u8,
-            array_len: usize,
-            sector: usize,
             poll_limit: usize,
             script: *const u8,
             script_len: usize,
@@ -284,33 +269,6 @@ pub fn wipe(
             array.as_mut_ptr(),
             array.len(),
             slot,
-            poll_limit,
-            run.script.as_ptr(),
-            run.script.len(),
-            run.junk.as_ptr(),
-            run.junk.len(),
-            run.log.as_mut_ptr(),
-            run.log.len(),
-            run.counts.as_mut_ptr(),
-        )
-    }
-}
-
-/// Rewrites the pages of a sector.
-pub fn refresh(
-    record: &mut Record,
-    array: &mut [u8],
-    sector: usize,
-    poll_limit: usize,
-    run: &mut Run,
-) -> u8 {
-    // SAFETY: as in `put`.
-    unsafe {
-        raw::slipknoll_refresh(
-            record.as_mut_ptr(),
-            array.as_mut_ptr(),
-            array.len(),
-            sector,
             poll_limit,
             run.script.as_ptr(),
             run.script.len(),

@@ -67,13 +67,6 @@ pub mod raw {
             poll_limit: usize,
         );
 
-        pub fn slipknoll_driver_start_refresh(
-            state: *mut u8,
-            array_len: usize,
-            sector: usize,
-            poll_limit: usize,
-        );
-
         pub fn slipknoll_driver_frame(
             state: *const u8,
             payload: *const u8,
@@ -200,14 +193,6 @@ pub fn start_get(
 pub fn start_wipe(state: &mut State, array_len: usize, slot: usize, poll_limit: usize) {
     // SAFETY: as in `start_put`.
     unsafe { raw::slipknoll_driver_start_wipe(state.as_mut_ptr(), array_len, slot, poll_limit) }
-}
-
-/// Starts a refresh.
-pub fn start_refresh(state: &mut State, array_len: usize, sector: usize, poll_limit: usize) {
-    // SAFETY: as in `start_put`.
-    unsafe {
-        raw::slipknoll_driver_start_refresh(state.as_mut_ptr(), array_len, sector, poll_limit)
-    }
 }
 
 /// Writes the frame to send now and returns its length; 0 at the end.

@@ -4,7 +4,7 @@
 //! [`Chip`](crate::Chip) and [`Driver`](crate::Driver) stand on this. Use it
 //! for lengths and states that they do not let through.
 
-use crate::{Record, Tally, FACTORY_LEN};
+use crate::{Record, FACTORY_LEN};
 
 pub mod calls;
 pub mod driver;
@@ -40,8 +40,6 @@ pub mod raw {
             junk: *const u8,
             junk_len: usize,
         ) -> u8;
-
-        pub fn slipknoll_tally(record: *const u8, tally: *mut u32);
     }
 }
 
@@ -99,10 +97,4 @@ pub fn cut(record: &mut Record, array: &mut [u8], junk: &[u8]) -> u8 {
             junk.len(),
         )
     }
-}
-
-/// Writes the counts of a record to a tally.
-pub fn tally(record: &Record, tally: &mut Tally) {
-    // SAFETY: as in `fresh`.
-    unsafe { raw::slipknoll_tally(record.as_ptr(), tally.as_mut_ptr()) }
 }

@@ -39,18 +39,10 @@ returns-10 c = ap (λ (k : Command). seed_by k c.before.before.args.o) (sym c.en
 returns-11 : tie.Need-returns-11
 returns-11 c = ap (λ (k : Command). seed_by k c.before.before.args.o) (sym c.enum-told11.given.1)
 
-returns-12 : tie.Need-returns-12
-returns-12 c = ap (λ (k : Command). seed_by k c.before.before.args.o) (sym c.enum-told12.given.1)
-
-returns-13 : tie.Need-returns-13
-returns-13 c = ap (λ (k : Command). seed_by k c.before.before.args.o) (sym c.enum-told13.given.1)
-
 pub seed-spec : {M : Type 1} → statement M
 seed-spec =
     tie.close
     (tie.spec
-    (λ c. search rules)
-    (λ c. search rules)
     (λ c. search rules)
     (λ c. search rules)
     (λ c. search rules)
@@ -72,6 +64,4 @@ seed-spec =
     returns-8
     returns-9
     returns-10
-    returns-11
-    returns-12
-    returns-13)
+    returns-11)

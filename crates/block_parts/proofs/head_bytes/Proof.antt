@@ -1,13 +1,12 @@
 -- `block_parts::head_bytes` meets its contract: the bytes are those of the definition, one by one.
 -- Assumes nothing.
 use borrow.Author.Rules.{rules}
-use Rattle.slices.specs.Words.{four_bytes}
 use Rattle.blocks.specs.Block.{head_bytes}
 use Rattle.block_parts.proofs.head_bytes.Statement.{statement}
 use Rattle.block_parts.proofs.head_bytes.Tie as tie
 
 returns : tie.Need-returns
-unfolding head_bytes four_bytes
+unfolding head_bytes
 returns c = cc
 
 pub head-bytes-spec : {M : Type 1} → statement M

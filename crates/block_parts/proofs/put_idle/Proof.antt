@@ -5,7 +5,6 @@ use mathlib.Core.List.{List}
 use mathlib.Core.Path.{sym, ap, ◌∙◌}
 use Prim.Native.Nat.{ℕ}
 use Rattle.slices.specs.Lists.{splice}
-use Rattle.slices.specs.Words.{four_bytes}
 use Rattle.slices.proofs.Laws.{splice_append}
 use Rattle.registers.specs.declared.Operation.TheVariants.{Idle}
 use Rattle.blocks.specs.Block.{head_of, head_bytes, flagged, data_bytes}
@@ -13,7 +12,7 @@ use Rattle.block_parts.proofs.put_idle.Statement.{statement}
 use Rattle.block_parts.proofs.put_idle.Tie as tie
 
 returns : tie.Need-returns
-unfolding head_bytes head_of data_bytes four_bytes
+unfolding head_bytes head_of data_bytes
 returns c =
     let a = c.before.before.before.before.before.before.before.before.before.before.before.before.args in
     let b = a.block.now in

@@ -5,7 +5,6 @@ use mathlib.Core.List.{List, ◌++◌}
 use mathlib.Core.Path.{sym, ap, ◌∙◌}
 use Prim.Native.Nat.{ℕ}
 use Rattle.slices.specs.Lists.{splice}
-use Rattle.slices.specs.Words.{four_bytes}
 use Rattle.slices.proofs.Laws.{splice_append}
 use Rattle.registers.specs.declared.Operation.{Operation}
 use Rattle.blocks.specs.Block.{head_of, head_bytes, flagged, data_bytes}
@@ -20,7 +19,7 @@ returns c =
     (sym c.before.before.before.before.enum_told.given.1)
 
 returns-2 : tie.Need-returns-2
-unfolding head_bytes four_bytes
+unfolding head_bytes
 returns-2 c =
     let a = c.before.before.before.before.before.before.before.before.before.before.before.before.before.args in
     let b = a.block.now in

@@ -25,7 +25,7 @@ returns-4 c = rw c.match.keys4
 
 returns-5 : tie.Need-returns-5
 unfolding plain_of
-returns-5 c = rw c.before.match.keys5 (ap EraseChip c.four-at.ensures)
+returns-5 c = rw c.before.match.keys5 (ap EraseChip c.sector-set.ensures)
 
 returns-6 : tie.Need-returns-6
 unfolding plain_of

@@ -12,7 +12,7 @@ call-in-requires c κs = part_held c.before.before.before.before.before.before.b
 returns-2 : tie.Need-returns-2
 returns-2 c =
     let a = c.before.before.before.before.before.before.before.before.before.before.before.before.before.args in
-    refused_unknown (asking a.kind a.unit a.limit) a.detail a.payload.now a.buffer.now a.script.now a.junk.now a.log.now a.block.now a.array.now
+    refused_unknown (asking a.kind a.slot a.limit) a.detail a.payload.now a.buffer.now a.script.now a.junk.now a.log.now a.block.now a.array.now
     (part_held a.block.now a.array.now c.before.before.before.before.operation.ensures.0 c.before.before.before.place.ensures c.before.enum_told.given.1) _ c.refuse.ensures
 
 pub call-spec : {M : Type 1} → statement M

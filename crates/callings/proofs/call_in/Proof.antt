@@ -9,12 +9,12 @@ use Rattle.callings.proofs.call_in.Tie as tie
 call-refusal-requires : tie.Need-call-refusal-requires
 call-refusal-requires c κs =
     let a = c.before.before.before.before.before.before.args in
-    sized_known (asking a.kind a.unit a.limit) a.detail a.payload.now a.buffer.now a.script.now a.junk.now a.log.now a.block.now a.array.now a.g c.before.before.before.before.before.before.requires
+    sized_known (asking a.kind a.slot a.limit) a.detail a.payload.now a.buffer.now a.script.now a.junk.now a.log.now a.block.now a.array.now a.g c.before.before.before.before.before.before.requires
 
 returns : tie.Need-returns
 returns c =
     let a = c.before.before.before.before.before.before.before.before.before.before.args in
-    refused_known (asking a.kind a.unit a.limit) a.detail a.payload.now a.buffer.now a.script.now a.junk.now a.log.now a.block.now a.array.now a.g c.before.before.before.before.before.before.before.before.before.before.requires
+    refused_known (asking a.kind a.slot a.limit) a.detail a.payload.now a.buffer.now a.script.now a.junk.now a.log.now a.block.now a.array.now a.g c.before.before.before.before.before.before.before.before.before.before.requires
     _ _ c.before.before.before.call-refusal.ensures (λ q. c.before.if1.true (c.before.before.number.ensures ∙ q)) c.refuse.ensures
 
 run-requires : tie.Need-run-requires
@@ -24,7 +24,7 @@ run-requires c κs =
     let s = n.before.before.before.before.before.before.before.before in
     let a = s.args in (
       s.requires,
-      started (asking a.kind a.unit a.limit) a.detail a.payload.now a.buffer.now a.script.now a.junk.now a.log.now a.block.now a.array.now a.g s.requires
+      started (asking a.kind a.slot a.limit) a.detail a.payload.now a.buffer.now a.script.now a.junk.now a.log.now a.block.now a.array.now a.g s.requires
           n.before.call-refusal.ensures (sym n.number.ensures ∙ t.before.if1.false) t.start.ensures,
     )
 
@@ -35,7 +35,7 @@ returns-2 c =
     let n = t.before.before in
     let s = n.before.before.before.before.before.before.before.before in
     let a = s.args in
-    as_asked (asking a.kind a.unit a.limit) a.detail a.payload.now a.buffer.now a.script.now a.junk.now a.log.now a.block.now a.array.now a.g s.requires
+    as_asked (asking a.kind a.slot a.limit) a.detail a.payload.now a.buffer.now a.script.now a.junk.now a.log.now a.block.now a.array.now a.g s.requires
     n.before.call-refusal.ensures (sym n.number.ensures ∙ t.before.if1.false) t.start.ensures r.run.ensures
 
 pub call-in-spec : {M : Type 1} → statement M

@@ -1,8 +1,5 @@
 -- `callings::run` meets its contract. Assumes nothing.
-use mathlib.Core.Path.{◌≡◌, ap, ◌∙◌}
-use lib.ListN.{length}
-use Rattle.runs.proofs.Calls.{starts, refresh-few, cut_fits_lem, finished}
-use Rattle.runs.specs.Runs.{settled_by}
+use Rattle.runs.proofs.Calls.{starts, cut_fits_lem, finished}
 use borrow.Author.Rules.{rules}
 use Rattle.callings.proofs.run.Statement.{statement}
 use Rattle.callings.proofs.run.Tie as tie
@@ -17,21 +14,15 @@ lose-requires c κs =
     let a = c.before.before.before.before.before.before.before.before.before.before.before.before.before.before.before.before.before.before.before.before.before.before.before.before.args in (
       c.before.before.before.before.before.before.before.before.before.before.before.before.drive.ensures.0.part,
       c.before.before.before.before.before.before.before.before.before.before.before.before.drive.ensures.1,
-      cut_fits_lem a.g a.d a.payload.now a.buffer.now a.script.now a.junk.now a.log.now a.block.now a.array.now c.before.before.before.before.before.before.before.before.before.before.before.before.before.before.before.before.before.before.before.before.before.before.before.before.requires.0 c.before.before.before.before.before.before.before.before.before.before.before.before.before.before.before.before.before.before.before.before.before.before.before.before.requires.1 c.before.before.before.before.before.before.before.before.before.before.before.before.before.before.before.before.before.blank-slot.ensures c.before.before.before.before.before.before.before.before.before.before.before.before.drive.ensures.0,
+      cut_fits_lem a.g a.d a.payload.now a.buffer.now a.script.now a.junk.now a.log.now a.block.now a.array.now c.before.before.before.before.before.before.before.before.before.before.before.before.before.before.before.before.before.before.before.before.before.before.before.before.requires.0 c.before.before.before.before.before.before.before.before.before.before.before.before.before.before.before.before.before.before.before.before.before.before.before.before.requires.1 c.before.before.before.before.before.before.before.before.before.before.before.before.before.before.before.before.before.blank-slot.ensures
+          c.before.before.before.before.before.before.before.before.before.before.before.before.drive.ensures.0,
     )
-
-settle-requires : tie.Need-settle-requires
-settle-requires c κs =
-    let a = c.before.before.before.before.before.before.before.before.before.before.before.before.before.before.before.before.before.before.before.before.before.before.before.before.before.before.before.before.args in
-    let l : length c.before.before.before.lose.new.1.1.0 ≡ 833 = search rules in
-    (l, c.before.before.before.lose.ensures.1, refresh-few a.g a.d a.payload.now a.buffer.now a.script.now a.junk.now a.log.now a.block.now a.array.now c.before.before.before.before.before.before.before.before.before.before.before.before.before.before.before.before.before.before.before.before.before.before.before.before.before.before.before.before.requires.0 c.before.before.before.before.before.before.before.before.before.before.before.before.before.before.before.before.before.before.before.before.before.before.before.before.before.before.before.before.requires.1 c.before.before.before.before.before.before.before.before.before.before.before.answer.result)
 
 returns : tie.Need-returns
 returns c =
-    let a = c.before.before.before.before.before.before.before.before.before.before.before.before.before.before.before.before.before.before.before.before.before.before.before.before.before.before.before.before.before.args in
-    finished a.g a.d a.payload.now a.buffer.now a.script.now a.junk.now a.log.now a.block.now a.array.now c.before.before.before.before.before.before.before.before.before.before.before.before.before.before.before.before.before.before.before.before.before.before.before.before.before.before.before.before.before.requires.0 c.before.before.before.before.before.before.before.before.before.before.before.before.before.before.before.before.before.before.before.before.before.before.before.before.before.before.before.before.before.requires.1 c.before.before.before.before.before.before.before.before.before.before.before.before.before.before.before.before.before.before.before.before.before.before.blank-slot.ensures
-    c.before.before.before.before.before.before.before.before.before.before.before.before.before.before.before.before.before.drive.ensures.0 _ _ _ _ _ c.before.before.before.before.before.before.before.before.before.before.before.before.answer.ensures c.before.before.before.before.before.before.before.before.before.deliver.ensures.0 c.before.before.before.before.before.before.before.before.before.deliver.ensures.1
-    (c.settle.ensures.0 _ a.d.limit ∙ ap (settled_by a.d c.before.before.before.before.before.before.before.before.before.before.before.before.answer.result) c.before.before.before.before.lose.ensures.0) c.settle.ensures.1
+    let a = c.before.before.before.before.before.before.before.before.before.before.before.before.before.before.before.before.before.before.before.before.before.before.before.before.before.before.before.args in
+    finished a.g a.d a.payload.now a.buffer.now a.script.now a.junk.now a.log.now a.block.now a.array.now c.before.before.before.before.before.before.before.before.before.before.before.before.before.before.before.before.before.before.before.before.before.before.before.before.before.before.before.requires.0 c.before.before.before.before.before.before.before.before.before.before.before.before.before.before.before.before.before.before.before.before.before.before.before.before.before.before.before.requires.1 c.before.before.before.before.before.before.before.before.before.before.before.before.before.before.before.before.before.before.before.before.blank-slot.ensures
+    c.before.before.before.before.before.before.before.before.before.before.before.before.before.before.before.drive.ensures.0 _ _ _ _ _ c.before.before.before.before.before.before.before.before.before.before.answer.ensures c.before.before.before.before.before.before.before.deliver.ensures.0 c.before.before.before.before.before.before.before.deliver.ensures.1 c.before.before.lose.ensures.0 c.before.before.lose.ensures.1
 
 pub run_spec : {M : Type 1} → statement M
 run_spec =
@@ -42,7 +33,6 @@ run_spec =
     (λ c κs. search rules)
     (λ c κs. search rules)
     lose-requires
-    settle-requires
     (λ c. search rules)
     (λ c. search rules)
     (λ c. search rules)

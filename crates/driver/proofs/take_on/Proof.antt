@@ -4,7 +4,7 @@ use mathlib.Core.Bool.{false}
 use mathlib.Core.Path.{◌≡◌, sym, ap, ◌∙◌}
 use Rattle.geometry.specs.declared.Part.TheVariants.{Known}
 use Rattle.slots.specs.Driver.{is_ended}
-use Rattle.turns.proofs.Turns.{sound-unit}
+use Rattle.turns.proofs.Turns.{sound-slot}
 use Rattle.worlds.specs.Step.{stage_by}
 use Rattle.worlds.proofs.Going.{going-sound}
 use Rattle.driver.proofs.States.{ended_took, going_took}
@@ -25,12 +25,12 @@ returns c =
     ended_took a.g a.d a.payload.now a.staged.now a.reply.now c.before.before.before.stage.ensures (sym c.before.before.has_ended.ensures ∙ c.before.if1.true) c.with-stage.ensures
 
 step-at-requires : tie.Need-step-at-requires
-step-at-requires c κs = let s = c.before.before.before.before.before.before.before in sound-unit (going-sound s.args.g s.args.d s.requires.0 (going c.before))
+step-at-requires c κs = let s = c.before.before.before.before.before.before.before in sound-slot (going-sound s.args.g s.args.d s.requires.0 (going c.before))
 
 take-step-requires : tie.Need-take-step-requires
 take-step-requires c κs =
     let s = c.before.before.before.before.before.before.before.before.before in
-    (going-sound s.args.g s.args.d s.requires.0 (going c.before.before.before), c.before.step-at.ensures.0, s.requires.1)
+    (going-sound s.args.g s.args.d s.requires.0 (going c.before.before.before), c.before.step-at.ensures.0 s.args.g, s.requires.1)
 
 returns-2 : tie.Need-returns-2
 returns-2 c =

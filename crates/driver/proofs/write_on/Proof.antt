@@ -2,7 +2,7 @@
 -- Assumes nothing.
 use mathlib.Core.Path.{sym, ◌∙◌}
 use Rattle.records.proofs.Parts.{part-pages}
-use Rattle.turns.proofs.Turns.{sound-unit}
+use Rattle.turns.proofs.Turns.{sound-slot}
 use Rattle.driver.proofs.Frames.{nothing, ended-frame, written}
 use Rattle.geometry.proofs.Pages.{sized}
 use Rattle.worlds.proofs.Going.{going-sound}
@@ -16,7 +16,7 @@ returns c =
     nothing _ a.frame.now (ended-frame a.d a.payload.now a.staged.now a.g (sym c.before.is-over-on.ensures ∙ c.if1.true))
 
 step-at-requires : tie.Need-step-at-requires
-step-at-requires c κs = let s = c.before.before.before.before.before.before in sound-unit (going-sound s.args.g s.args.d s.requires.0 (sym c.before.before.is-over-on.ensures ∙ c.before.if1.false))
+step-at-requires c κs = let s = c.before.before.before.before.before.before in sound-slot (going-sound s.args.g s.args.d s.requires.0 (sym c.before.before.is-over-on.ensures ∙ c.before.if1.false))
 
 write-step-requires : tie.Need-write-step-requires
 write-step-requires c κs =
@@ -26,7 +26,7 @@ write-step-requires c κs =
 returns-2 : tie.Need-returns-2
 returns-2 c =
     let a = c.before.before.before.before.before.before.before.before.before.before.before.args in
-    written a.d a.payload.now a.staged.now a.g a.frame.now (sym c.before.before.before.before.before.before.before.is-over-on.ensures ∙ c.before.before.before.before.before.before.if1.false) c.before.before.before.before.step-at.ensures.0 c.before.before.write_step.ensures
+    written a.d a.payload.now a.staged.now a.g a.frame.now (sym c.before.before.before.before.before.before.before.is-over-on.ensures ∙ c.before.before.before.before.before.before.if1.false) (c.before.before.before.before.step-at.ensures.0 a.g) c.before.before.write_step.ensures
 
 pub write-on-spec : {M : Type 1} → statement M
 write-on-spec =

@@ -9,7 +9,7 @@ unfolding decode_driver
 returns c = λ i.
     record {
       array = c.before.before.before.before.before.before.before.before.before.before.number_at.ensures i;
-      unit = c.before.before.before.before.before.before.before.before.number-at2.ensures i;
+      slot = c.before.before.before.before.before.before.before.before.number-at2.ensures i;
       limit = c.before.before.before.before.before.before.number-at3.ensures i;
       aim = c.before.before.before.before.before.decode-aim.ensures i;
       kind = c.before.before.before.kind.ensures i;

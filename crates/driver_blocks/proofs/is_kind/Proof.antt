@@ -22,14 +22,10 @@ returns-4 c = rw c.match.keys4
 
 returns-5 : tie.Need-returns-5
 unfolding is_kind
-returns-5 c = rw c.match.keys5
-
-returns-6 : tie.Need-returns-6
-unfolding is_kind
-returns-6 c =
+returns-5 c =
     let n = c.before.args.n in
     let r = c.match.rest in
-    simp (ne_eqb n 0x0F r.0.0.0.0.1, ne_eqb n 0x33 r.0.0.0.1, ne_eqb n 0x55 r.0.0.1, ne_eqb n 0xF0 r.0.1, ne_eqb n 0x3C r.1)
+    simp (ne_eqb n 0x0F r.0.0.0.1, ne_eqb n 0x33 r.0.0.1, ne_eqb n 0x55 r.0.1, ne_eqb n 0xF0 r.1)
 
 pub is-kind-spec : {M : Type 1} → statement M
-is-kind-spec = tie.close (tie.spec returns returns-2 returns-3 returns-4 returns-5 returns-6)
+is-kind-spec = tie.close (tie.spec returns returns-2 returns-3 returns-4 returns-5)

@@ -18,14 +18,10 @@ returns-3 c = rw c.match.keys3
 
 returns-4 : tie.Need-returns-4
 unfolding kind_of
-returns-4 c = rw c.match.keys4
-
-returns-5 : tie.Need-returns-5
-unfolding kind_of
-returns-5 c =
+returns-4 c =
     let n = c.before.args.n in
     let r = c.match.rest in
-    simp (ne_eqb n 0x0F r.0.0.0.1, ne_eqb n 0x33 r.0.0.1, ne_eqb n 0xF0 r.0.1, ne_eqb n 0x3C r.1)
+    simp (ne_eqb n 0x0F r.0.0.1, ne_eqb n 0x33 r.0.1, ne_eqb n 0xF0 r.1)
 
 pub kind-spec : {M : Type 1} → statement M
-kind-spec = tie.close (tie.spec returns returns-2 returns-3 returns-4 returns-5)
+kind-spec = tie.close (tie.spec returns returns-2 returns-3 returns-4)

@@ -20,21 +20,7 @@ returns-4 : tie.Need-returns-4
 unfolding kind_number
 returns-4 c = search rules
 
-returns-5 : tie.Need-returns-5
-unfolding kind_number
-returns-5 c = search rules
-
 pub kind-number-spec : {M : Type 1} → statement M
 kind-number-spec =
     tie.close
-    (tie.spec
-    (λ c. search rules)
-    (λ c. search rules)
-    (λ c. search rules)
-    (λ c. search rules)
-    (λ c. search rules)
-    returns
-    returns-2
-    returns-3
-    returns-4
-    returns-5)
+    (tie.spec (λ c. search rules) (λ c. search rules) (λ c. search rules) (λ c. search rules) returns returns-2 returns-3 returns-4)

@@ -11,7 +11,7 @@ use Rattle.faults.proofs.part.Tie as tie
 returns : tie.Need-returns
 unfolding part_at
 returns c =
-    let e = c.before.before.lesser.ensures ∙ ap (λ (n : ℕ). min n 403) c.before.before.before.start_of_lem.ensures in
+    let e = c.before.before.lesser.ensures ∙ ap (λ (n : ℕ). min n 402) c.before.before.before.start_of_lem.ensures in
     let s = c.lesser2.ensures ∙ ap₂ min c.before.start-of2.ensures e in
     ((omega (arith, c.lesser2.ensures), omega (arith, c.before.before.lesser.ensures)), λ i. record { start = s i; end = e i })
 

@@ -29,7 +29,7 @@ returns c =
 end-in-requires : tie.Need-end-in-requires
 end-in-requires c κs =
     let e = sym c.before.before.before.before.before.place.ensures ∙ c.before.before.before.p.given.1 in
-    let n : length c.before.before.before.before.before.before.before.before.before.before.before.before.args.block.now ≡ 833 = search rules in
+    let n : length c.before.before.before.before.before.before.before.before.before.before.before.before.args.block.now ≡ 765 = search rules in
     (placed_sized _ _ _ e, n, c.before.before.before.before.before.before.before.before.operation.ensures.0, (placed_known _ _ _ e).1, sym c.before.before.before.before.before.before.before.is_plain.ensures ∙ not-false _ c.before.before.before.before.before.before.if1.false)
 
 returns-2 : tie.Need-returns-2

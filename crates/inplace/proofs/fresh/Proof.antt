@@ -10,7 +10,7 @@ use Rattle.inplace.proofs.fresh.Tie as tie
 whole : (p : tie.After-fresh) → Whole p.fresh.result.chip
 whole p =
     record {
-      registers = record { protection = search rules; lockdown = search rules; user = search rules; factory = search rules; tally = search rules };
+      registers = record { protection = search rules; lockdown = search rules; user = search rules; factory = search rules };
       buffer1 = search rules;
       buffer2 = search rules;
     }

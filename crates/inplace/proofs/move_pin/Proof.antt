@@ -10,7 +10,7 @@ use Rattle.inplace.proofs.move_pin.Tie as tie
 returns : tie.Need-returns
 returns c =
     let a = c.before.before.args in
-    let l : length a.block.now ≡ 833 = search rules in
+    let l : length a.block.now ≡ 765 = search rules in
     met-pin a.block.now a.high l c.move-pin.ensures
 
 pub move-pin-spec : {M : Type 1} → statement M

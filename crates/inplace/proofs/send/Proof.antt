@@ -30,7 +30,7 @@ returns c =
 send-in-requires : tie.Need-send-in-requires
 send-in-requires c κs =
     let l = framed_in _ _ (sym c.before.before.before.is_framed.ensures ∙ not-false _ c.before.before.if1.false) in
-    let n : length c.before.before.before.before.before.before.before.before.before.before.before.before.before.before.args.block.now ≡ 833 = search rules in
+    let n : length c.before.before.before.before.before.before.before.before.before.before.before.before.before.before.args.block.now ≡ 765 = search rules in
     (placed_sized _ _ _ (sym c.before.before.before.before.before.before.before.place.ensures ∙ c.before.before.before.before.before.p.given.1), n, c.before.before.before.before.before.before.before.before.operation.ensures.0, l.2)
 
 returns-2 : tie.Need-returns-2

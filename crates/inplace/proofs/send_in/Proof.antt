@@ -16,7 +16,7 @@ use Rattle.state.specs.Outcomes.{sent_state}
 use Rattle.state.proofs.Arms.{decided_names, decided-lead, decided-reply, decided-registers, decided-memory}
 use Rattle.blocks.specs.Block.{decode_registers, decode_chip, encode_chip}
 use Rattle.blocks.proofs.Lends.{security_lent, buffers_lent}
-use Rattle.inplace.proofs.Held.{settled_of, settled_whole, lent_both, back}
+use Rattle.inplace.proofs.Held.{lent_both, back}
 use Rattle.inplace.proofs.send_in.Statement.{statement}
 use Rattle.inplace.proofs.send_in.Tie as tie
 
@@ -80,8 +80,8 @@ returns c =
     let h = c.before.before.before.before.before.before.before.settle.ensures in
     let n = run_length 236 (2 * page_room) y (omega (arith, c.before.before.before.before.before.before.before.settle.auto.0, l)) in
     let j = ap (λ (bit : Bool). memory_in xs (take (2 * page_room) (drop 236 b)) bit) c.before.before.before.before.before.before.before.before.before.before.before.before.before.before.before.before.before.before.before.is_set.ensures ∙ buffers_lent b xs l in (
-      back (settled_of b k) (settled_whole b k l) y h c.before.before.act.new.1.0 (c.before.before.act.auto.1.0 ∙ n)
-          ∙ (λ i. encode_chip (chip_of (decided-registers a.g r f d e i) (decided-memory a.g r f d e (memory_of (decode_chip b) xs) xs (take (2 * page_room) (drop 236 y)) _ (decode_chip b).compare n (lent_both (settled_of b k) (settled_whole b k l) y h xs) c.before.before.act.ensures i))),
+      back b k l y h c.before.before.act.new.1.0 (c.before.before.act.auto.1.0 ∙ n)
+          ∙ (λ i. encode_chip (chip_of (decided-registers a.g r f d e i) (decided-memory a.g r f d e (memory_of (decode_chip b) xs) xs (take (2 * page_room) (drop 236 y)) _ (decode_chip b).compare n (lent_both b k l y h xs) c.before.before.act.ensures i))),
       decided-reply a.g r f d e (memory_of (decode_chip b) xs) _ _ s.requires.3
           (c.before.before.before.before.before.before.before.before.before.before.before.respond.ensures r m (security_lent b l) ∙ ap (λ (x : Memory). replied (length a.reply.now) d.lead (data_of a.g r x d.action)) j),
     )

@@ -6,7 +6,7 @@ use native.Mathlib.Omega.{arith}
 use lib.ListN.{length-take, length-drop}
 use borrow.Author.Rules.{rules}
 use Rattle.memory.specs.Pages.{junked}
-use Rattle.memory.proofs.Lent.{run_end, run-from, run_back}
+use Rattle.memory.proofs.Lent.{run_end, run_from, run_back}
 use Rattle.memory.proofs.spoil.Statement.{statement}
 use Rattle.memory.proofs.spoil.Tie as tie
 
@@ -37,7 +37,7 @@ returns c =
     let s = c.before.before.before.before.before.before.before.before.page-start.ensures.0 in
     let e = c.before.before.before.before.before.before.page-start2.ensures.0 in
     run_back a.g a.r s e a.array.now (omega arith)
-    (c.before.before.copy.ensures ∙ run-from a.g a.r s e (2 * a.g.size) a.junk.now)
+    (c.before.before.copy.ensures ∙ run_from a.g a.r s e (2 * a.g.size) a.junk.now)
     (simp (length-take, length-drop) (omega (arith, run_end a.g a.r s e)))
 
 pub spoil-spec : {M : Type 1} → statement M

@@ -9,7 +9,7 @@ use lib.ListN.{length, take}
 use lib.Seq.{length-take-le}
 use borrow.Author.Rules.{rules}
 use Rattle.slots.specs.Records.{head_size}
-use Rattle.page_data.proofs.Pages.{image_made, image-later}
+use Rattle.page_data.proofs.Pages.{image_made, image_later}
 use Rattle.page_data.proofs.load_image.Statement.{statement}
 use Rattle.page_data.proofs.load_image.Tie as tie
 
@@ -54,7 +54,7 @@ returns-2 c =
     let s = c4.before.before.before.before.before in
     let a = s.args in
     c.before.before.copy-from2.ensures
-    ∙ image-later a.period a.recipe.now (length a.part.now) a.start c4.before.head-size.result (c4.before.head-size.ensures.0 ∙ ap head_size c4.before.before.version_of.ensures)
+    ∙ image_later a.period a.recipe.now (length a.part.now) a.start c4.before.head-size.result (c4.before.head-size.ensures.0 ∙ ap head_size c4.before.before.version_of.ensures)
     (s.requires.0 (omega (arith, c4.if1.false)))
 
 pub load-image-spec : {M : Type 1} → statement M

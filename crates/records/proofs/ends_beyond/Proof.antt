@@ -4,7 +4,7 @@ use mathlib.Core.Path.{sym}
 use Prim.Native.Nat.{◌+◌}
 use native.Mathlib.Omega.{arith}
 use borrow.Author.Tests.{lt-ltb}
-use Rattle.records.proofs.Ends.{ends-later}
+use Rattle.records.proofs.Ends.{ends_later}
 use Rattle.records.proofs.ends_beyond.Statement.{statement}
 use Rattle.records.proofs.ends_beyond.Tie as tie
 
@@ -14,7 +14,7 @@ returns c = let a = c.before.args in sym (lt-ltb a.most (a.place + a.count) (ome
 returns-2 : tie.Need-returns-2
 returns-2 c =
     let a = c.before.args in
-    ends-later a.most a.place a.count c.if1.false
+    ends_later a.most a.place a.count c.if1.false
 
 pub ends-beyond-spec : {M : Type 1} → statement M
 ends-beyond-spec = tie.close (tie.spec returns returns-2)

@@ -1,7 +1,7 @@
 -- `records::judge` meets its contract: each kind's verdict is the definition's clause for it.
 -- Assumes nothing.
-use Rattle.slots.specs.Driver.{judged}
 use borrow.Author.Rules.{rules}
+use Rattle.slots.specs.Driver.{judged}
 use Rattle.records.proofs.judge.Statement.{statement}
 use Rattle.records.proofs.judge.Tie as tie
 
@@ -21,10 +21,6 @@ returns-4 : tie.Need-returns-4
 unfolding judged
 returns-4 c v staged = rw c.enum-told4.given.1
 
-returns-5 : tie.Need-returns-5
-unfolding judged
-returns-5 c v staged = rw c.enum-told5.given.1
-
 pub judge-spec : {M : Type 1} → statement M
 judge-spec =
     tie.close
@@ -35,9 +31,7 @@ judge-spec =
     (λ c. search rules)
     (λ c κs. search rules)
     (λ c. search rules)
-    (λ c. search rules)
     returns
     returns-2
     returns-3
-    returns-4
-    returns-5)
+    returns-4)

@@ -2,7 +2,7 @@
 -- Assumes nothing.
 use mathlib.Core.Path.{sym, ◌∙◌}
 use Rattle.slots.specs.Lists.{asking}
-use Rattle.refusals.proofs.Calls.{early_told, late_told, asked-few}
+use Rattle.refusals.proofs.Calls.{early_told, late_told, limit-few}
 use borrow.Author.Rules.{rules}
 use Rattle.refusals.proofs.call_refusal.Statement.{statement}
 use Rattle.refusals.proofs.call_refusal.Tie as tie
@@ -10,20 +10,20 @@ use Rattle.refusals.proofs.call_refusal.Tie as tie
 returns : tie.Need-returns
 returns c =
     let a = c.before.before.before.before.args in
-    early_told a.g a.array (asking a.kind a.unit a.limit) a.detail a.n a.lent a.log a.script.now a.junk c.before.before.before.before.requires.1
+    early_told a.g a.array (asking a.kind a.slot a.limit) a.detail a.n a.lent a.log a.script.now a.junk c.before.before.before.before.requires.1
     c.before.before.refusal.ensures (λ e. c.if1.true (c.before.number.ensures ∙ e))
 
 bound-of-requires : tie.Need-bound-of-requires
 bound-of-requires c κs =
     let s = c.before.before.before.before in
     let a = s.args in
-    asked-few a.g a.array (asking a.kind a.unit a.limit) a.detail a.n a.lent s.requires.1 c.before.before.refusal.ensures (sym c.before.number.ensures ∙ c.if1.false)
+    limit-few a.g a.array (asking a.kind a.slot a.limit) a.detail a.n a.lent s.requires.1 c.before.before.refusal.ensures (sym c.before.number.ensures ∙ c.if1.false)
 
 returns-2 : tie.Need-returns-2
 returns-2 c =
     let s = c.before.before.before.before.before.before in
     let a = s.args in
-    late_told a.g a.array (asking a.kind a.unit a.limit) a.detail a.n a.lent a.log a.script.now a.junk s.requires.1
+    late_told a.g a.array (asking a.kind a.slot a.limit) a.detail a.n a.lent a.log a.script.now a.junk s.requires.1
     c.before.before.before.before.refusal.ensures (sym c.before.before.before.number.ensures ∙ c.before.before.if1.false) c.before.bound_of.ensures.0 c.late-refusal.ensures
 
 pub call-refusal-spec : {M : Type 1} → statement M

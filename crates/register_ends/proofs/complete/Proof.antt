@@ -1,4 +1,4 @@
--- `register_ends::complete` meets its contract: what the operation does, what it has worn, then idle.
+-- `register_ends::complete` meets its contract: what the operation does, then idle.
 -- Assumes nothing.
 use borrow.Author.Rules.{rules}
 use Rattle.control.specs.Completion.{completed}
@@ -7,7 +7,7 @@ use Rattle.register_ends.proofs.complete.Tie as tie
 
 returns : tie.Need-returns
 unfolding completed
-returns c = rw (c.with-operation.ensures, c.before.wear.ensures, c.before.before.finish.ensures)
+returns c = rw (c.with-operation.ensures, c.before.finish.ensures)
 
 pub complete-spec : {M : Type 1} → statement M
-complete-spec = tie.close (tie.spec (λ c κs. search rules) (λ c κs. search rules) (λ c κs. search rules) returns)
+complete-spec = tie.close (tie.spec (λ c κs. search rules) (λ c κs. search rules) returns)

@@ -7,7 +7,7 @@ use native.Mathlib.Omega.{arith}
 use Rattle.geometry.specs.declared.Geometry.{Geometry}
 use Rattle.geometry.proofs.Sectors.{sectors_few}
 use Rattle.registers.specs.Protection.{Roomed, unsealed_from}
-use Rattle.registers.proofs.Sets.{bare, set_alike, from-none, from-most, from-free, from-sealed, from_all}
+use Rattle.registers.proofs.Sets.{bare, set_alike, from_none, from_most, from_free, from_sealed, from_all}
 use Rattle.registers.proofs.unsealed_set.Statement.{statement}
 use Rattle.registers.proofs.unsealed_set.Tie as tie
 
@@ -21,7 +21,7 @@ sector-count-requires : tie.Need-sector-count-requires invariant-loop decreases-
 sector-count-requires c κs = c.requires
 
 loop-holds : tie.Need-loop-init invariant-loop decreases-loop
-loop-holds c = (omega arith, λ g q. from-none g (bare c.before.args.seals) c.sector-count.result)
+loop-holds c = (omega arith, λ g q. from_none g (bare c.before.args.seals) c.sector-count.result)
 
 sub-s : tie.Need-overflow-sub-s invariant-loop decreases-loop
 sub-s c = search rules
@@ -31,7 +31,7 @@ mul-m c =
     let s = c.before.before.before in
     let l = c.before.loop in
     let n = c.before.before.sector-count in
-    omega (arith, l.invariant.1 s.args.g s.requires.short, from-most s.args.g (bare s.args.seals) (n.result - l.s) l.s (omega (arith, sectors_few s.args.g _ s.requires)))
+    omega (arith, l.invariant.1 s.args.g s.requires.short, from_most s.args.g (bare s.args.seals) (n.result - l.s) l.s (omega (arith, sectors_few s.args.g _ s.requires)))
 
 is-sealed-requires : tie.Need-is-sealed-requires invariant-loop decreases-loop
 is-sealed-requires c κs = let s = c.before.before.before in omega (arith, sectors_few s.args.g _ s.requires)
@@ -41,7 +41,7 @@ add-m c =
     let s = c.before.before.before.before.before in
     let l = c.before.before.before.loop in
     let n = c.before.before.before.before.sector-count in
-    omega (arith, l.invariant.1 s.args.g s.requires.short, from-most s.args.g (bare s.args.seals) (n.result - l.s) l.s (omega (arith, sectors_few s.args.g _ s.requires)))
+    omega (arith, l.invariant.1 s.args.g s.requires.short, from_most s.args.g (bare s.args.seals) (n.result - l.s) l.s (omega (arith, sectors_few s.args.g _ s.requires)))
 
 loop-less : tie.Need-loop-smaller invariant-loop decreases-loop
 loop-less c = search rules
@@ -53,7 +53,7 @@ loop-again c =
     let n = c.before.before.before.before.sector-count.result in
     let z = bare c.before.before.before.before.before.args.seals in (
       omega arith,
-      λ g q. from-free g z n l.s l.m (omega arith) (omega arith) (sym (p.ensures g q z refl) ∙ not-true p.result c.if1.true) (l.invariant.1 g q),
+      λ g q. from_free g z n l.s l.m (omega arith) (omega arith) (sym (p.ensures g q z refl) ∙ not-true p.result c.if1.true) (l.invariant.1 g q),
     )
 
 loop-less-2 : tie.Need-loop-smaller-2 invariant-loop decreases-loop
@@ -66,7 +66,7 @@ loop-again-2 c =
     let n = c.before.before.before.before.sector-count.result in
     let z = bare c.before.before.before.before.before.args.seals in (
       omega arith,
-      λ g q. from-sealed g z n l.s l.m (omega arith) (omega arith) (sym (p.ensures g q z refl) ∙ not-false p.result c.if1.false) (l.invariant.1 g q),
+      λ g q. from_sealed g z n l.s l.m (omega arith) (omega arith) (sym (p.ensures g q z refl) ∙ not-false p.result c.if1.false) (l.invariant.1 g q),
     )
 
 returns : tie.Need-returns invariant-loop decreases-loop

@@ -18,7 +18,7 @@ invariant-loop g block₀ array₀ payload staged₀ script log₀ frame₀ repl
     (Along g (held_in block₀ array₀) s₀ payload staged₀ script log₀ (held_in block array) s staged log) × (is_ended s.driver.course.stage ≡ true → Canonical block)
 
 abbrev decreases-loop : tie.decreases-loop
-decreases-loop g block₀ array₀ payload staged₀ script log₀ frame₀ reply₀ s₀ block array staged log frame reply s = bound_by g s₀ - s.frames
+decreases-loop g block₀ array₀ payload staged₀ script log₀ frame₀ reply₀ s₀ block array staged log frame reply s = bound_by s₀ - s.frames
 
 blank-frame-requires : tie.Need-blank-frame-requires invariant-loop decreases-loop
 blank-frame-requires c κs = search rules

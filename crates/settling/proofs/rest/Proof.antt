@@ -4,9 +4,8 @@
 use borrow.Author.Rules.{rules}
 use mathlib.Core.List.{◌++◌}
 use mathlib.Core.Path.{ap, ◌∙◌}
-use Prim.Native.Nat.{ℕ, ◌<◌}
-use native.Mathlib.Omega.{arith}
-use lib.ListN.{set, get_or, length-set}
+use Prim.Native.Nat.{ℕ}
+use lib.ListN.{set, length-set}
 use Rattle.slices.specs.Lists.{splice}
 use Rattle.registers.specs.declared.Operation.TheVariants.{Idle}
 use Rattle.control.specs.Rulings.{changed}
@@ -14,10 +13,6 @@ use Rattle.blocks.specs.Block.{flag_byte, head_of, head_bytes, flagged, data_byt
 use Rattle.blocks.proofs.Settled.{settled_chip, settled}
 use Rattle.settling.proofs.rest.Statement.{statement}
 use Rattle.settling.proofs.rest.Tie as tie
-
--- its bytes are bytes
-bytes : (p : tie.After-slice-known) (k : ℕ) → get_or p.before.args.block.now k 0 < 256
-bytes p k = omega (arith, p.slice-known.given k)
 
 same_length : tie.Need-same-length
 same_length c = c.before.before.put-idle.auto.0 ∙ length-set c.before.before.before.before.before.before.before.before.before.before.before.before.before.before.before.before.args.block.now 764 c.before.before.before.before.flag-byte.result
@@ -32,7 +27,7 @@ returns c =
     let e = c.before.before.before.before.before.before.before.before.before.before.before.is-set2 in
     let w = c.before.before.before.before.before.before.before.before.before.is-set3 in
     let d = c.before.before.before.before.before.before.before.is-set4 in
-    settled b p.result e.result w.result d.result Idle _ s.requires (bytes c.before.before.before.before.before.before.before.before.before.before.before.before.before.before.before)
+    settled b p.result e.result w.result d.result Idle _ s.requires
     (c.before.before.put-idle.ensures ∙ ap (λ (m : ℕ). splice 160 (head_bytes (flagged p.result e.result w.result d.result) (head_of Idle) ++ data_bytes Idle) (set b 764 m)) n)
     ∙ (λ i. encode_chip (settled_chip b (p.ensures i) (e.ensures i) (w.ensures i) (d.ensures i) Idle))
 

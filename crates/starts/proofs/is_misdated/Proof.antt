@@ -23,10 +23,6 @@ returns-4 : tie.Need-returns-4
 unfolding is_misdated
 returns-4 c = rw c.enum-told4.given.1
 
-returns-5 : tie.Need-returns-5
-unfolding is_misdated
-returns-5 c = rw c.enum-told5.given.1
-
 pub is-misdated-spec : {M : Type 1} → statement M
 is-misdated-spec =
     tie.close
@@ -37,9 +33,7 @@ is-misdated-spec =
     (λ c. search rules)
     (λ c κs. search rules)
     (λ c. search rules)
-    (λ c. search rules)
     returns
     returns-2
     returns-3
-    returns-4
-    returns-5)
+    returns-4)

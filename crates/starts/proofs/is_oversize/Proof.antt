@@ -1,9 +1,10 @@
 -- `starts::is_oversize` meets its contract: each kind is measured against the limit as the definition has it.
 -- Assumes nothing.
-use Prim.Native.Nat.{ℕ, ◌+◌}
 use mathlib.Core.Bool.{or-false}
 use mathlib.Core.Path.{sym, ap, ◌∙◌}
+use Prim.Native.Nat.{ℕ, ◌+◌}
 use lib.Dec.{ltb}
+use Rattle.slots.specs.declared.Period.{Period}
 use Rattle.slots.specs.Refusals.{is_over, is_short}
 use Rattle.slots.specs.Records.{limit_of, version_of}
 use borrow.Author.Rules.{rules}
@@ -32,10 +33,6 @@ returns-4 : tie.Need-returns-4
 unfolding is_over is_short
 returns-4 c = rw c.enum-told4.given.1
 
-returns-5 : tie.Need-returns-5
-unfolding is_over is_short
-returns-5 c = rw c.enum-told5.given.1
-
 pub is-oversize-spec : {M : Type 1} → statement M
 is-oversize-spec =
     tie.close
@@ -50,9 +47,7 @@ is-oversize-spec =
     (λ c. search rules)
     (λ c κs. search rules)
     (λ c. search rules)
-    (λ c. search rules)
     returns
     returns-2
     returns-3
-    returns-4
-    returns-5)
+    returns-4)

@@ -13,7 +13,7 @@ returns : tie.Need-returns
 unfolding start_refusal
 returns c =
     let a = c.before.before.args in
-    c.early-refusal.ensures ∙ ap (λ (z : Flaws). early_refusal a.g (asking a.kind a.unit a.limit) z) c.before.flaws-in.ensures
+    c.early-refusal.ensures ∙ ap (λ (z : Flaws). early_refusal a.g (asking a.kind a.slot a.limit) z) c.before.flaws-in.ensures
 
 pub refusal-on-spec : {M : Type 1} → statement M
 refusal-on-spec = tie.close (tie.spec (λ c κs. search rules) (λ c κs. search rules) returns)

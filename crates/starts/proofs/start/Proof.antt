@@ -22,7 +22,7 @@ returns c =
     λ i.
     record {
       array = a.array;
-      unit = a.unit;
+      slot = a.slot;
       limit = a.limit;
       aim = c.aim-of.ensures i;
       kind = a.kind;

@@ -1,9 +1,8 @@
--- `states::fault_on` meets its contract: the refusals of the start come first, and what they let pass has a slot or a sector of the part's.
+-- `states::fault_on` meets its contract: the refusals of the start come first, and what they let pass has a slot of the part's.
 -- Assumes nothing.
 use Rattle.worlds.specs.Step.{flawless}
 use mathlib.Core.Path.{◌≡◌, sym, ap, ◌∙◌}
 use lib.Dec.{eqb}
-use Rattle.geometry.proofs.Pages.{sized, sized_own}
 use Rattle.state.specs.Answers.{number_of}
 use Rattle.state.specs.declared.Answer.{Answer}
 use Rattle.slots.specs.Refusals.{early_refusal, or_else}
@@ -11,13 +10,10 @@ use Rattle.slots.proofs.Driven.{other}
 use Rattle.slots.proofs.Accepted.{picked}
 use Rattle.worlds.specs.Turns.{asked_of}
 use Rattle.worlds.specs.Step.{stray_refusal, fault_by}
-use Rattle.worlds.proofs.Going.{none, some, asked-unit}
+use Rattle.worlds.proofs.Going.{none, some, asked-slot}
 use borrow.Author.Rules.{rules}
 use Rattle.states.proofs.fault_on.Statement.{statement}
 use Rattle.states.proofs.fault_on.Tie as tie
-
-early-refusal-requires : tie.Need-early-refusal-requires
-early-refusal-requires c κs = sized_own c.args.g c.args.d.array (sized c.args.d.array c.args.g c.requires)
 
 returns : tie.Need-returns
 unfolding fault_by or_else
@@ -32,7 +28,7 @@ stray-refusal-requires c κs =
     let s = c.before.before.before in
     let r = c.before.before.early-refusal.result in
     let early : r ≡ early_refusal s.args.g (asked_of s.args.d) flawless = c.before.before.early-refusal.ensures in
-    asked-unit s.args.g s.args.d s.requires (ap (λ (x : Answer). eqb (number_of x) 0) (sym early) ∙ none r c.before.number.ensures c.if1.false)
+    asked-slot s.args.g s.args.d s.requires (ap (λ (x : Answer). eqb (number_of x) 0) (sym early) ∙ none r c.before.number.ensures c.if1.false)
 
 returns-2 : tie.Need-returns-2
 unfolding fault_by or_else
@@ -40,10 +36,10 @@ returns-2 c =
     let a = c.before.before.before.before.args in
     let r = c.before.before.before.early-refusal.result in
     let early : r ≡ early_refusal a.g (asked_of a.d) flawless = c.before.before.before.early-refusal.ensures in
-    c.stray-refusal.ensures ∙ sym (picked _ (stray_refusal a.g a.d) r (none r c.before.before.number.ensures c.before.if1.false))
+    c.stray-refusal.ensures a.g ∙ sym (picked _ (stray_refusal a.g a.d) r (none r c.before.before.number.ensures c.before.if1.false))
     ∙ ap (λ (x : Answer). or_else x (stray_refusal a.g a.d)) early
 
 pub fault-on-spec : {M : Type 1} → statement M
 fault-on-spec =
     tie.close
-    (tie.spec early-refusal-requires (λ c κs. search rules) returns stray-refusal-requires returns-2)
+    (tie.spec (λ c κs. search rules) (λ c κs. search rules) returns stray-refusal-requires returns-2)

@@ -3,13 +3,13 @@
 use native.Mathlib.Omega.{arith}
 use mathlib.Core.Path.{refl}
 use Rattle.steps.specs.Places.{page_by}
-use Rattle.steps.proofs.ByIndex.{opens-first, opens_second, opens_third}
+use Rattle.steps.proofs.ByIndex.{opens_first, opens_second, opens_third}
 use Rattle.steps.proofs.opening_step.Statement.{statement}
 use Rattle.steps.proofs.opening_step.Tie as tie
 
 returns : tie.Need-returns
 unfolding page_by
-returns c = (opens-first c.before.args.i (omega arith), refl)
+returns c = (opens_first c.before.args.i (omega arith), refl)
 
 returns-2 : tie.Need-returns-2
 unfolding page_by

@@ -11,35 +11,21 @@ use Rattle.steps.proofs.page_of.Tie as tie
 
 returns : tie.Need-returns
 unfolding per_page
-returns c = sym (ap (λ (k : Kind). c.before.before.args.j / per_page k) c.enum_told.given.1)
+returns c = let a = c.before.before.args in sym (ap (λ (k : Kind). a.j / per_page k) c.enum_told.given.1)
 
 returns-2 : tie.Need-returns-2
 unfolding per_page
-returns-2 c = sym (ap (λ (k : Kind). c.before.before.args.j / per_page k) c.enum-told2.given.1)
+returns-2 c = let a = c.before.before.args in sym (ap (λ (k : Kind). a.j / per_page k) c.enum-told2.given.1)
 
 returns-3 : tie.Need-returns-3
 unfolding per_page
-returns-3 c = let e : c.before.before.args.j ≡ c.before.before.args.j / 1 = omega arith in e ∙ sym (ap (λ (k : Kind). c.before.before.args.j / per_page k) c.enum-told3.given.1)
+returns-3 c = let a = c.before.before.args in let e : a.j ≡ a.j / 1 = omega arith in e ∙ sym (ap (λ (k : Kind). a.j / per_page k) c.enum-told3.given.1)
 
 returns-4 : tie.Need-returns-4
 unfolding per_page
-returns-4 c = sym (ap (λ (k : Kind). c.before.before.args.j / per_page k) c.enum-told4.given.1)
-
-returns-5 : tie.Need-returns-5
-unfolding per_page
-returns-5 c = sym (ap (λ (k : Kind). c.before.before.args.j / per_page k) c.enum-told5.given.1)
+returns-4 c = let a = c.before.before.args in sym (ap (λ (k : Kind). a.j / per_page k) c.enum-told4.given.1)
 
 pub page-of-spec : {M : Type 1} → statement M
 page-of-spec =
     tie.close
-    (tie.spec
-    (λ c. search rules)
-    (λ c. search rules)
-    (λ c. search rules)
-    (λ c. search rules)
-    (λ c. search rules)
-    returns
-    returns-2
-    returns-3
-    returns-4
-    returns-5)
+    (tie.spec (λ c. search rules) (λ c. search rules) (λ c. search rules) (λ c. search rules) returns returns-2 returns-3 returns-4)

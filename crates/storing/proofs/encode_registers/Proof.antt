@@ -16,10 +16,10 @@ use Rattle.storing.proofs.encode_registers.Tie as tie
 
 -- the lengths of the arrays
 arrays : (s : tie.Start) → Lengths s.args.r
-arrays s = record { protection = search rules; lockdown = search rules; user = search rules; factory = search rules; tally = search rules }
+arrays s = record { protection = search rules; lockdown = search rules; user = search rules; factory = search rules }
 
 -- the block keeps its length
-long : (p : tie.After-put4) → length p.put4.new.0 ≡ 833
+long : (p : tie.After-put4) → length p.put4.new.0 ≡ 765
 long p4 =
     let p3 = p4.before.before.before.before.before.before in
     let p2 = p3.before.before.before.before.before.before in

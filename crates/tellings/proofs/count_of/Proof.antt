@@ -4,8 +4,8 @@ use native.Mathlib.Omega.{arith}
 use mathlib.Core.Path.{refl, sym}
 use Rattle.slots.proofs.Driven.{other}
 use Rattle.slots.specs.Calls.{count_by, count_of}
-use Rattle.worlds.proofs.Going.{none, some}
 use Rattle.tellings.proofs.Counts.{counted}
+use Rattle.worlds.proofs.Going.{none, some}
 use borrow.Author.Rules.{rules}
 use Rattle.tellings.proofs.count_of.Statement.{statement}
 use Rattle.tellings.proofs.count_of.Tie as tie
@@ -33,10 +33,6 @@ returns-5 : tie.Need-returns-5
 unfolding count_by
 returns-5 c = let a = c.before.before.before.before.before.args in (counted a.a a.staged.now (none a.a c.before.before.before.number.ensures c.before.before.if1.false) c.enum-told4.given.1 refl, omega arith)
 
-returns-6 : tie.Need-returns-6
-unfolding count_by
-returns-6 c = let a = c.before.before.before.before.before.args in (counted a.a a.staged.now (none a.a c.before.before.before.number.ensures c.before.before.if1.false) c.enum-told5.given.1 refl, omega arith)
-
 pub count-of-spec : {M : Type 1} → statement M
 count-of-spec =
     tie.close
@@ -48,9 +44,7 @@ count-of-spec =
     (λ c. search rules)
     (λ c κs. search rules)
     (λ c. search rules)
-    (λ c. search rules)
     returns-2
     returns-3
     returns-4
-    returns-5
-    returns-6)
+    returns-5)

@@ -17,11 +17,5 @@ returns-3 : tie.Need-returns-3
 unfolding opcode_of
 returns-3 c = search rules
 
-returns-4 : tie.Need-returns-4
-unfolding opcode_of
-returns-4 c = search rules
-
 pub opcode-of-spec : {M : Type 1} → statement M
-opcode-of-spec =
-    tie.close
-    (tie.spec (λ c. search rules) (λ c. search rules) (λ c. search rules) (λ c. search rules) returns returns-2 returns-3 returns-4)
+opcode-of-spec = tie.close (tie.spec (λ c. search rules) (λ c. search rules) (λ c. search rules) returns returns-2 returns-3)

@@ -33,7 +33,7 @@ pub fn item(rng: &mut Rng, part: Part) -> Item {
 
 pub fn call(rng: &mut Rng, part: Part) -> CallItem {
     let request = request(rng, part);
-    let log_len = log_len(rng, part, &request);
+    let log_len = log_len(rng, &request);
     CallItem {
         request,
         script: script(rng),
@@ -46,7 +46,7 @@ fn request(rng: &mut Rng, part: Part) -> Request {
     let (slot, limit) = (slot(rng, part), limit(rng));
     let over = rng.one_in(16);
     let wrong = rng.one_in(16);
-    match rng.below(15) {
+    match rng.below(13) {
         0..=2 => {
             let term = term(rng, wrong);
             let recipe = recipe(rng, part, term.is_some(), over);
@@ -64,7 +64,6 @@ fn request(rng: &mut Rng, part: Part) -> Request {
             Request::get(slot, limit, today(rng, wrong), buffer_len)
         }
         9 => Request::wipe(slot, limit),
-        10 | 11 => Request::refresh(sector(rng, part), limit),
         _ => {
             let frame = frame(rng, part);
             let reply_len = frame.len() + usize::from(rng.one_in(30));
@@ -132,16 +131,6 @@ fn slot(rng: &mut Rng, part: Part) -> usize {
     }
 }
 
-/// Mostly a sector of the first slots.
-fn sector(rng: &mut Rng, part: Part) -> usize {
-    let sectors = usize::from(part.sectors());
-    match rng.below(40) {
-        0 => rng.pick(&[sectors, 16, 17, usize::MAX]),
-        1..=4 => rng.below(sectors),
-        _ => rng.below(2),
-    }
-}
-
 fn limit(rng: &mut Rng) -> usize {
     match rng.below(80) {
         0 => rng.pick(&[0, 1001, usize::MAX]),
@@ -177,8 +166,8 @@ fn junk(rng: &mut Rng, part: Part) -> Junk {
     Junk::random(rng, part, len)
 }
 
-fn log_len(rng: &mut Rng, part: Part, request: &Request) -> usize {
-    let least = request.log_len(part);
+fn log_len(rng: &mut Rng, request: &Request) -> usize {
+    let least = request.log_len();
     match rng.below(30) {
         0 => least - 1,
         1 => least + 7,

@@ -2,9 +2,6 @@
 //! after it is quiet in the slot, each get of the slot says why not with 1 to 9, 11
 //! or 14, or else hands over exactly this recipe with 0 if today is inside its term
 //! and answers 15 if it is not. A recipe without a term is handed over on any day.
-//!
-//! Refreshes of the slot's own sector that answer 0 may be in the list too: they
-//! rewrite the slot's pages as they are.
 
 use std::ops::Range;
 
@@ -21,7 +18,7 @@ use crate::parts;
 use crate::records::{self, OPERATIONS};
 use crate::request::Request;
 use crate::rng::Rng;
-use crate::scenarios::calls::{sector_of_slot, slot};
+use crate::scenarios::calls::slot;
 
 /// Items between the put and the last get.
 const LONGEST: usize = 12;
@@ -48,8 +45,6 @@ pub struct Shown {
     pub read_inside: u64,
     /// Gets that answered 15.
     pub outside: u64,
-    /// Refreshes of the slot's sector.
-    pub refreshed: u64,
 }
 
 /// Makes the list of a seed, runs it on a device and looks at every get; adds to
@@ -63,7 +58,6 @@ pub fn check(device: &mut dyn Device, seed: u64, shown: &mut Shown) -> Result<()
         if i == 0 && answer != 0 {
             return Ok(());
         }
-        shown.refreshed += u64::from(refreshes(item, kept.slot) && answer == 0);
         let today = match get_of(item, kept.slot) {
             Some(today) => today,
             None => continue,
@@ -129,17 +123,6 @@ fn get_of(item: &Item, aim: usize) -> Option<Date> {
     }
 }
 
-/// True if the item is a refresh of the slot's sector.
-fn refreshes(item: &Item, slot: usize) -> bool {
-    match item {
-        Item::Call(call) => match call.request {
-            Request::Refresh { sector, .. } => sector == sector_of_slot(slot),
-            _ => false,
-        },
-        _ => false,
-    }
-}
-
 /// The list of a seed; if the model does not answer its put with 0, there is
 /// nothing between it and the last get.
 pub fn kept(seed: u64) -> Kept {
@@ -151,7 +134,7 @@ pub fn kept(seed: u64) -> Kept {
     let recipe = items::recipe(&mut rng, part, term.is_some(), false);
     let mut put = items::call(&mut rng, part);
     put.request = Request::put(slot, 1 + rng.below(5), term, recipe.clone());
-    put.log_len = put.request.log_len(part);
+    put.log_len = put.request.log_len();
     let mut items = vec![Item::Call(Box::new(put))];
     let mut ahead = world.clone();
     let longest = match ahead.run(&mut Model, &items[0]).outcome.answer {
@@ -160,7 +143,7 @@ pub fn kept(seed: u64) -> Kept {
     };
     for _ in 0..rng.below(longest) {
         let mut item = items::item(&mut rng, part);
-        aim(&mut rng, &mut item, part, slot, term);
+        aim(&mut rng, &mut item, slot, term);
         if !touches(&ahead, &item, part, slot) {
             ahead.run(&mut Model, &item);
             items.push(item);
@@ -199,9 +182,8 @@ fn world(rng: &mut Rng, part: Part) -> World {
     World::new(record, array, rng.next_u64())
 }
 
-/// Turns calls to the slot or its sector half of the time, and gets to days around
-/// its term.
-fn aim(rng: &mut Rng, item: &mut Item, part: Part, aim: usize, term: Option<Term>) {
+/// Turns calls to the slot half of the time, and gets to days around its term.
+fn aim(rng: &mut Rng, item: &mut Item, aim: usize, term: Option<Term>) {
     if let Item::Call(call) = item {
         if let Request::Put { slot, .. }
         | Request::Patch { slot, .. }
@@ -210,12 +192,6 @@ fn aim(rng: &mut Rng, item: &mut Item, part: Part, aim: usize, term: Option<Term
         {
             if rng.one_in(2) {
                 *slot = aim;
-            }
-        }
-        if let Request::Refresh { sector, .. } = &mut call.request {
-            if rng.one_in(2) {
-                *sector = sector_of_slot(aim);
-                call.log_len = call.request.log_len(part);
             }
         }
         if let Request::Get { today, .. } = &mut call.request {
@@ -238,7 +214,7 @@ fn last_get(rng: &mut Rng, part: Part, slot: usize, term: Option<Term>) -> Item 
     let today = a_day(rng, term);
     let request = Request::get(slot, 1, today, part.max_recipe());
     Item::Call(Box::new(CallItem {
-        log_len: request.log_len(part),
+        log_len: request.log_len(),
         request,
         script: Vec::new(),
         junk: Junk::random(rng, part, 0),
@@ -246,8 +222,7 @@ fn last_get(rng: &mut Rng, part: Part, slot: usize, term: Option<Term>) -> Item 
 }
 
 /// True if the item is not quiet in the slot: a frame of it is obeyed, and what
-/// this starts writes one of the slot's pages (14.6). A refresh that answers 0 has
-/// ended all that it began, and is let through.
+/// this starts writes one of the slot's pages (14.6).
 fn touches(world: &World, item: &Item, part: Part, slot: usize) -> bool {
     let request = match item {
         Item::Send { frame, .. } => return starts_in(world, frame, part, slot),
@@ -256,11 +231,6 @@ fn touches(world: &World, item: &Item, part: Part, slot: usize) -> bool {
     };
     match request {
         Request::Raw { frame, .. } => starts_in(world, frame, part, slot),
-        _ if refreshes(item, slot) => {
-            let outline = world.clone().run(&mut Model, item);
-            let rewrites = outline.log.chunks(6).any(|line| line[2] == 0x58);
-            outline.outcome.answer != 0 && rewrites
-        }
         _ if request.slot() != Some(slot) => false,
         _ => {
             // The driver sends 83 and 50 only where they are obeyed.

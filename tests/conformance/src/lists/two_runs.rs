@@ -3,14 +3,11 @@
 //! alike in registers and otherwise different.
 //!
 //! The outcomes are the same one by one (14.22): lines of the log, frames, polls
-//! and answer of a call, the answer of an event, with 0, 12, 13 and 15 as one. And so
-//! are the counts of the tally, which are registers; only a refresh that answers 0
-//! lowers one, that of its sector.
+//! and answer of a call, the answer of an event, with 0, 12, 13 and 15 as one.
 
 use at45db081d_model::record::{field, tag};
 use at45db081d_model::slot::{store, Head};
 use at45db081d_model::{Part, Record, Term};
-use slipknoll::Tally;
 
 use super::item::{CallItem, Item, Junk};
 use super::items::{self, SLOTS};
@@ -62,10 +59,6 @@ pub struct Shown {
     pub unlike_terms: u64,
     /// Gets that send frames, on different days.
     pub unlike_days: u64,
-    /// Items after which a count is higher than before, and refreshes after which one
-    /// is lower.
-    pub raised: u64,
-    pub lowered: u64,
 }
 
 impl Shown {
@@ -92,30 +85,6 @@ impl Shown {
         self.frames += first.outcome.frames;
         self.unlike_answers += u64::from(first.outcome.answer != second.outcome.answer);
     }
-
-    fn count_moves(&mut self, before: &Tally, after: &Tally) {
-        let moves = || before.iter().zip(after);
-        self.raised += u64::from(moves().any(|(before, after)| after > before));
-        self.lowered += u64::from(moves().any(|(before, after)| after < before));
-    }
-}
-
-/// A count that has fallen, but for that of the sector of a refresh that answers 0.
-fn fallen(item: &Item, outline: &Outline, before: &Tally, after: &Tally) -> Option<String> {
-    let refreshed = match item {
-        Item::Call(call) if outline.outcome.answer == 0 => match call.request {
-            Request::Refresh { sector, .. } => Some(sector),
-            _ => None,
-        },
-        _ => None,
-    };
-    let sector = (0..before.len()).find(|&it| {
-        after[it] < before[it] && Some(it) != refreshed || Some(it) == refreshed && after[it] != 0
-    })?;
-    let (before, after) = (before[sector], after[sector]);
-    Some(format!(
-        "the count of sector {sector} go from {before} to {after}"
-    ))
 }
 
 /// Makes the pair of lists of a seed, runs it on a device and compares; adds to
@@ -129,21 +98,16 @@ pub fn check(
     let twins = twins(seed, without);
     let [first, second] = [0, 1].map(|run| {
         let mut world = twins.worlds[run].clone();
-        let outlines: Vec<(Outline, Tally)> = (twins.items.iter())
-            .map(|pair| (world.run(device, &pair[run]), world.tally(device)))
+        let outlines: Vec<Outline> = (twins.items.iter())
+            .map(|pair| world.run(device, &pair[run]))
             .collect();
         outlines
     });
-    let mut before = twins.worlds[0].clone().tally(device);
-    for (i, ((a, tally), (b, other))) in first.iter().zip(&second).enumerate() {
-        let item = &twins.items[i][0];
-        let what = difference(a, b).or_else(|| unlike(tally, other));
-        if let Some(what) = what.or_else(|| fallen(item, a, &before, tally)) {
+    for (i, (a, b)) in first.iter().zip(&second).enumerate() {
+        if let Some(what) = difference(a, b) {
             return Err(broken(seed, &twins, i, what));
         }
         shown.count(&twins.items[i], a, b);
-        shown.count_moves(&before, tally);
-        before = *tally;
     }
     shown.pairs += 1;
     parts::count(&mut shown.parts, twins.worlds[0].array.len());
@@ -165,13 +129,6 @@ fn difference(a: &Outline, b: &Outline) -> Option<String> {
     let line = (a.log.chunks(6).zip(b.log.chunks(6))).position(|(a, b)| a != b)?;
     let [a, b] = [a, b].map(|outline| &outline.log[6 * line..][..6]);
     Some(format!("frame {line}: log {a:02X?} and {b:02X?}"))
-}
-
-/// The first count that is not the same in both runs.
-fn unlike(first: &Tally, second: &Tally) -> Option<String> {
-    let sector = (first.iter().zip(second)).position(|(a, b)| a != b)?;
-    let (a, b) = (first[sector], second[sector]);
-    Some(format!("counts {a} and {b} of sector {sector}"))
 }
 
 fn broken(seed: u64, twins: &Twins, at: usize, what: String) -> Broken {

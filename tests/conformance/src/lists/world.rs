@@ -1,7 +1,6 @@
 //! A chip, and the memories that its calls are lent.
 
 use at45db081d_model::{Lent, Outcome, Record};
-use slipknoll::{Tally, TALLY_LEN};
 
 use super::item::{CallItem, Item};
 use crate::device::Device;
@@ -64,13 +63,6 @@ impl World {
             log: Vec::new(),
             read: Vec::new(),
         }
-    }
-
-    /// The counts as a device reads them.
-    pub fn tally(&mut self, device: &mut dyn Device) -> Tally {
-        let mut tally = [self.stale.next_u64() as u32; TALLY_LEN];
-        device.tally(&self.record, &mut tally);
-        tally
     }
 
     fn call(&mut self, device: &mut dyn Device, call: &CallItem) -> Outline {

@@ -77,7 +77,7 @@ fn end(rng: &mut Rng, ending: Option<u8>, part: Part) -> Step {
 }
 
 /// A page, block or sector of the part: the first two, the last two, or any.
-pub fn place(rng: &mut Rng, tag: u8, index: usize, part: Part) -> usize {
+fn place(rng: &mut Rng, tag: u8, index: usize, part: Part) -> usize {
     let places = match tag {
         tag::ERASE_BLOCK => part.blocks(),
         tag::ERASE_SECTOR | tag::LOCK_SECTOR => usize::from(part.sectors()),

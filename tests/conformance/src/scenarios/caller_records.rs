@@ -1,6 +1,5 @@
 //! Records that no chip makes: unknown tags, buffers that a tag does not fit,
-//! places and sector sets beyond the part, marks that are neither 0 nor 1; with any
-//! bytes for counts.
+//! places and sector sets beyond the part, marks that are neither 0 nor 1.
 
 use at45db081d_model::record::{field, tag};
 use at45db081d_model::{Part, Record};
@@ -46,7 +45,7 @@ const SECTOR_SETS: [u32; 14] = [
     0xFFFF_FFFF,
 ];
 
-const CALLS: usize = 9;
+const CALLS: usize = 8;
 
 /// Every tag with every buffer; the known ones with every number and set.
 fn cases(_: Part) -> u64 {
@@ -87,9 +86,6 @@ fn run(pair: &mut Pair, case: u64) -> Result<(), Mismatch> {
     if rng.one_in(2) {
         spoil_marks(&mut rng, &mut record);
     }
-    if rng.one_in(2) {
-        rng.fill(&mut record[field::TALLY]);
-    }
     pair.step(Step::Load(Box::new(record)))?;
     let first = step(&mut rng, call, pair.part);
     pair.step(first)?;
@@ -129,7 +125,6 @@ fn step(rng: &mut Rng, call: usize, part: Part) -> Step {
         2 | 3 => Step::EndBusy { array_len },
         4 => Step::MovePin { high: false },
         5 => Step::MovePin { high: true },
-        8 => Step::Tally,
         6 if rng.one_in(8) => {
             let mut factory = Box::new([0; 64]);
             rng.fill(&mut factory[..]);

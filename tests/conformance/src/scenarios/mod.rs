@@ -11,7 +11,6 @@ mod random_run;
 mod refusals;
 mod rows;
 mod seals;
-mod tallies;
 
 pub use addresses::ADDRESSES;
 pub use busy_ends::BUSY_ENDS;
@@ -22,10 +21,9 @@ pub use random_run::RANDOM_RUN;
 pub use refusals::REFUSALS;
 pub use rows::ROWS;
 pub use seals::SEALS;
-pub use tallies::TALLIES;
 
 /// Every scenario of the chip.
-pub const ALL: [Scenario; 9] = [
+pub const ALL: [Scenario; 8] = [
     ROWS,
     SEALS,
     ADDRESSES,
@@ -33,6 +31,5 @@ pub const ALL: [Scenario; 9] = [
     CALLER_RECORDS,
     REFUSALS,
     OTHER_PARTS,
-    TALLIES,
     RANDOM_RUN,
 ];

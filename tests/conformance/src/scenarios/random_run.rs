@@ -58,7 +58,6 @@ fn next_step(pair: &mut Pair, rng: &mut Rng) -> Step {
         860..=899 => cut(rng, part, array_len),
         900..=901 => fresh(rng, array_len),
         902..=907 => Step::RestoreArray,
-        908..=927 => Step::Tally,
         _ => Step::Load(Box::new(other_record(rng, part, record))),
     }
 }
@@ -151,7 +150,7 @@ fn choose_page(rng: &mut Rng, part: Part, record: &Record) -> usize {
 /// A record of the caller: a new one, or the old one with one thing changed.
 fn other_record(rng: &mut Rng, part: Part, old: Record) -> Record {
     let mut record = old;
-    match rng.below(9) {
+    match rng.below(8) {
         0 | 1 => {
             record = records::random(rng);
             let operation = rng.pick(&OPERATIONS);
@@ -168,7 +167,6 @@ fn other_record(rng: &mut Rng, part: Part, old: Record) -> Record {
             let any = rng.below(field::DATA.start - field::USER.end) + field::USER.end;
             record[any] = rng.byte();
         }
-        7 => records::random_counts(rng, &mut record),
         // An operation that does not fit the part would block the rest.
         _ => records::set_place(&mut record, (tag::IDLE, 0), 0, 0),
     }

@@ -12,12 +12,9 @@ use crate::device::{Device, Model};
 mod compares;
 pub mod drivers;
 mod pages;
-mod tallies;
 mod terms;
 mod wire;
 
-use slipknoll::Tally;
-use tallies::Counting;
 use wire::Wire;
 
 /// What is wrong with a device.
@@ -182,47 +179,6 @@ pub enum Slip {
     ComparedWithBuffer2,
     /// A page under 12 and 13 is not compared.
     KeptPagesNotCompared,
-
-    /// A page counts only if its bytes have changed.
-    CountsChangedPages,
-    /// 83/86 and 82/85 count two: erased, and programmed.
-    ProgramCountsTwice,
-    /// 50 counts one.
-    BlockCountsOne,
-    /// What is written in 0b counts in 0a.
-    SecondSectorCountsInFirst,
-    /// 0b of a short part counts as many pages as that of a full one.
-    ShortSectorCountsInFull,
-    /// Fetches and compares count too.
-    FetchesCount,
-    /// 58/59 count nothing.
-    RewritesCountNothing,
-    /// A cut counts nothing.
-    CutCountsNothing,
-    /// Behind the highest number a count goes on at 0.
-    CountsWrap,
-    /// Counts are read with the low byte first.
-    CountsLittleEndian,
-    /// A refresh begins with the highest page.
-    RefreshFromLastPage,
-    /// A refresh leaves out pages that have one byte throughout.
-    RefreshSkipsEmptyPages,
-    /// A refresh sends 83, which writes what the buffer has.
-    RefreshPrograms,
-    /// 10 of a refresh goes by the slot that has the sector's number.
-    RefreshSealedBySlot,
-    /// A sector that the part lacks is taken for its last.
-    LackingSectorTaken,
-    /// Under 9 a refresh sets its count to 0 too.
-    CountClearedUnder9,
-    /// So it does under 11.
-    CountClearedUnder11,
-    /// A refresh sets its count to 0 before its frames.
-    CountClearedFirst,
-    /// It does not set it to 0 at all.
-    CountNotCleared,
-    /// It sets every count to 0.
-    AllCountsCleared,
 }
 
 /// The slips of page sizes that the chip alone has; the last is the calls'.
@@ -233,22 +189,8 @@ pub const PAGE_SIZE_SLIPS: [Slip; 4] = [
     Slip::PageSizeBitForgotten,
 ];
 
-/// The slips of counts that the chip alone has.
-pub const COUNT_SLIPS: [Slip; 10] = [
-    Slip::CountsChangedPages,
-    Slip::ProgramCountsTwice,
-    Slip::BlockCountsOne,
-    Slip::SecondSectorCountsInFirst,
-    Slip::ShortSectorCountsInFull,
-    Slip::FetchesCount,
-    Slip::RewritesCountNothing,
-    Slip::CutCountsNothing,
-    Slip::CountsWrap,
-    Slip::CountsLittleEndian,
-];
-
 /// Every slip.
-pub const SLIPS: [Slip; 94] = [
+pub const SLIPS: [Slip; 74] = [
     Slip::SkipsPageAlreadyThere,
     Slip::SkipsPageOutsidePatch,
     Slip::GetStopsAtStoredLength,
@@ -323,26 +265,6 @@ pub const SLIPS: [Slip; 94] = [
     Slip::LastPageNotCompared,
     Slip::ComparedWithBuffer2,
     Slip::KeptPagesNotCompared,
-    Slip::CountsChangedPages,
-    Slip::ProgramCountsTwice,
-    Slip::BlockCountsOne,
-    Slip::SecondSectorCountsInFirst,
-    Slip::ShortSectorCountsInFull,
-    Slip::FetchesCount,
-    Slip::RewritesCountNothing,
-    Slip::CutCountsNothing,
-    Slip::CountsWrap,
-    Slip::CountsLittleEndian,
-    Slip::RefreshFromLastPage,
-    Slip::RefreshSkipsEmptyPages,
-    Slip::RefreshPrograms,
-    Slip::RefreshSealedBySlot,
-    Slip::LackingSectorTaken,
-    Slip::CountClearedUnder9,
-    Slip::CountClearedUnder11,
-    Slip::CountClearedFirst,
-    Slip::CountNotCleared,
-    Slip::AllCountsCleared,
 ];
 
 /// The model with one slip.
@@ -366,7 +288,6 @@ impl Device for Faulty {
     }
 
     fn end_busy(&mut self, record: &mut Record, array: &mut [u8]) -> u8 {
-        let counting = Counting::begin(self.0, record, array);
         match (self.0, record[field::TAG]) {
             (Slip::AndTreatedAsProgram, tag::PROGRAM_WITHOUT_ERASE) => {
                 record[field::TAG] = tag::PROGRAM;
@@ -377,9 +298,7 @@ impl Device for Faulty {
             }
             _ => {}
         }
-        let answer = Model.end_busy(record, array);
-        counting.end(record, array, answer);
-        answer
+        Model.end_busy(record, array)
     }
 
     fn move_pin(&mut self, record: &mut Record, high: bool) -> u8 {
@@ -388,7 +307,6 @@ impl Device for Faulty {
 
     fn cut(&mut self, record: &mut Record, array: &mut [u8], junk: &[u8]) -> u8 {
         let idle = record[field::TAG] == tag::IDLE;
-        let counting = Counting::begin(self.0, record, array);
         let of_256 = pages::part_of_256(array.len()).is_some();
         let answer = match of_256 {
             true => Model.cut(record, array, &pages::junk(self.0, record, junk)),
@@ -397,7 +315,6 @@ impl Device for Faulty {
         if of_256 && answer == answer::ACCEPTED {
             pages::after_cut(self.0, record, junk);
         }
-        counting.cut(record, array, answer);
         match self.0 {
             Slip::CutClearsLockdown if answer == answer::ACCEPTED => {
                 record[field::LOCKDOWN].fill(0);
@@ -412,16 +329,8 @@ impl Device for Faulty {
         answer
     }
 
-    fn tally(&mut self, record: &Record, tally: &mut Tally) {
-        Model.tally(record, tally);
-        if self.0 == Slip::CountsLittleEndian {
-            *tally = tally.map(u32::swap_bytes);
-        }
-    }
-
     fn call(&mut self, record: &mut Record, lent: Lent, call: Call) -> Outcome {
         let call = terms::read(self.0, lent.array, call);
-        let call = tallies::read(self.0, lent.array, call);
         if let Err(answer) = self.refuse(&Chip::from_record(record), &lent, &call) {
             if self.0 == Slip::RefusalClearsLog {
                 lent.log.fill(0);
@@ -432,12 +341,6 @@ impl Device for Faulty {
             };
         }
         let part = Part::from_array_len(lent.array.len()).expect("a call that is not refused");
-        if let Call::Refresh { sector, .. } = call {
-            tallies::clear_first(self.0, record, sector);
-            let outcome = Wire::new(self.0, part, record, lent, &call).run(call);
-            tallies::clear(self.0, record, sector, outcome.answer);
-            return outcome;
-        }
         let wire = Wire::new(self.0, part, record, lent, &call);
         match self.change(part, call) {
             Call::Get {
@@ -497,11 +400,7 @@ impl Faulty {
         let part = Part::from_array_len(lent.array.len());
         let most = part.map_or(0, Part::max_recipe);
         let limit = call.target().map_or(1, |(_, limit)| limit);
-        let most_frames = match part {
-            Some(part) if limit <= 1000 => call.most_frames(part),
-            _ => 0,
-        };
-        let log_fits = lent.log.len() >= 6 * most_frames;
+        let log_fits = limit > 1000 || lent.log.len() >= 6 * call.most_frames();
         let script_fits = lent.script.iter().all(|&byte| byte <= 2);
         let right = call.refuse(chip, lent).map(|_| ());
         let right = terms::refuse(self.0, right, call, part, log_fits);
@@ -521,7 +420,7 @@ impl Faulty {
             }
             (Slip::JunkTestedAlways, Ok(()), _) if lent.junk.is_empty() => Err(answer::SCRIPT),
             (Slip::ScriptTestedToBound, Err(answer::SCRIPT), _) => {
-                let bound = most_frames.min(lent.script.len());
+                let bound = call.most_frames().min(lent.script.len());
                 let calm = lent.script[..bound].iter().all(|&byte| byte < 2);
                 if calm {
                     Ok(())

@@ -1,12 +1,10 @@
 //! A link from the model's driver to a faulty chip, with slips of its own.
 
-use std::ops::Range;
-
 use at45db081d_model::calls::log_line;
 use at45db081d_model::driver::Link;
 use at45db081d_model::part::{sector_bits, sector_of};
 use at45db081d_model::slot::{judge_get, judge_patch, Head, HEADER_SIZE, TERM_HEADER_SIZE};
-use at45db081d_model::{answer, Call, Lent, Outcome, Part, Record, Target};
+use at45db081d_model::{answer, Call, Lent, Outcome, Part, Record};
 
 use super::compares::Compares;
 use super::{terms, Faulty, Slip};
@@ -15,7 +13,6 @@ use crate::device::Device;
 const LOAD: u8 = 0x84;
 const PROGRAM: u8 = 0x83;
 const COMPARE: u8 = 0x60;
-const REWRITE: u8 = 0x58;
 const READ: u8 = 0xD2;
 const STATUS: u8 = 0xD7;
 const PROTECTION: u8 = 0x32;
@@ -27,7 +24,6 @@ enum Kind {
     Patch,
     Get,
     Wipe,
-    Refresh,
     Raw,
 }
 
@@ -37,9 +33,7 @@ pub struct Wire<'a> {
     record: &'a mut Record,
     lent: Lent<'a>,
     kind: Kind,
-    /// Slot or sector, and its pages; a raw frame has those of slot 0.
-    target: Target,
-    pages: Range<usize>,
+    slot: usize,
     poll_limit: usize,
     /// Where a patch begins, and the length of recipe or patch.
     place: usize,
@@ -68,7 +62,7 @@ impl<'a> Wire<'a> {
         lent: Lent<'a>,
         call: &Call,
     ) -> Wire<'a> {
-        let (target, poll_limit) = call.target().unwrap_or((Target::Slot(0), 0));
+        let (slot, poll_limit) = call.target().unwrap_or_default();
         let today = match call {
             Call::Get { today, .. } => today.number(),
             _ => None,
@@ -78,7 +72,6 @@ impl<'a> Wire<'a> {
             Call::Patch { place, bytes, .. } => (Kind::Patch, *place, bytes.len()),
             Call::Get { .. } => (Kind::Get, 0, 0),
             Call::Wipe { .. } => (Kind::Wipe, 0, 0),
-            Call::Refresh { .. } => (Kind::Refresh, 0, 0),
             Call::Raw { .. } => (Kind::Raw, 0, 0),
         };
         Wire {
@@ -87,8 +80,7 @@ impl<'a> Wire<'a> {
             record,
             lent,
             kind,
-            target,
-            pages: target.pages(part).expect("a call that is not refused"),
+            slot,
             poll_limit,
             place,
             len,
@@ -163,14 +155,8 @@ impl<'a> Wire<'a> {
     }
 
     /// The range of the slot's page `k` in the array.
-    fn page(&self, k: usize) -> Range<usize> {
-        self.part.page_range((self.pages.start + k) as u16)
-    }
-
-    /// Whether the page that a 58 names has one byte throughout.
-    fn is_empty(&self, frame: &[u8]) -> bool {
-        let page = &self.lent.array[self.part.page_range(named(self.part, frame))];
-        page.iter().all(|byte| *byte == page[0])
+    fn page(&self, k: usize) -> std::ops::Range<usize> {
+        self.part.page_range((8 * self.slot + k) as u16)
     }
 
     /// The bytes of the slot that a get has to read by its first page.
@@ -235,9 +221,6 @@ impl<'a> Wire<'a> {
                 usize::from(verdict == Err(answer::TERM))
             }
             (_, COMPARE) if driven && self.compares_not() => 2,
-            (Slip::RefreshSkipsEmptyPages, REWRITE) if driven => {
-                2 * usize::from(self.is_empty(frame))
-            }
             _ => 0,
         }
     }
@@ -281,13 +264,6 @@ impl<'a> Wire<'a> {
             (Slip::DaysLittleEndian, LOAD, Kind::Put) if self.has_term && self.loads == 0 => {
                 terms::turn_days(&mut changed[4..]);
             }
-            (Slip::RefreshPrograms, REWRITE, Kind::Refresh) => changed[0] = PROGRAM,
-            (Slip::RefreshFromLastPage, REWRITE, Kind::Refresh) => {
-                let behind = usize::from(named(self.part, frame)) - self.pages.start;
-                let page = (self.pages.end - 1 - behind) as u16;
-                let address = self.part.address_of(page).to_be_bytes();
-                changed[1..].copy_from_slice(&address[1..]);
-            }
             _ => {}
         }
         changed
@@ -299,20 +275,13 @@ impl<'a> Wire<'a> {
             return;
         }
         self.compares.hear(self.slip, frame, reply);
-        let (byte, bits) = sector_bits(sector_of(self.pages.start as u16));
+        let (byte, bits) = sector_bits(sector_of(8 * self.slot as u16));
         match (self.slip, frame[0]) {
             (Slip::ReadyWithCompareBit, STATUS) if reply[1] & 0x40 != 0 => reply[1] &= 0x7F,
             (Slip::SealedByAllBits, PROTECTION | LOCKDOWN) if reply[4 + byte] & bits != bits => {
                 reply[4 + byte] &= !bits;
             }
             (Slip::RegisterByteOff, PROTECTION | LOCKDOWN) => reply.copy_within(..16, 4),
-            (Slip::RefreshSealedBySlot, PROTECTION | LOCKDOWN) => {
-                if let Target::Sector(number) = self.target {
-                    let (at, others) = sector_bits(sector_of(8 * number as u16));
-                    let is_set = reply[4 + at] & others != 0;
-                    reply[4 + byte] = if is_set { bits } else { 0 };
-                }
-            }
             (Slip::DaysLittleEndian, READ)
                 if self.kind == Kind::Get && self.reads == 1 && reply[8] == 2 =>
             {
@@ -401,10 +370,7 @@ impl Link for Wire<'_> {
         let ending = if early { self.event() } else { Ok(()) };
         let sent = self.change(frame);
         Faulty(self.slip).send(self.record, self.lent.array, &sent, reply);
-        match self.kind {
-            Kind::Refresh => self.log(&sent),
-            _ => self.log(frame),
-        }
+        self.log(frame);
         self.note(frame, reply);
         self.polls += u64::from(self.is_poll(frame));
         let ending = if early { ending } else { self.event() };
@@ -416,9 +382,4 @@ impl Link for Wire<'_> {
         }
         Ok(())
     }
-}
-
-/// The page that a frame names in its bytes 1 to 3.
-fn named(part: Part, frame: &[u8]) -> u16 {
-    part.page_of(u32::from_be_bytes([0, frame[1], frame[2], frame[3]]))
 }

@@ -31,48 +31,38 @@ returns-4 c = let a = c.before.before.before.args in
 
 returns-5 : tie.Need-returns-5
 unfolding lengths_by
-returns-5 c = let a = c.before.before.before.args in
-    lent_so a.o a.size a.count Command.Refresh c.before.enum-told5.given.1 c.call-lengths5.ensures.0 c.call-lengths5.ensures.1 c.call-lengths5.ensures.2 (omega (arith, c.call-lengths5.ensures.3))
+returns-5 c = let a = c.before.before.before.before.args in
+    lent_so a.o a.size a.count Command.Raw c.before.before.enum-told5.given.1 (c.call-lengths5.ensures.0 ∙ ap (call_lengths a.o a.size) c.before.lent2.ensures.0) c.call-lengths5.ensures.1 c.call-lengths5.ensures.2 (omega (arith, c.call-lengths5.ensures.3, c.before.lent2.ensures.1))
 
 returns-6 : tie.Need-returns-6
 unfolding lengths_by
 returns-6 c = let a = c.before.before.before.before.args in
-    lent_so a.o a.size a.count Command.Raw c.before.before.enum-told6.given.1 (c.call-lengths6.ensures.0 ∙ ap (call_lengths a.o a.size) c.before.lent2.ensures.0) c.call-lengths6.ensures.1 c.call-lengths6.ensures.2 (omega (arith, c.call-lengths6.ensures.3, c.before.lent2.ensures.1))
+    alone_so a.o a.size a.count Command.Send c.before.before.enum-told6.given.1 (c.reply-alone.ensures ∙ ap reply_alone c.before.lesser.ensures) (reply_alone c.before.lesser.result) c.reply-alone.ensures (omega arith) (omega arith) (omega (arith, c.before.lesser.ensures))
 
 returns-7 : tie.Need-returns-7
 unfolding lengths_by
-returns-7 c = let a = c.before.before.before.before.args in
-    alone_so a.o a.size a.count Command.Send c.before.before.enum-told7.given.1 (c.reply-alone.ensures ∙ ap reply_alone c.before.lesser.ensures) (reply_alone c.before.lesser.result) c.reply-alone.ensures (omega arith) (omega arith) (omega (arith, c.before.lesser.ensures))
+returns-7 c = let a = c.before.before.before.args in
+    alone_so a.o a.size a.count Command.End c.before.enum-told7.given.1 c.reply-alone2.ensures (reply_alone 0) c.reply-alone2.ensures (omega arith) (omega arith) (omega arith)
 
 returns-8 : tie.Need-returns-8
 unfolding lengths_by
 returns-8 c = let a = c.before.before.before.args in
-    alone_so a.o a.size a.count Command.End c.before.enum-told8.given.1 c.reply-alone2.ensures (reply_alone 0) c.reply-alone2.ensures (omega arith) (omega arith) (omega arith)
+    alone_so a.o a.size a.count Command.Pin c.before.enum-told8.given.1 c.reply-alone3.ensures (reply_alone 0) c.reply-alone3.ensures (omega arith) (omega arith) (omega arith)
 
 returns-9 : tie.Need-returns-9
 unfolding lengths_by
-returns-9 c = let a = c.before.before.before.args in
-    alone_so a.o a.size a.count Command.Pin c.before.enum-told9.given.1 c.reply-alone3.ensures (reply_alone 0) c.reply-alone3.ensures (omega arith) (omega arith) (omega arith)
+returns-9 c = let a = c.before.before.before.before.args in
+    alone_so a.o a.size a.count Command.Cut c.before.before.enum-told9.given.1 (c.junk-alone.ensures ∙ ap junk_alone c.before.junk-for.ensures.0) (junk_alone c.before.junk-for.result) c.junk-alone.ensures c.before.junk-for.ensures.1 (omega arith) (omega arith)
 
 returns-10 : tie.Need-returns-10
 unfolding lengths_by
-returns-10 c = let a = c.before.before.before.before.args in
-    alone_so a.o a.size a.count Command.Cut c.before.before.enum-told10.given.1 (c.junk-alone.ensures ∙ ap junk_alone c.before.junk-for.ensures.0) (junk_alone c.before.junk-for.result) c.junk-alone.ensures c.before.junk-for.ensures.1 (omega arith) (omega arith)
+returns-10 c = let a = c.before.before.before.args in
+    alone_so a.o a.size a.count Command.Part c.before.enum-told10.given.1 c.reply-alone4.ensures (reply_alone 0) c.reply-alone4.ensures (omega arith) (omega arith) (omega arith)
 
 returns-11 : tie.Need-returns-11
 unfolding lengths_by
 returns-11 c = let a = c.before.before.before.args in
-    alone_so a.o a.size a.count Command.Part c.before.enum-told11.given.1 c.reply-alone4.ensures (reply_alone 0) c.reply-alone4.ensures (omega arith) (omega arith) (omega arith)
-
-returns-12 : tie.Need-returns-12
-unfolding lengths_by
-returns-12 c = let a = c.before.before.before.args in
-    alone_so a.o a.size a.count Command.Tally c.before.enum-told12.given.1 c.reply-alone5.ensures (reply_alone 0) c.reply-alone5.ensures (omega arith) (omega arith) (omega arith)
-
-returns-13 : tie.Need-returns-13
-unfolding lengths_by
-returns-13 c = let a = c.before.before.before.args in
-    alone_so a.o a.size a.count Command.Sum c.before.enum-told13.given.1 c.reply-alone6.ensures (reply_alone 0) c.reply-alone6.ensures (omega arith) (omega arith) (omega arith)
+    alone_so a.o a.size a.count Command.Sum c.before.enum-told11.given.1 c.reply-alone5.ensures (reply_alone 0) c.reply-alone5.ensures (omega arith) (omega arith) (omega arith)
 
 pub lengths-spec : {M : Type 1} → statement M
 lengths-spec =
@@ -90,8 +80,6 @@ lengths-spec =
     (λ c κs. search rules)
     (λ c. search rules)
     (λ c κs. search rules)
-    (λ c. search rules)
-    (λ c κs. search rules)
     (λ c κs. search rules)
     (λ c. search rules)
     (λ c κs. search rules)
@@ -102,8 +90,6 @@ lengths-spec =
     (λ c κs. search rules)
     (λ c. search rules)
     (λ c κs. search rules)
-    (λ c κs. search rules)
-    (λ c. search rules)
     (λ c κs. search rules)
     (λ c. search rules)
     (λ c κs. search rules)
@@ -119,6 +105,4 @@ lengths-spec =
     returns-8
     returns-9
     returns-10
-    returns-11
-    returns-12
-    returns-13)
+    returns-11)

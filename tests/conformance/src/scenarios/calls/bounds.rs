@@ -5,13 +5,11 @@ use at45db081d_model::record::field;
 use at45db081d_model::record::tag;
 use at45db081d_model::Part;
 
-use super::{
-    load, open_record, request, sector_of_slot, slot, DRIVER_KINDS, GET, PATCH, PUT, REFRESH, WIPE,
-};
+use super::{load, open_record, request, slot, GET, PATCH, PUT, SLOT_KINDS, WIPE};
 use crate::mismatch::Mismatch;
 use crate::pair::Pair;
 use crate::records::OPERATIONS;
-use crate::request::{sector_pages, CallStep};
+use crate::request::CallStep;
 use crate::rng::{Digits, Rng};
 use crate::runner::Scenario;
 
@@ -24,17 +22,17 @@ pub const BOUNDS: Scenario = Scenario {
 
 const LIMITS: [usize; 6] = [2, 3, 4, 5, 17, 1000];
 
-/// Which wait takes one poll too many: one of the first 17, or none.
+/// Which wait takes one poll too many; 17 for none.
 const LATE: usize = 18;
 
 fn cases(_: Part) -> u64 {
-    (DRIVER_KINDS * LIMITS.len() * LATE * OPERATIONS.len()) as u64
+    (SLOT_KINDS * LIMITS.len() * LATE * OPERATIONS.len()) as u64
 }
 
 fn run(pair: &mut Pair, case: u64) -> Result<(), Mismatch> {
     let (part, mut digits, mut rng) = (pair.part, Digits::new(case), Rng::new(case));
-    let kind = digits.below(DRIVER_KINDS);
-    let late = Some(digits.below(LATE)).filter(|&late| late < LATE - 1);
+    let kind = digits.below(SLOT_KINDS);
+    let late = digits.below(LATE);
     let operation = digits.pick(&OPERATIONS);
     let limit = digits.pick(&LIMITS);
     // An FC or CF may list the slot's sector; a high WP lets that pass.
@@ -43,36 +41,24 @@ fn run(pair: &mut Pair, case: u64) -> Result<(), Mismatch> {
     record[field::PROTECTION_ENABLED] = 0;
     load(pair, record)?;
     let busy = operation.0 != tag::IDLE;
-    // A refresh of a large sector with the highest limit is rare: it is long.
-    let slot = match kind == REFRESH && limit == 1000 && !rng.one_in(30) {
-        true => 0,
-        false => slot(&mut rng, part),
-    };
-    let pages = sector_pages(part, sector_of_slot(slot));
-    let script = script(kind, limit, late, busy, pages);
+    let script = script(kind, limit, late, busy);
+    let slot = slot(&mut rng, part);
     let request = request(&mut rng, part, kind, slot, limit);
     let outcome = pair.call(CallStep::new(part, request).with_script(script))?;
-    // The most frames of a put, a patch, a get, a wipe, a refresh (10.29).
-    let bound = match kind {
-        PUT => 17 * limit + 26,
-        PATCH => 17 * limit + 34,
-        GET => limit + 8,
-        WIPE => 2 * limit + 3,
-        _ => limit + 2 + pages * (limit + 1),
-    };
+    // The most frames of a put, a patch, a get, a wipe (10.29).
+    let bound = [17 * limit + 26, 17 * limit + 34, limit + 8, 2 * limit + 3][kind] as u64;
     let locks = operation.0 == tag::LOCK_SECTOR;
-    if busy && late.is_none() && !locks {
-        let frames = outcome.frames;
-        assert_eq!(frames, bound as u64, "the script reaches the bound");
+    if busy && late == LATE - 1 && !locks {
+        assert_eq!(outcome.frames, bound, "the script reaches the bound");
     }
     Ok(())
 }
 
 /// 1s while a wait goes on, and a 0 at its last poll but one.
-fn script(kind: usize, limit: usize, late: Option<usize>, busy: bool, pages: usize) -> Vec<u8> {
+fn script(kind: usize, limit: usize, late: usize, busy: bool) -> Vec<u8> {
     let mut script = Vec::new();
     let wait = |script: &mut Vec<u8>, number: usize| {
-        let polls = limit + usize::from(Some(number) == late);
+        let polls = limit + usize::from(number == late);
         script.resize(script.len() + polls - 2, 1);
         script.extend([0, 0]);
     };
@@ -97,15 +83,8 @@ fn script(kind: usize, limit: usize, late: Option<usize>, busy: bool, pages: usi
             script.extend([0, 0, 1]);
             wait(&mut script, 1);
         }
-        REFRESH => {
-            script.extend([0, 0]);
-            for page in 0..pages {
-                script.push(1);
-                wait(&mut script, page + 1);
-            }
-        }
         GET => {}
-        _ => unreachable!("a call of the driver"),
+        _ => unreachable!("a call with a slot"),
     }
     script
 }

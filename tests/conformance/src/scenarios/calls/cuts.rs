@@ -3,12 +3,12 @@
 use at45db081d_model::record::tag;
 use at45db081d_model::Part;
 
-use super::{load, open_record, request, sector_of_slot, slot, store_head, GET, KINDS, REFRESH};
+use super::{load, open_record, request, slot, store_head, GET, KINDS};
 use crate::dates;
 use crate::mismatch::Mismatch;
 use crate::pair::Pair;
 use crate::records::OPERATIONS;
-use crate::request::{sector_pages, CallStep};
+use crate::request::CallStep;
 use crate::rng::{Digits, Rng};
 use crate::runner::Scenario;
 
@@ -22,9 +22,8 @@ pub const CUTS: Scenario = Scenario {
 /// The frame after which the cut comes; a patch sends at most 119 with B = 5.
 const INDICES: usize = 120;
 
-/// Frames of each call on an idle chip under an empty script; of a refresh those
-/// before its first 58.
-const FRAMES: [usize; KINDS] = [43, 51, 9, 5, 3, 1];
+/// Frames of each call on an idle chip under an empty script.
+const FRAMES: [usize; KINDS] = [43, 51, 9, 5, 1];
 
 /// What the script has before the cut: 0s, 0s and then one 1, or 0s and 1s.
 const BEGINNINGS: usize = 3;
@@ -60,11 +59,7 @@ fn run(pair: &mut Pair, case: u64) -> Result<(), Mismatch> {
         .with_junk(rng.next_u64(), register);
     let answer = pair.call(call)?.answer;
     if operation.0 == tag::IDLE && beginning == 0 {
-        let frames = match kind {
-            REFRESH => FRAMES[kind] + 2 * sector_pages(part, sector_of_slot(slot)),
-            _ => FRAMES[kind],
-        };
-        assert_eq!(answer == 11, index < frames, "every frame is met");
+        assert_eq!(answer == 11, index < FRAMES[kind], "every frame is met");
     }
     if rng.one_in(4) {
         let read = self::request(&mut rng, part, GET, slot, 2);

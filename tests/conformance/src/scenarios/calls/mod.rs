@@ -1,6 +1,5 @@
-//! The scenarios of put, patch, get, wipe, refresh and raw.
+//! The scenarios of put, patch, get, wipe and raw.
 
-use at45db081d_model::part::sector_of;
 use at45db081d_model::record::field;
 use at45db081d_model::{Part, Record};
 
@@ -22,7 +21,6 @@ mod patches;
 mod polls;
 mod random_calls;
 mod raws;
-mod refreshes;
 mod scripts;
 mod sealed;
 mod stored_terms;
@@ -30,37 +28,34 @@ mod terms;
 mod wrong_dates;
 mod wrongs;
 
-/// Every scenario of calls, with the share of its cases that a full part gets: one in
-/// so many. The quicker ones come first.
-pub const CALLS: [(Scenario, u64); 16] = [
+/// Every scenario of calls, with the share of its cases that a full part gets:
+/// one in so many.
+pub const CALLS: [(Scenario, u64); 15] = [
+    (cuts::CUTS, 5),
+    (polls::POLLS, 5),
+    (bounds::BOUNDS, 4),
+    (sealed::SEALED, 2),
+    (deep::DEEP, 5),
+    (patches::PATCHES, 4),
+    (lengths::LENGTHS, 2),
     (wrongs::WRONGS, 2),
     (scripts::SCRIPTS, 2),
-    (lengths::LENGTHS, 2),
-    (patches::PATCHES, 4),
-    (refreshes::REFRESHES, 16),
-    (deep::DEEP, 5),
     (raws::RAWS, 10),
     (terms::TERMS, 4),
     (stored_terms::STORED_TERMS, 8),
     (wrong_dates::WRONG_DATES, 4),
     (compares::COMPARES, 2),
-    (sealed::SEALED, 2),
-    (cuts::CUTS, 5),
-    (polls::POLLS, 5),
-    (bounds::BOUNDS, 4),
     (random_calls::RANDOM_CALLS, 1),
 ];
 
-/// The calls that the driver makes, and all of them, in the order of
-/// [`Request::kind`].
-pub const DRIVER_KINDS: usize = 5;
-pub const KINDS: usize = 6;
+/// The calls that have a slot, in the order of [`Request::kind`].
+pub const SLOT_KINDS: usize = 4;
+pub const KINDS: usize = 5;
 
 pub const PUT: usize = 0;
 pub const PATCH: usize = 1;
 pub const GET: usize = 2;
 pub const WIPE: usize = 3;
-pub const REFRESH: usize = 4;
 
 /// A record that is awake and has nothing sealed, with an operation under way
 /// somewhere in the part.
@@ -74,7 +69,7 @@ pub fn open_record(rng: &mut Rng, part: Part, operation: (u8, u8)) -> Record {
 }
 
 /// A call of some kind with random content; a patch is mostly a short one, half of
-/// the puts have a term, and every date is one. A refresh is of the slot's sector.
+/// the puts have a term, and every date is one.
 pub fn request(rng: &mut Rng, part: Part, kind: usize, slot: usize, poll_limit: usize) -> Request {
     let most = part.max_recipe();
     match kind {
@@ -91,7 +86,6 @@ pub fn request(rng: &mut Rng, part: Part, kind: usize, slot: usize, poll_limit: 
         }
         GET => Request::get(slot, poll_limit, dates::date(rng), most + rng.below(3)),
         WIPE => Request::wipe(slot, poll_limit),
-        REFRESH => Request::refresh(sector_of_slot(slot), poll_limit),
         _ => Request::raw(random_frame(rng, part)),
     }
 }
@@ -123,11 +117,6 @@ pub fn edge_slots(part: Part) -> Vec<usize> {
         .collect();
     slots.dedup();
     slots
-}
-
-/// The sector that a slot lies in.
-pub fn sector_of_slot(slot: usize) -> usize {
-    usize::from(sector_of(8 * slot as u16))
 }
 
 /// Any slot; those at the edges of sectors come often.

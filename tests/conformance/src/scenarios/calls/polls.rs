@@ -3,7 +3,7 @@
 
 use at45db081d_model::Part;
 
-use super::{load, open_record, request, slot, DRIVER_KINDS};
+use super::{load, open_record, request, slot, SLOT_KINDS};
 use crate::mismatch::Mismatch;
 use crate::pair::Pair;
 use crate::records::OPERATIONS;
@@ -20,19 +20,19 @@ pub const POLLS: Scenario = Scenario {
 
 const LIMITS: [usize; 6] = [1, 2, 3, 4, 5, 1000];
 
-/// Frames before the first 1: none, up to the first 83, 60, 50 or 58, or further on.
+/// Frames before the first 1: none, up to the first 83, 60 or 50, or further on.
 const FIRST: [usize; 9] = [0, 1, 3, 4, 5, 6, 7, 8, 30];
 
 /// Numbers of 1s, as how many more than the limit or as they are.
 const ONES: usize = 9;
 
 fn cases(_: Part) -> u64 {
-    (DRIVER_KINDS * LIMITS.len() * OPERATIONS.len() * FIRST.len() * ONES) as u64
+    (SLOT_KINDS * LIMITS.len() * OPERATIONS.len() * FIRST.len() * ONES) as u64
 }
 
 fn run(pair: &mut Pair, case: u64) -> Result<(), Mismatch> {
     let (part, mut digits, mut rng) = (pair.part, Digits::new(case), Rng::new(case));
-    let kind = digits.below(DRIVER_KINDS);
+    let kind = digits.below(SLOT_KINDS);
     let limit = digits.pick(&LIMITS);
     let operation = digits.pick(&OPERATIONS);
     let first = digits.pick(&FIRST);

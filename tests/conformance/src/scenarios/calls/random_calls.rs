@@ -4,9 +4,7 @@
 use at45db081d_model::record::field;
 use at45db081d_model::Part;
 
-use super::{
-    load, random_bytes, random_frame, request, slot, store_head, KINDS, PATCH, PUT, REFRESH,
-};
+use super::{load, random_bytes, random_frame, request, slot, store_head, KINDS, PATCH, PUT};
 use crate::dates;
 use crate::mismatch::Mismatch;
 use crate::pair::Pair;
@@ -83,7 +81,6 @@ fn call(rng: &mut Rng, part: Part) -> CallStep {
             let len = rng.below(part.max_recipe() + 2 - place);
             Request::patch(slot, limit, place, random_bytes(rng, len))
         }
-        REFRESH if rng.one_in(10) => Request::refresh(rng.below(19), limit),
         _ if rng.one_in(40) => match kind {
             PUT => Request::put(slot, limit, Some(dates::no_term(rng)), Vec::new()),
             _ => Request::get(slot, limit, dates::no_date(rng), part.max_recipe()),
@@ -118,13 +115,12 @@ fn script(rng: &mut Rng) -> Vec<u8> {
 
 fn event(rng: &mut Rng, part: Part) -> Step {
     let array_len = part.array_len();
-    match rng.below(10) {
+    match rng.below(8) {
         0..=3 => Step::send(array_len, random_frame(rng, part)),
         4 | 5 => Step::EndBusy { array_len },
         6 => Step::MovePin {
             high: !rng.one_in(3),
         },
-        7 | 8 => Step::Tally,
         _ => Step::Cut {
             array_len,
             junk_len: part.junk_len(),

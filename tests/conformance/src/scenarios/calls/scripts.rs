@@ -18,11 +18,8 @@ pub const SCRIPTS: Scenario = Scenario {
     run,
 };
 
-/// With B = 1 the calls send at most 43, 51, 9, 5 and 1 frames, a refresh 19, 243,
-/// 499 or 515.
-const PLACES: [usize; 22] = [
-    0, 1, 2, 4, 5, 8, 9, 18, 19, 42, 43, 50, 51, 52, 100, 242, 243, 499, 514, 515, 17_034, 60_000,
-];
+/// With B = 1 the calls send at most 43, 51, 9, 5 and 1 frames.
+const PLACES: [usize; 15] = [0, 1, 2, 4, 5, 8, 9, 42, 43, 50, 51, 52, 100, 17_034, 60_000];
 
 const BYTES: [u8; 7] = [0, 1, 2, 3, 4, 0x80, 0xFF];
 

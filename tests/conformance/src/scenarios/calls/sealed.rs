@@ -1,11 +1,11 @@
-//! Slots at the edges of each sector, and the sectors themselves, with the sector's
-//! bits in protection and lockdown in every combination that matters.
+//! Slots at the edges of each sector, with the sector's bits in protection and
+//! lockdown in every combination that matters.
 
 use at45db081d_model::part::{sector_bits, sector_of};
 use at45db081d_model::record::{field, tag};
 use at45db081d_model::{Part, Record};
 
-use super::{edge_slots, load, open_record, request, DRIVER_KINDS};
+use super::{edge_slots, load, open_record, request, SLOT_KINDS};
 use crate::mismatch::Mismatch;
 use crate::pair::Pair;
 use crate::records::PATTERNS;
@@ -21,12 +21,12 @@ pub const SEALED: Scenario = Scenario {
 };
 
 fn cases(part: Part) -> u64 {
-    (edge_slots(part).len() * PATTERNS.len() * PATTERNS.len() * 4 * DRIVER_KINDS) as u64
+    (edge_slots(part).len() * PATTERNS.len() * PATTERNS.len() * 4 * SLOT_KINDS) as u64
 }
 
 fn run(pair: &mut Pair, case: u64) -> Result<(), Mismatch> {
     let (part, mut digits, mut rng) = (pair.part, Digits::new(case), Rng::new(case));
-    let kind = digits.below(DRIVER_KINDS);
+    let kind = digits.below(SLOT_KINDS);
     let slot = digits.pick(&edge_slots(part));
     let (listed, locked) = (digits.pick(&PATTERNS), digits.pick(&PATTERNS));
     let mut record = open_record(&mut rng, part, (tag::IDLE, 0));

@@ -6,9 +6,7 @@ use at45db081d_model::record::tag;
 use at45db081d_model::{Part, Record};
 
 use super::super::refusals::{array_len, ARRAY_LENGTHS};
-use super::{
-    load, open_record, random_bytes, random_frame, slot, GET, KINDS, PATCH, PUT, REFRESH, WIPE,
-};
+use super::{load, open_record, random_bytes, random_frame, slot, GET, KINDS, PATCH, PUT, WIPE};
 use crate::dates;
 use crate::mismatch::Mismatch;
 use crate::pair::Pair;
@@ -57,7 +55,7 @@ fn run(pair: &mut Pair, case: u64) -> Result<(), Mismatch> {
     if wrong.has(1) {
         wrong_part(&mut rng, &mut record, &mut call, part);
     }
-    set_log(&mut rng, &mut call, wrong.has(6), part);
+    set_log(&mut rng, &mut call, wrong.has(6));
     set_script(&mut rng, &mut call, wrong.has(7), part);
     load(pair, record)?;
     let answer = pair.call(call)?.answer;
@@ -74,7 +72,7 @@ fn concerns(kind: usize, answer: usize) -> bool {
     match kind {
         PUT | GET => answer != 2,
         PATCH => answer != 2 && answer != 14,
-        WIPE | REFRESH => ![2, 5, 14].contains(&answer),
+        WIPE => ![2, 5, 14].contains(&answer),
         _ => [1, 2, 6, 7].contains(&answer),
     }
 }
@@ -119,20 +117,7 @@ fn request(rng: &mut Rng, kind: usize, wrong: Wrong, part: Part) -> Request {
             Request::get(slot, limit, today, buffer_len)
         }
         WIPE => Request::wipe(slot, limit),
-        REFRESH => Request::refresh(sector(rng, wrong.has(3), part), limit),
         _ => raw(rng, part, wrong.has(2)),
-    }
-}
-
-/// A sector of the part, or one that it lacks: a short part has 0 and 1 alone.
-fn sector(rng: &mut Rng, wrong: bool, part: Part) -> usize {
-    let sectors = usize::from(part.sectors());
-    match wrong {
-        false => rng.below(sectors),
-        true => match rng.one_in(2) {
-            true => rng.pick(&[17, 18, 256, 65_536, 1 << 32, usize::MAX]),
-            false => sectors + rng.below(18 - sectors),
-        },
     }
 }
 
@@ -182,8 +167,8 @@ fn wrong_part(rng: &mut Rng, record: &mut Record, call: &mut CallStep, part: Par
     }
 }
 
-fn set_log(rng: &mut Rng, call: &mut CallStep, wrong: bool, part: Part) {
-    let least = call.request.log_len(part);
+fn set_log(rng: &mut Rng, call: &mut CallStep, wrong: bool) {
+    let least = call.request.log_len();
     call.log_len = match wrong {
         true => rng.pick(&[least - 1, least - 6, least / 2, 0]),
         false => least + rng.pick(&[0, 1, 6, 100]),
