@@ -1,5 +1,7 @@
 // What a line's order does to the chip: the junk of its seed and the buffers that it lends are made ready, and the call or event is carried out.
 // Internal to this repository: a caller here meets each `requires`; no entry point is in this crate.
+#![tactic(auto)]
+
 ghost use Rattle.std.specs.Prelude.{true, ◌≡◌, length};
 ghost use Rattle.contents.specs.Junk.{junk_of};
 ghost use Rattle.lengths.specs.Lengths.{Lends};
@@ -13,7 +15,7 @@ mod effects;
 const UNWRITTEN: u8 = 0xA5;
 
 // The answer's number, and a call's frames, polls and n; an event has none of these.
-#[derive(Drop)]
+#[derive(Clone, Copy)]
 pub struct Totals {
     pub answer: u8,
     pub frames: u64,

@@ -1,5 +1,7 @@
 // Writing the parts of the record block: marks, operation and its data.
 // Internal to this repository: a caller here meets each `requires`; no entry point is in this crate.
+#![tactic(auto)]
+
 ghost use Rattle.std.specs.Prelude.{◌≡◌, ◌++◌, ◌+◌, ◌≤◌, length, replicate};
 ghost use Rattle.slices.specs.Lists.{splice};
 ghost use Rattle.registers.specs.Data.{bytes16};

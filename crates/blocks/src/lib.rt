@@ -1,4 +1,6 @@
 // The record block: 765 bytes that hold a chip record.
+#![tactic(auto)]
+
 ghost use Rattle.std.specs.Prelude.{◌≡◌, ◌+◌, ◌≤◌, ◌<◌, length, take};
 ghost use Rattle.geometry.specs.Parts.{page_room};
 ghost use Rattle.registers.specs.Data.{pack16, pack64};
@@ -12,7 +14,7 @@ use registers::{Operation, Registers, Seals};
 use state::Chip;
 
 // Tag, buffer, number and sector set of the operation under way, as the block holds them.
-#[derive(Drop)]
+#[derive(Clone, Copy)]
 pub struct Heading {
     pub tag: u8,
     pub buffer: u8,

@@ -1,5 +1,7 @@
 // A call of any kind on the chip in its record block, in place: the tests, the run, and what comes behind it.
 // The function named to others has no `requires`: bad input is refused, and a refusal changes nothing. The entry points are in crate calls.
+#![tactic(auto)]
+
 ghost use Rattle.std.specs.Prelude.{◌≡◌, replicate};
 ghost use Rattle.geometry.specs.Parts.{slot_room};
 ghost use Rattle.state.specs.Outcomes.{part_in};

@@ -1,4 +1,6 @@
 // CRC-32 with the reflected polynomial EDB88320h, byte by byte with a table.
+#![tactic(auto)]
+
 ghost use Rattle.std.specs.Prelude.{◌≡◌};
 ghost use Rattle.std.specs.Int.Bits.{bit_xor};
 ghost use Rattle.checksum.specs.Checksum.{crc_bits, crc_of, Tabled};

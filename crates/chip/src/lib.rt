@@ -1,6 +1,8 @@
 // The AT45DB081D as docs/SPECIFICATION.md describes it: a chip record by value and the array as a lent slice.
 // Entry points: fresh, send, end_busy, move_pin, cut; `number`, for the answers, is one of crate state. None has a `requires`: bad input is
 // refused, and a refusal changes nothing.
+#![tactic(auto)]
+
 ghost use Rattle.std.specs.Prelude.{List, [], ℕ};
 ghost use Rattle.state.specs.Memory.{state_of};
 ghost use Rattle.state.specs.Outcomes.{Leaves, fresh_outcome, send_outcome, end_outcome, pin_outcome, cut_outcome};

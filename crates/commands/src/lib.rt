@@ -1,17 +1,19 @@
 // The command table of the AT45DB081D; crate decoding says which of its rows a frame is.
 // Internal to this repository; no entry point is in this crate.
+#![tactic(auto)]
+
 ghost use Rattle.std.specs.Prelude.{◌≡◌};
 ghost use Rattle.commands.specs.Decode.{lookup_of};
 
 // One of the two page buffers.
-#[derive(Drop)]
+#[derive(Clone, Copy)]
 pub enum Buffer {
     One,
     Two,
 }
 
 // What a command does, as the table's last column says.
-#[derive(Drop)]
+#[derive(Clone, Copy)]
 pub enum Effect {
     // D2: read a page, wrapping in it.
     ReadPage,
@@ -60,17 +62,17 @@ pub enum Effect {
 }
 
 // A row that opens with one byte: opcode, lead (the bytes before data), effect. Four bytes in all.
-#[derive(Drop)]
+#[derive(Clone, Copy)]
 pub struct Command(pub u8, pub u8, pub Effect);
 
 // A frame's row, whichever way it opens.
-#[derive(Drop)]
+#[derive(Clone, Copy)]
 pub struct Decoded {
     pub lead: usize,
     pub effect: Effect,
 }
 
-#[derive(Drop)]
+#[derive(Clone, Copy)]
 pub enum Found {
     Row(Command),
     Missing,

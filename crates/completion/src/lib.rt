@@ -1,4 +1,6 @@
 // A busy end on a chip whose part is known. The buffers are lent as one slice.
+#![tactic(auto)]
+
 ghost use Rattle.std.specs.Prelude.{◌≡◌, true, [], ◌*◌, ◌<◌, length};
 ghost use Rattle.geometry.specs.Parts.{Sized, page_room};
 ghost use Rattle.registers.specs.Operations.{within};

@@ -1,4 +1,6 @@
 // What a step of the program `outline` is given: the bytes of a line's words, and the junk of a seed. Every function named here takes any input.
+#![tactic(auto)]
+
 ghost use Rattle.std.specs.Prelude.{◌≡◌, ◌*◌, ◌≤◌, length, take};
 ghost use Rattle.io.specs.Counts.{IsPrefixLen};
 ghost use Rattle.text.specs.Hexadecimal.{bytes_of};

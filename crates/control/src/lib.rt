@@ -1,6 +1,8 @@
 // What frames, busy ends and cuts do to the registers, as definitions; marks and changes. Nothing here sees a buffer's bytes, the array or the compare
 // bit.
 // Internal to this repository: a caller here meets each `requires`; no entry point is in this crate.
+#![tactic(auto)]
+
 ghost use Rattle.std.specs.Prelude.{◌≡◌};
 ghost use Rattle.control.specs.Obeyed.{usage_of};
 ghost use Rattle.control.specs.Rulings.{marks_of, changed};
@@ -9,7 +11,7 @@ use commands::Buffer;
 use registers::{Data16, Data64, Operation, Registers, Seals, Usage};
 
 // What matters of a command for whether it is obeyed.
-#[derive(Drop)]
+#[derive(Clone, Copy)]
 pub enum Class {
     Status,
     Id,
@@ -19,7 +21,7 @@ pub enum Class {
 }
 
 // What a frame asks of the memory.
-#[derive(Drop)]
+#[derive(Clone, Copy)]
 pub enum Action {
     // Nothing: every reply byte is FFh.
     Silent,
@@ -39,7 +41,7 @@ pub enum Action {
 }
 
 // The registers that a frame leaves, and what it asks of the memory; its data begin after the lead.
-#[derive(Drop)]
+#[derive(Clone, Copy)]
 pub struct Decision {
     pub registers: Registers,
     pub action: Action,
@@ -47,7 +49,7 @@ pub struct Decision {
 }
 
 // What of the registers decides on a frame.
-#[derive(Drop)]
+#[derive(Clone, Copy)]
 pub struct Marks {
     pub seals: Seals,
     pub used: bool,
@@ -56,7 +58,7 @@ pub struct Marks {
 }
 
 // What a frame changes of the registers.
-#[derive(Drop)]
+#[derive(Clone, Copy)]
 pub enum Change {
     Nothing,
     Start { operation: Operation },
@@ -67,7 +69,7 @@ pub enum Change {
 }
 
 // A decision with the change in place of the registers.
-#[derive(Drop)]
+#[derive(Clone, Copy)]
 pub struct Ruling {
     pub change: Change,
     pub action: Action,

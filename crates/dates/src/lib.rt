@@ -1,12 +1,14 @@
 // The calendar: dates, whether they exist, their day numbers; and terms.
 // Entry points: is_date, day_number, is_term. None has a `requires`: any numbers are taken.
+#![tactic(auto)]
+
 ghost use Rattle.std.specs.Prelude.{◌≡◌, false, ◌-◌, ◌≤◌};
 ghost use Rattle.dates.specs.Calendar.{is_leap, days_in_month, is_date, days_of_years, days_of_months, day_of};
 ghost use Rattle.dates.specs.Terms.{is_term};
 ghost use Rattle.dates.specs.declared.Term.TheVariants.{Between};
 
 // A date as a caller gives it: any three numbers.
-#[derive(Drop)]
+#[derive(Clone, Copy)]
 pub struct Date {
     pub year: u32,
     pub month: u32,
@@ -14,7 +16,7 @@ pub struct Date {
 }
 
 // The days on which a recipe may be read: all, or those from the first to the last, both inside.
-#[derive(Drop)]
+#[derive(Clone, Copy)]
 pub enum Term {
     Unlimited,
     Between { first: Date, last: Date },

@@ -1,5 +1,7 @@
 // Which row of the command table a frame is.
 // Internal to this repository: a caller here meets each `requires`; no entry point is in this crate.
+#![tactic(auto)]
+
 ghost use Rattle.std.specs.Prelude.{◌≡◌};
 ghost use Rattle.commands.specs.Table.{sequences};
 ghost use Rattle.commands.specs.Decode.{begins, sequence_in, complete, decode_of};

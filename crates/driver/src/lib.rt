@@ -2,6 +2,8 @@
 // patch, and the bytes of the slot read so far, are lent beside it.
 // Entry points: start_put and the like (crate openings), write_frame, take_in, next_frame, is_poll, and halt, is_ended, answer, count (crate results).
 // None has a `requires`: any state, any reply and any lengths are taken. A state that no call comes to counts as ended.
+#![tactic(auto)]
+
 ghost use Rattle.std.specs.Prelude.{◌≡◌, length, take};
 ghost use Rattle.slots.specs.Driver.{frame_room};
 ghost use Rattle.slices.specs.Lists.{over};
@@ -15,7 +17,7 @@ pub use results::{answer, count, halt, is_ended};
 use slots::Driver;
 
 // The state after a reply, and the length of the next frame; 0 is the end.
-#[derive(Drop)]
+#[derive(Clone, Copy)]
 pub struct Next {
     pub driver: Driver,
     pub length: usize,

@@ -1,5 +1,7 @@
 // The state of the slot driver as a block of 72 bytes, for the C interface: the definitions, and reading it. Crate driver_storing writes it.
 // Internal to this repository: the entry points are in crate slipknoll.
+#![tactic(auto)]
+
 ghost use Rattle.std.specs.Prelude.{◌≡◌, ◌+◌, ◌≤◌, length};
 ghost use Rattle.slices.specs.Words.{word_at};
 ghost use Rattle.driver_blocks.specs.Block.{kind_of, verdict_of, answer_at, is_kind, is_ours, stage_of, flag, period_at, decode_course, decode_aim, decode_driver};

@@ -1,5 +1,7 @@
 // Writing the slot driver's state into its block of 72 bytes, and what the C interface tells of it.
 // Internal to this repository: the entry points are in crate slipknoll.
+#![tactic(auto)]
+
 ghost use Rattle.std.specs.Prelude.{◌≡◌, ◌+◌, ◌≤◌, length};
 ghost use Rattle.slices.specs.Lists.{over, splice};
 ghost use Rattle.slices.specs.Words.{word_bytes};

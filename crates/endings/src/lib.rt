@@ -1,5 +1,7 @@
 // What a call does when its run has ended: a get's recipe goes to the lent buffer, and a cut takes the supply.
 // Internal to this repository: a caller here meets each `requires`; no entry point is in this crate.
+#![tactic(auto)]
+
 ghost use Rattle.std.specs.Prelude.{◌≡◌, true, ◌+◌, length, take, drop};
 ghost use Rattle.slices.specs.Lists.{over};
 ghost use Rattle.state.specs.Outcomes.{part_in, cut_fits};

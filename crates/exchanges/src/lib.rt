@@ -1,5 +1,7 @@
 // One frame on a chip whose part is known, in its record block: sent, logged, and its script byte acted on; and a cut.
 // Internal to this repository: a caller here meets each `requires`; no entry point is in this crate.
+#![tactic(auto)]
+
 ghost use Rattle.std.specs.Prelude.{◌≡◌, true, ◌+◌, ◌≤◌, length, take};
 ghost use Rattle.slices.specs.Lists.{splice};
 ghost use Rattle.state.specs.Outcomes.{part_in, framed, cut_fits, cut_state};

@@ -1,4 +1,6 @@
 // What can be wrong with a line of the program `outline`, and the text that says so: a name, and what is said of it.
+#![tactic(auto)]
+
 ghost use Rattle.std.specs.Prelude.{◌≡◌, ◌+◌, ◌≤◌, ◌<◌, length, get_or};
 ghost use Rattle.words.specs.Bounds.{Within};
 ghost use Rattle.faults.specs.Messages.{Put, text_of};
@@ -7,7 +9,7 @@ ghost use Rattle.faults.specs.Parts.{texts, starts, key_part, name_part, subject
 use words::{Key, Span};
 
 // What a fault lies in: a word by its place, or the value of an option.
-#[derive(Drop)]
+#[derive(Clone, Copy)]
 pub enum Name {
     Slot,
     Place,
@@ -19,7 +21,7 @@ pub enum Name {
 }
 
 // What is wrong with a line. TooLong is also for whoever reads a line in parts and never holds it whole.
-#[derive(Drop)]
+#[derive(Clone, Copy)]
 pub enum Fault {
     TooLong,
     NoCommand,

@@ -1,4 +1,6 @@
 // The printed text of a frame. The function named here takes any input.
+#![tactic(auto)]
+
 ghost use Rattle.std.specs.Prelude.{◌≡◌, [], ◌∷◌, ◌+◌, ◌*◌, ◌/◌, ◌≤◌, ◌<◌, length, get_or};
 ghost use Rattle.slices.specs.Lists.{over, splice};
 ghost use Rattle.text.specs.Hexadecimal.{digit_of};

@@ -1,4 +1,6 @@
 // A frame on a chip whose part is known: the reply, and what it does to the buffers. The buffers are lent as one slice.
+#![tactic(auto)]
+
 ghost use Rattle.std.specs.Prelude.{◌≡◌, cond, ◌++◌, ◌*◌, ◌≤◌, ◌<◌, length};
 ghost use Rattle.geometry.specs.Parts.{Sized, page_room};
 ghost use Rattle.slices.specs.Lists.{over, splice, ring_write};

@@ -1,12 +1,14 @@
 // Parts, pages, addresses and sectors of the AT45DB081D: where things lie in the lent array.
 // Internal to this repository: a caller here meets each `requires`; no entry point is in this crate.
+#![tactic(auto)]
+
 ghost use Rattle.std.specs.Prelude.{◌≡◌, ℕ, ◌+◌, ◌*◌, ◌/◌, ◌%◌, ◌≤◌, ◌<◌, ◌^◌, length};
 ghost use Rattle.geometry.specs.Parts.{row, part_of, register_room, Sized, address_at, page_at, byte_at, page_start};
 ghost use Rattle.geometry.specs.Sectors.{sector_of, first_page, end_page, sector_run, sector_count};
 
 // A part: bytes a page, pages, how many numbers an address gives each page, status bit 0, pages a sector, and bytes of the protection and
 // lockdown registers.
-#[derive(Drop)]
+#[derive(Clone, Copy)]
 pub struct Geometry {
     pub size: usize,
     pub pages: usize,
@@ -17,14 +19,14 @@ pub struct Geometry {
 }
 
 // What an array's length tells.
-#[derive(Drop)]
+#[derive(Clone, Copy)]
 pub enum Part {
     Known(Geometry),
     Unknown,
 }
 
 // `count` pages from page `first` on.
-#[derive(Drop)]
+#[derive(Clone, Copy)]
 pub struct Run {
     pub first: usize,
     pub count: usize,

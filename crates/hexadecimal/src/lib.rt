@@ -1,4 +1,6 @@
 // Hexadecimal digits, and the bytes that a word of them makes. Every function named here takes any input.
+#![tactic(auto)]
+
 ghost use Rattle.std.specs.Prelude.{◌≡◌, ◌+◌, ◌*◌, ◌/◌, ◌≤◌, ◌<◌, min, length, take};
 ghost use Rattle.slices.specs.Lists.{over};
 ghost use Rattle.text.specs.Hexadecimal.{digit_of, pair_of, pairs, hex_of, count_of, bytes_of};

@@ -1,5 +1,7 @@
 // The five entry points on a chip that a record block holds. Frames and busy ends are made in place: no more of the block is written than can
 // change. What each of the five promises is what the C interface promises; none has a `requires`.
+#![tactic(auto)]
+
 ghost use Rattle.std.specs.Prelude.{◌≡◌, true, [], length};
 ghost use Rattle.geometry.specs.Parts.{Sized};
 ghost use Rattle.registers.specs.Operations.{within};

@@ -1,5 +1,7 @@
 // The input of the program `outline`, byte by byte, and its lines.
 // Internal to this repository: a caller here meets each `requires`; no entry point is in this crate.
+#![tactic(auto)]
+
 ghost use Rattle.std.specs.Prelude.{◌≡◌, [], ◌∷◌, ◌+◌, ◌<◌, length};
 ghost use Rattle.obeying.specs.Promises.{Roomy};
 ghost use Rattle.inputs.specs.Places.{line_room, place, Keeps, Reads, Ends, Finishes, reader_with};
@@ -8,7 +10,7 @@ ghost use Rattle.printing.specs.Held.{Flushed};
 use lines::count;
 use obeying::Session;
 
-#[derive(Drop)]
+#[derive(Clone, Copy)]
 pub struct Reader {
     pub session: Session,
     // How many characters of the next line are kept, counted to 8,193 at most.

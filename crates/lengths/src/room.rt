@@ -12,7 +12,7 @@ pub const OUT_ROOM: usize = 65536;
 pub const JUNK_ROOM: usize = 1114112;
 
 // The lengths of junk, log, and get buffer or reply.
-#[derive(Drop)]
+#[derive(Clone, Copy)]
 pub struct Lengths {
     pub junk: usize,
     pub log: usize,

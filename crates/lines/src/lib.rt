@@ -1,5 +1,7 @@
 // The lines that the program `outline` prints, each made at the start of a buffer of 128 bytes.
 // Internal to this repository: a caller here meets each `requires`; no entry point is in this crate.
+#![tactic(auto)]
+
 ghost use Rattle.std.specs.Prelude.{◌≡◌, ◌+◌, ◌/◌, ◌≤◌, ◌<◌, min, length};
 ghost use Rattle.io.specs.Counts.{IsPrefixLen};
 ghost use Rattle.text.specs.Hexadecimal.{digit_of};

@@ -1,5 +1,7 @@
 // What operations do to the lent array and to a page buffer, and the bytes of replies.
 // Internal to this repository: a caller here meets each `requires`; no entry point is in this crate.
+#![tactic(auto)]
+
 ghost use Rattle.std.specs.Prelude.{◌≡◌, ℕ, ◌+◌, ◌*◌, ◌≤◌, ◌<◌, length};
 ghost use Rattle.geometry.specs.Parts.{Sized, page_of};
 ghost use Rattle.memory.specs.Pages.{programmed, programmed_over, transferred, differing, erased, junked, in_sectors, junk_buffer};

@@ -1,4 +1,6 @@
 // Leaves over numbers.
+#![tactic(auto)]
+
 ghost use Rattle.std.specs.Prelude.{◌≡◌, ℕ, ◌<◌, min};
 
 // The lesser of two numbers.

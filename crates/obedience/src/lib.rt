@@ -1,5 +1,7 @@
 // Which frames a deep or busy chip obeys.
 // Internal to this repository: a caller here meets each `requires`; no entry point is in this crate.
+#![tactic(auto)]
+
 ghost use Rattle.std.specs.Prelude.{◌≡◌, true};
 ghost use Rattle.control.specs.Obeyed.{class_of, same_buffer, allowed, is_wake, obeyed};
 ghost use Rattle.control.specs.Rulings.{WithMarks};

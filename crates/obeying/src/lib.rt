@@ -1,5 +1,7 @@
 // What a line of the program `outline` does to the chip, and what it prints.
 // Internal to this repository: a caller here meets each `requires`; no entry point is in this crate.
+#![tactic(auto)]
+
 ghost use Rattle.std.specs.Prelude.{◌≡◌, true, false, List, [], ℕ, ◌+◌, ◌≤◌, min, length, take};
 ghost use Rattle.printing.specs.Held.{Printed};
 ghost use Rattle.lines.specs.Texts.{fault_text};
@@ -24,7 +26,7 @@ use printing::Output;
 const FIRST_LENGTH: usize = 33792;
 
 // What is kept between lines, beside the buffers.
-#[derive(Drop)]
+#[derive(Clone, Copy)]
 pub struct Session {
     // The length of the chip's array.
     pub size: usize,

@@ -1,5 +1,7 @@
 // How a driver starts, apart from any chip: the first state of each call.
 // Every function takes any input: a call that is refused starts as ended.
+#![tactic(auto)]
+
 ghost use Rattle.std.specs.Prelude.{◌≡◌, length};
 ghost use Rattle.slots.specs.Details.{storing, changing, reading, untold};
 ghost use Rattle.slots.specs.Lists.{asking};

@@ -1,4 +1,6 @@
 // The words behind a command that have a place: its number, PLACE and HEX.
+#![tactic(auto)]
+
 ghost use Rattle.std.specs.Prelude.{◌≡◌};
 ghost use Rattle.operands.specs.Operands.{first_of, takes_place, takes_bytes, is_nothing, take_first, take_place, take_bytes, operands_of};
 
@@ -7,7 +9,7 @@ use word_values::{First, Numbered, Tested};
 use words::{Command, Span};
 
 // The words read up to index `at`.
-#[derive(Drop)]
+#[derive(Clone, Copy)]
 pub struct Taken {
     pub number: usize,
     pub place: usize,
@@ -15,7 +17,7 @@ pub struct Taken {
     pub at: usize,
 }
 
-#[derive(Drop)]
+#[derive(Clone, Copy)]
 pub enum Step {
     More(Taken),
     Fault(Fault),

@@ -1,4 +1,6 @@
 // The options of a call.
+#![tactic(auto)]
+
 ghost use Rattle.std.specs.Prelude.{◌≡◌, length};
 ghost use Rattle.text.specs.Decimal.{number_of};
 ghost use Rattle.words.specs.Bounds.{Within};
@@ -13,7 +15,7 @@ use text::Number;
 use word_values::{Dated, Tested};
 use words::{Command, Key, Keyed, Span};
 
-#[derive(Drop)]
+#[derive(Clone, Copy)]
 pub enum Choice {
     More(Settings),
     Fault(Fault),

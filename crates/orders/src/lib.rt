@@ -1,4 +1,6 @@
 // What a line of the program `outline` says, or what is wrong with it. No function that outsiders call has a `requires`.
+#![tactic(auto)]
+
 ghost use Rattle.std.specs.Prelude.{◌≡◌, length};
 ghost use Rattle.operands.specs.Operands.{operands_of};
 ghost use Rattle.orders.specs.Bounds.{SoundReading};
@@ -17,13 +19,13 @@ pub use words::{Command, Span, is_call};
 const LONGEST: usize = 8192;
 
 // A length lent: as the call needs, or as given.
-#[derive(Drop)]
+#[derive(Clone, Copy)]
 pub enum Lent {
     Needed,
     Given(usize),
 }
 
-#[derive(Drop)]
+#[derive(Clone, Copy)]
 pub struct Order {
     pub command: Command,
     // S of a call; 0 or 1 of pin; SEED of cut, modulo 256; the length of the array of part; else 0.
@@ -49,7 +51,7 @@ pub struct Order {
     pub today: Date,
 }
 
-#[derive(Drop)]
+#[derive(Clone, Copy)]
 pub enum Reading {
     Order(Order),
     Fault(Fault),

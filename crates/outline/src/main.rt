@@ -1,5 +1,7 @@
 // The program `outline`: reads lines from standard input, runs each on a chip, and prints what the wire shows (docs/OUTLINE.md).
 // The chip is the record block of crate slipknoll and a lent array; it starts as a fresh short part.
+#![tactic(auto)]
+
 ghost use Rattle.std.specs.Prelude.{◌≡◌, true, false, length};
 ghost use Rattle.io.specs.Counts.{IsPrefixLen};
 ghost use Rattle.lengths.specs.Lengths.{array_room, junk_room, log_room};
@@ -15,7 +17,7 @@ use libc::STDIN_FILENO;
 const TRIES: u32 = 33_554_432;
 
 // How many bytes of the input are read, whether to read on, and whether the input cannot be read.
-#[derive(Drop)]
+#[derive(Clone, Copy)]
 pub struct Input {
     pub reader: Reader,
     pub read: u64,
@@ -24,7 +26,7 @@ pub struct Input {
 }
 
 // How the run ended: whether the input could not be read to its end, or the output not be written; and how many bytes were read and written.
-#[derive(Drop)]
+#[derive(Clone, Copy)]
 pub struct Ended {
     pub unread: bool,
     pub unwritten: bool,
@@ -114,7 +116,7 @@ fn run(
 // ---- the input
 
 // What a read gave: how many bytes, none at the end of the input; or that it fails for good.
-#[derive(Drop)]
+#[derive(Clone, Copy)]
 pub struct Got {
     pub count: usize,
     pub failed: bool,

@@ -1,5 +1,7 @@
 // The code of the driver's data: the page that an 84 carries, and the page that a reply to D2 carries, among the slot's bytes.
 // Internal to this repository: a caller here meets each `requires`; no entry point is in this crate.
+#![tactic(auto)]
+
 ghost use Rattle.std.specs.Prelude.{◌≡◌, ℕ, ◌+◌, ◌-◌, ◌*◌, ◌/◌, ◌%◌, ◌≤◌, ◌<◌, cond, List, length, get_or, take};
 ghost use Rattle.geometry.specs.Parts.{slot_room};
 ghost use Rattle.slices.specs.Lists.{tabulate};

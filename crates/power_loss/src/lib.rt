@@ -1,4 +1,6 @@
 // A cut on a chip whose part is known.
+#![tactic(auto)]
+
 ghost use Rattle.std.specs.Prelude.{◌≡◌, true, false, [], ◌+◌, ◌*◌, ◌≤◌, length};
 ghost use Rattle.geometry.specs.Parts.{Sized, page_room};
 ghost use Rattle.registers.specs.Operations.{within};

@@ -1,5 +1,7 @@
 // The text that the program `outline` prints: it waits in a buffer until that is full, and is then written.
 // Internal to this repository: a caller here meets each `requires`; no entry point is in this crate.
+#![tactic(auto)]
+
 ghost use Rattle.std.specs.Prelude.{◌≡◌, ◌/◌, ◌≤◌, ◌<◌, min, true, false, ◌++◌, length};
 ghost use Rattle.lines.specs.Texts.{frame_text, answer_text, totals_text, fault_text};
 ghost use Rattle.printing.specs.Held.{Printed, Flushed};
@@ -12,7 +14,7 @@ use lines::{count, put};
 // is not told from one that fails for good.
 const TRIES: u32 = 33_554_432;
 
-#[derive(Drop)]
+#[derive(Clone, Copy)]
 pub struct Output {
     // How many bytes of text wait to be written.
     pub waiting: usize,

@@ -1,5 +1,7 @@
 // The call raw: one frame of the caller's on the chip in its record block, in place; no wait and no poll limit. It has no `requires`: bad input is
 // refused, and a refusal changes nothing.
+#![tactic(auto)]
+
 ghost use Rattle.std.specs.Prelude.{◌≡◌, length};
 ghost use Rattle.state.specs.Answers.{number_of};
 ghost use Rattle.state.specs.Outcomes.{part_in};

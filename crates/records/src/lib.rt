@@ -1,5 +1,7 @@
 // The record in a slot: how a head is read, by its version; and the verdicts: by a slot's first page, and once a page differs.
 // Internal to this repository: a caller here meets each `requires`; no entry point is in this crate.
+#![tactic(auto)]
+
 ghost use Rattle.std.specs.Prelude.{◌≡◌, ℕ, ◌+◌, ◌≤◌, ◌<◌, cond, ◌||◌, List, length, eqb, ltb};
 ghost use Rattle.slots.specs.declared.Verdict.{Verdict};
 ghost use Rattle.slots.specs.Records.{head_size, limit_of, version_of, version_in, length_in, day_in, period_in, is_record, is_within, get_verdict, patch_verdict};

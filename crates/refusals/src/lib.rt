@@ -1,5 +1,7 @@
 // The tests of a call before any frame: 3 to 7 and 14, and raw's 2, in the order of their numbers, 14 behind 5. Done where none is met.
 // Internal to this repository: a caller here meets each `requires`; no entry point is in this crate.
+#![tactic(auto)]
+
 ghost use Rattle.std.specs.Prelude.{◌≡◌, max};
 ghost use Rattle.geometry.specs.Parts.{Sized, part_of};
 ghost use Rattle.slots.specs.Refusals.{flaws_in, bad_script, late_refusal, call_refusal, raw_refusal};

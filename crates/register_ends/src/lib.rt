@@ -1,5 +1,7 @@
 // What a busy end and a cut do to the registers.
 // Internal to this repository: a caller here meets each `requires`; no entry point is in this crate.
+#![tactic(auto)]
+
 ghost use Rattle.std.specs.Prelude.{◌≡◌, ◌+◌, ◌*◌, ◌≤◌, ◌<◌, true, length, take};
 ghost use Rattle.slices.specs.Lists.{over, and_over};
 ghost use Rattle.geometry.specs.Parts.{register_room, Sized};

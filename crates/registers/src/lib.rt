@@ -1,5 +1,7 @@
 // The chip's registers and the operation under way: what they hold, which sectors are protected, what an operation names.
 // Internal to this repository: a caller here meets each `requires`; no entry point is in this crate.
+#![tactic(auto)]
+
 ghost use Rattle.std.specs.Prelude.{◌≡◌, true, false, ◌+◌, ◌*◌, ◌≤◌, ◌<◌, ◌^◌, length, drop};
 ghost use Rattle.geometry.specs.Parts.{register_room, Sized};
 ghost use Rattle.registers.specs.Data.{padded, pack16, pack64, bytes16, bytes64};
@@ -12,14 +14,14 @@ use commands::Buffer;
 use geometry::{Geometry, Part, Run};
 
 // The 16 data bytes of an FC, as words, first byte highest.
-#[derive(Drop)]
+#[derive(Clone, Copy)]
 pub struct Data16 {
     pub a: u64,
     pub b: u64,
 }
 
 // The 64 data bytes of a 9B, as words, first byte highest.
-#[derive(Drop)]
+#[derive(Clone, Copy)]
 pub struct Data64 {
     pub a: u64,
     pub b: u64,
@@ -32,7 +34,7 @@ pub struct Data64 {
 }
 
 // The operation under way, with what it names and its data.
-#[derive(Drop)]
+#[derive(Clone, Copy)]
 pub enum Operation {
     Idle,
     // 83/86, 82/85.
@@ -59,7 +61,7 @@ pub enum Operation {
 }
 
 // What an operation names; in a set bit i is sector i.
-#[derive(Drop)]
+#[derive(Clone, Copy)]
 pub enum Named {
     Nothing,
     Page { page: usize },
@@ -70,7 +72,7 @@ pub enum Named {
 
 // Which frames an operation lets through: every one, where there is none; those that do not concern its buffer; those that concern a buffer,
 // since it uses none; D7 alone.
-#[derive(Drop)]
+#[derive(Clone, Copy)]
 pub enum Usage {
     Free,
     Uses { buffer: Buffer },
@@ -79,7 +81,7 @@ pub enum Usage {
 }
 
 // What an operation does to array, buffers and compare bit at its busy end.
-#[derive(Drop)]
+#[derive(Clone, Copy)]
 pub enum Work {
     Rest,
     Program,
@@ -90,7 +92,7 @@ pub enum Work {
 }
 
 // What an operation does to a register at its busy end.
-#[derive(Drop)]
+#[derive(Clone, Copy)]
 pub enum Update {
     Keep,
     FillProtection,
@@ -100,7 +102,7 @@ pub enum Update {
 }
 
 // What is to be known of an operation, but for its update, which holds its data.
-#[derive(Drop)]
+#[derive(Clone, Copy)]
 pub struct Facts {
     pub names: Named,
     // It erases or programs what it names.
@@ -109,7 +111,7 @@ pub struct Facts {
     pub work: Work,
 }
 
-#[derive(Drop)]
+#[derive(Clone, Copy)]
 pub struct Registers {
     pub protection: [u8; 16],
     pub lockdown: [u8; 16],
@@ -127,7 +129,7 @@ pub struct Registers {
 }
 
 // What of the registers decides which sectors are sealed.
-#[derive(Drop)]
+#[derive(Clone, Copy)]
 pub struct Seals {
     pub protection: [u8; 16],
     pub lockdown: [u8; 16],

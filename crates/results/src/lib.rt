@@ -1,5 +1,7 @@
 // What a driver's state tells, and its end: whether it has ended, the answer, n, and an end from outside.
 // Every function named to others takes any state. A state that no call comes to counts as ended.
+#![tactic(auto)]
+
 ghost use Rattle.std.specs.Prelude.{◌≡◌, ◌≤◌, ◌-◌};
 ghost use Rattle.geometry.specs.declared.Geometry.{Geometry};
 ghost use Rattle.geometry.specs.Parts.{part_of, slot_room};

@@ -1,5 +1,7 @@
 // What each row of the command table does to the registers, and what it asks of the memory.
 // Internal to this repository: a caller here meets each `requires`; no entry point is in this crate.
+#![tactic(auto)]
+
 ghost use Rattle.std.specs.Prelude.{◌≡◌, ◌+◌, ◌*◌, ◌≤◌, ◌<◌, length};
 ghost use Rattle.geometry.specs.Parts.{Sized, address_at, page_at, byte_at};
 ghost use Rattle.registers.specs.Protection.{Roomed};

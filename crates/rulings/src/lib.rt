@@ -1,5 +1,7 @@
 // How a frame is ruled on: its row, whether it is obeyed, and what follows.
 // Internal to this repository: a caller here meets each `requires`; no entry point is in this crate.
+#![tactic(auto)]
+
 ghost use Rattle.std.specs.Prelude.{◌≡◌, ◌*◌, ◌≤◌, true, length};
 ghost use Rattle.commands.specs.Room.{room, takes};
 ghost use Rattle.geometry.specs.Parts.{Sized};

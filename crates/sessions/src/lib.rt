@@ -1,5 +1,7 @@
 // A call's run: one frame after another, until the driver ends or a cut ends it.
 // Internal to this repository: a caller here meets each `requires`; no entry point is in this crate.
+#![tactic(auto)]
+
 ghost use Rattle.std.specs.Prelude.{◌≡◌, cond, not, ◌≤◌, length, take, eqb};
 ghost use Rattle.geometry.specs.Parts.{slot_room};
 ghost use Rattle.slots.specs.Driver.{ended, is_ended, frame_room};

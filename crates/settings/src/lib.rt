@@ -1,4 +1,6 @@
 // The options of a call as they are set one by one: numbers, the script, dates.
+#![tactic(auto)]
+
 ghost use Rattle.std.specs.Prelude.{◌≡◌};
 ghost use Rattle.settings.specs.Settings.{unset_of, is_script, is_day, is_given, room_of, with_number, with_day};
 
@@ -6,21 +8,21 @@ use dates::Date;
 use words::{Key, Span};
 
 // A number that an option gives; 0 where it is not given.
-#[derive(Drop)]
+#[derive(Clone, Copy)]
 pub struct Setting {
     pub given: bool,
     pub value: usize,
 }
 
 // A date that an option gives; zeros where it is not given.
-#[derive(Drop)]
+#[derive(Clone, Copy)]
 pub struct DateSetting {
     pub given: bool,
     pub date: Date,
 }
 
 // first=, last= and today=.
-#[derive(Drop)]
+#[derive(Clone, Copy)]
 pub struct Days {
     pub first: DateSetting,
     pub last: DateSetting,
@@ -28,7 +30,7 @@ pub struct Days {
 }
 
 // What the options read so far say.
-#[derive(Drop)]
+#[derive(Clone, Copy)]
 pub struct Settings {
     pub limit: Setting,
     pub seed: Setting,

@@ -1,5 +1,7 @@
 // Writing into the record block what a frame or a busy end changes of the registers.
 // Internal to this repository: a caller here meets each `requires`; no entry point is in this crate.
+#![tactic(auto)]
+
 ghost use Rattle.std.specs.Prelude.{◌≡◌, length};
 ghost use Rattle.control.specs.Rulings.{changed};
 ghost use Rattle.state.specs.Memory.{with_registers};

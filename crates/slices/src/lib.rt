@@ -1,5 +1,7 @@
 // Leaves over slices of bytes: fill, copy, AND, compare, and reads and writes that wrap. Copies go in runs.
 // Internal to this repository: a caller here meets each `requires`; no entry point is in this crate.
+#![tactic(auto)]
+
 ghost use Rattle.std.specs.Prelude.{◌≡◌, ℕ, ◌+◌, ◌≤◌, ◌<◌, not, length, get_or, replicate};
 ghost use Rattle.slices.specs.Lists.{and_over, same, ring_read, ring_write, splice};
 ghost use Rattle.slices.specs.Words.{word_at, word_bytes};

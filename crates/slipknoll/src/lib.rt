@@ -2,6 +2,8 @@
 // the driver by itself, its state held in a block of 72 bytes.
 // include/slipknoll.h documents it.
 // Each function on a chip returns the answer's number (docs/SPECIFICATION.md, 12); no function has a `requires`.
+#![tactic(auto)]
+
 ghost use Rattle.std.specs.Prelude.{◌≡◌, [], ◌≤◌, ◌-◌, length, take};
 ghost use Rattle.geometry.specs.Parts.{slot_room};
 ghost use Rattle.slices.specs.Lists.{over};

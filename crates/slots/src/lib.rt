@@ -1,9 +1,11 @@
 // The slot driver's types: its state, the steps of a call's plan, the place in it.
+#![tactic(auto)]
+
 use dates::{Date, Term};
 use state::Answer;
 
 // The calls that go by a plan.
-#[derive(Drop)]
+#[derive(Clone, Copy)]
 pub enum Kind {
     Put,
     Patch,
@@ -12,7 +14,7 @@ pub enum Kind {
 }
 
 // The commands that name a page in four bytes: 83, 50, 60.
-#[derive(Drop)]
+#[derive(Clone, Copy)]
 pub enum Command {
     Program,
     Erase,
@@ -21,7 +23,7 @@ pub enum Command {
 
 // A step of a plan: a wait (D7), 32, 35, a page read (D2), a page loaded (84), a command that names a page; or the plan's end. Pages are
 // pages of the part. A wait is checked if it comes after a 60: the compare bit of its last status counts.
-#[derive(Drop)]
+#[derive(Clone, Copy)]
 pub enum Step {
     Wait { checked: bool },
     Protection,
@@ -33,14 +35,14 @@ pub enum Step {
 }
 
 // Still going, or ended with an answer.
-#[derive(Drop)]
+#[derive(Clone, Copy)]
 pub enum Stage {
     Going,
     Ended { answer: Answer },
 }
 
 // What a driver tells of its call: nothing while it is running, then the answer.
-#[derive(Drop)]
+#[derive(Clone, Copy)]
 pub enum Told {
     Running,
     Answered { answer: Answer },
@@ -48,7 +50,7 @@ pub enum Told {
 
 // The driver's control state: the place in the plan, how many polls are left, and what was heard of the sector: whether it is listed, and
 // status bit 1.
-#[derive(Drop)]
+#[derive(Clone, Copy)]
 pub struct Course {
     pub place: usize,
     pub left: usize,
@@ -59,7 +61,7 @@ pub struct Course {
 
 // What a call has found for its answer at the plan's end: nothing against it; 12 (blank), 13 (the patch ends beyond the record) or 15 (the
 // get is outside its term), by the slot's first page; or 16 (a page that differs from what was programmed).
-#[derive(Drop)]
+#[derive(Clone, Copy)]
 pub enum Verdict {
     Good,
     Blank,
@@ -70,7 +72,7 @@ pub enum Verdict {
 
 // What a call is told beside slot, poll limit and bytes: a patch's place, a put's term, a get's date of today. What does not concern
 // the call is not looked at.
-#[derive(Drop)]
+#[derive(Clone, Copy)]
 pub struct Detail {
     pub place: usize,
     pub term: Term,
@@ -78,14 +80,14 @@ pub struct Detail {
 }
 
 // A recipe's term in day numbers: none, or from the first to the last day, both inside.
-#[derive(Drop)]
+#[derive(Clone, Copy)]
 pub enum Period {
     Always,
     Days { first: usize, last: usize },
 }
 
 // The same as the driver goes by it, in day numbers.
-#[derive(Drop)]
+#[derive(Clone, Copy)]
 pub struct Aim {
     pub place: usize,
     pub period: Period,
@@ -93,7 +95,7 @@ pub struct Aim {
 }
 
 // What is met by what a call is given: 5 (size), 14 (dates).
-#[derive(Drop)]
+#[derive(Clone, Copy)]
 pub struct Flaws {
     pub size: bool,
     pub dates: bool,
@@ -101,7 +103,7 @@ pub struct Flaws {
 
 // The slot driver's state: the length of the chip's array, which says the part; the slot and the poll limit; the call, and what it aims at; the
 // verdict so far; and the control state.
-#[derive(Drop)]
+#[derive(Clone, Copy)]
 pub struct Driver {
     pub array: usize,
     pub slot: usize,

@@ -1,5 +1,7 @@
 // How a call starts, apart from any chip: refusals 1, 3, 4, 5 and 14, and the first state.
 // Internal to this repository: a caller here meets each `requires`; no entry point is in this crate.
+#![tactic(auto)]
+
 ghost use Rattle.std.specs.Prelude.{◌≡◌, ◌<◌, cond, ◌||◌, length, eqb};
 ghost use Rattle.geometry.specs.declared.Geometry.{Geometry};
 ghost use Rattle.geometry.specs.Parts.{part_of};

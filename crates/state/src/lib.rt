@@ -1,5 +1,7 @@
 // The chip record, its answers, and the definitions that the entry points' promises cite.
 // Open to others are the types and the entry point `number`; the rest is internal to this repository. The chip's entry points are in crate chip.
+#![tactic(auto)]
+
 ghost use Rattle.std.specs.Prelude.{◌≡◌, [], ◌++◌, ◌≤◌};
 ghost use Rattle.state.specs.Answers.{number_of};
 ghost use Rattle.state.specs.Lent.{buffer_start, memory_in};
@@ -9,7 +11,7 @@ use commands::Buffer;
 use registers::Registers;
 
 // The answers, by the words of their table (docs/SPECIFICATION.md, 12); Done is 0, and Device is the word chip.
-#[derive(Drop)]
+#[derive(Clone, Copy)]
 pub enum Answer {
     Done,
     Part,
@@ -31,7 +33,7 @@ pub enum Answer {
 }
 
 // The chip record: the registers, and of the memory the two buffers and the compare bit.
-#[derive(Drop)]
+#[derive(Clone, Copy)]
 pub struct Chip {
     pub registers: Registers,
     pub buffer1: [u8; 264],
@@ -40,7 +42,7 @@ pub struct Chip {
 }
 
 // An answer, and the chip afterwards.
-#[derive(Drop)]
+#[derive(Clone, Copy)]
 pub struct Outcome {
     pub answer: Answer,
     pub chip: Chip,

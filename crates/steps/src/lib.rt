@@ -1,5 +1,7 @@
 // The code of the driver's control: which step of a call's plan stands at a place, by arithmetic on the place.
 // Internal to this repository: a caller here meets each `requires`; no entry point is in this crate.
+#![tactic(auto)]
+
 ghost use Rattle.std.specs.Prelude.{◌≡◌, Bool, [], ◌∷◌, ℕ, suc, ◌/◌, ◌≤◌, ◌<◌, ◌*◌, length};
 ghost use Rattle.geometry.specs.declared.Geometry.{Geometry};
 ghost use Rattle.slots.specs.declared.Step.TheVariants.{Wait, Send};

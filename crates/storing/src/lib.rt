@@ -1,5 +1,7 @@
 // Writing a chip, or the level of its WP pin, into the record block.
 // Internal to this repository: a caller here meets each `requires`; no entry point is in this crate.
+#![tactic(auto)]
+
 ghost use Rattle.std.specs.Prelude.{◌≡◌, length};
 ghost use Rattle.slices.specs.Lists.{over};
 ghost use Rattle.state.specs.Answers.{number_of};

@@ -1,5 +1,7 @@
 // What a driver tells at its end: the answer, weighed by the verdict, and n.
 // Internal to this repository: a caller here meets each `requires`; no entry point is in this crate.
+#![tactic(auto)]
+
 ghost use Rattle.std.specs.Prelude.{◌≡◌, ◌<◌, length};
 ghost use Rattle.slots.specs.Driver.{verdict_answer, weighed, told_by};
 ghost use Rattle.slots.specs.Calls.{count_of};

@@ -1,4 +1,6 @@
 // Words of a line, their parts at hyphens, decimal numbers, and the worth of hexadecimal digits. Every function named here takes any input.
+#![tactic(auto)]
+
 pub use decimal::number;
 pub use hyphens::{before_hyphen, behind_hyphen};
 pub use nibbles::nibble;

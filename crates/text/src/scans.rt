@@ -8,7 +8,7 @@ use crate::decimal::is_digit;
 use crate::nibbles::is_hex_digit;
 
 // What a byte is tested for.
-#[derive(Drop)]
+#[derive(Clone, Copy)]
 pub enum Class {
     Blank,
     Other,

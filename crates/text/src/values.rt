@@ -1,7 +1,7 @@
 // What a word is read as.
 
 // A decimal number below 2^64, or why the word is none.
-#[derive(Drop)]
+#[derive(Clone, Copy)]
 pub enum Number {
     Value(u64),
     NotNumber,
@@ -9,7 +9,7 @@ pub enum Number {
 }
 
 // How many bytes a word of hexadecimal digits makes, or why it makes none.
-#[derive(Drop)]
+#[derive(Clone, Copy)]
 pub enum Hex {
     Bytes(usize),
     NotHex,

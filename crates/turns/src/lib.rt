@@ -1,5 +1,7 @@
 // One turn of the driver: the frame of a step, and its reply taken in. The step is the one at the state's place in the plan.
 // Internal to this repository: a caller here meets each `requires`; the entry points are in crate driver.
+#![tactic(auto)]
+
 ghost use Rattle.std.specs.Prelude.{◌≡◌, ◌+◌, ◌-◌, ◌*◌, ◌/◌, ◌%◌, ◌≤◌, ◌<◌, cond, ◌&&◌, [], ◌∷◌, length, replicate};
 ghost use Rattle.geometry.specs.Parts.{slot_room};
 ghost use Rattle.slices.specs.Lists.{over};

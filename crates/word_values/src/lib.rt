@@ -1,4 +1,6 @@
 // What a word of a line is as a number, as HEX or as a date, or what is wrong with it. Every function named here takes any input.
+#![tactic(auto)]
+
 ghost use Rattle.std.specs.Prelude.{◌≡◌};
 ghost use Rattle.text.specs.Decimal.{number_of};
 ghost use Rattle.word_values.specs.Days.{date_part, joined, date_of};
@@ -9,7 +11,7 @@ use faults::{Fault, Name};
 use text::{Hex, Number};
 
 // What the number behind a command is.
-#[derive(Drop)]
+#[derive(Clone, Copy)]
 pub enum First {
     Slot,
     Seed,
@@ -19,28 +21,28 @@ pub enum First {
 }
 
 // A number, or what is wrong with its word.
-#[derive(Drop)]
+#[derive(Clone, Copy)]
 pub enum Numbered {
     Value(usize),
     Fault(Fault),
 }
 
 // Whether a word is hexadecimal digits, or what is wrong with it.
-#[derive(Drop)]
+#[derive(Clone, Copy)]
 pub enum Tested {
     Fine,
     Fault(Fault),
 }
 
 // A year, a month or a day, or what is wrong with it.
-#[derive(Drop)]
+#[derive(Clone, Copy)]
 pub enum DatePart {
     Value(u32),
     Fault(Fault),
 }
 
 // A date, or what is wrong with its word.
-#[derive(Drop)]
+#[derive(Clone, Copy)]
 pub enum Dated {
     Value(Date),
     Fault(Fault),

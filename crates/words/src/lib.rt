@@ -1,9 +1,11 @@
 // The words of a line, the commands, and the names of the options.
+#![tactic(auto)]
+
 ghost use Rattle.std.specs.Prelude.{◌≡◌, ◌≤◌, length};
 ghost use Rattle.words.specs.Bounds.{Within};
 ghost use Rattle.words.specs.Words.{word_from, if_named, command_of, if_begun, key_of, is_call};
 
-#[derive(Drop)]
+#[derive(Clone, Copy)]
 pub enum Command {
     Put,
     Patch,
@@ -19,7 +21,7 @@ pub enum Command {
 }
 
 // The options of a call: b, script, junk, junklen, log, buffer, reply, first, last, today.
-#[derive(Drop)]
+#[derive(Clone, Copy)]
 pub enum Key {
     Limit,
     Script,
@@ -34,21 +36,21 @@ pub enum Key {
 }
 
 // A part of the line.
-#[derive(Drop)]
+#[derive(Clone, Copy)]
 pub struct Span {
     pub start: usize,
     pub end: usize,
 }
 
 // The command that a word names.
-#[derive(Drop)]
+#[derive(Clone, Copy)]
 pub enum Chosen {
     Known(Command),
     Unknown,
 }
 
 // The option that a word names, and the index in the word at which its value begins.
-#[derive(Drop)]
+#[derive(Clone, Copy)]
 pub enum Keyed {
     Known(Key, usize),
     Unknown,
