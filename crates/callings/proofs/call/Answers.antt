@@ -1,0 +1,15 @@
+-- `callings::call` meets its contract. Assumes nothing.
+use Rattle.slots.specs.Lists.{asking}
+use Rattle.runs.proofs.Calls.{refused_unknown}
+use Rattle.runs.proofs.Held.{part_held}
+use borrow.Author.Rules.{rules}
+use Rattle.callings.proofs.call.Goals as goal
+
+pub call_in-requires : goal.call_in-requires
+call_in-requires c = part_held c.args.block.now c.args.array.now c.operation-o.ensures.0 c.place-p.ensures c.in-Known.is
+
+pub returns-in-Unknown : goal.returns-in-Unknown
+returns-in-Unknown c =
+    let a = c.args in
+    refused_unknown (asking a.kind a.slot a.limit) a.detail a.payload.now a.buffer.now a.script.now a.junk.now a.log.now a.block.now a.array.now
+    (part_held a.block.now a.array.now c.operation-o.ensures.0 c.place-p.ensures c.in-Unknown.is) _ c.refuse.ensures

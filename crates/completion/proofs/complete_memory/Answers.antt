@@ -1,0 +1,63 @@
+-- `completion::complete_memory` meets its contract: each arm is what the operation's work makes of the memory, on the page and with the buffer of its facts.
+-- Assumes nothing.
+use Prim.Native.Nat.{ℕ, ◌+◌, ◌-◌, ◌<◌}
+use mathlib.Core.List.{List}
+use lib.ListN.{take, drop}
+use Rattle.slices.specs.Lists.{splice}
+use Rattle.geometry.specs.Parts.{page_room}
+use Rattle.registers.specs.Facts.{facts_of}
+use Rattle.registers.specs.declared.Work.{Work}
+use Rattle.registers.specs.declared.Facts.{Facts}
+use mathlib.Core.Path.{◌≡◌, refl, sym, ap, ◌∙◌}
+use native.Mathlib.Omega.{arith}
+use Rattle.completion.proofs.Lent.{erases, works}
+use Rattle.slices.proofs.Laws.{run-part, run_length, kept_spliced}
+use Rattle.state.specs.Completion.{page_in}
+use Rattle.state.specs.Lent.{lent}
+use Rattle.completion.specs.Work.{array_by, buffer_by, bit_by}
+use Rattle.registers.proofs.Operations.{page_within}
+use Rattle.registers.specs.Operations.{page_named, buffer_of, buffer_used, within}
+use borrow.Author.Rules.{rules}
+use Rattle.completion.proofs.complete_memory.Goals.{After-buffer_of-buffer}
+use Rattle.completion.proofs.complete_memory.Goals as goal
+
+-- the buffer and the page are the operation's, and the work is
+used : (p : After-buffer_of-buffer) → p.buffer_of-buffer.result ≡ buffer_used p.args.o
+unfolding buffer_used
+used p = p.buffer_of-buffer.ensures ∙ ap (λ (f : Facts). buffer_of f.usage) p.facts_of-f.ensures
+
+paged : (p : After-buffer_of-buffer) → p.page_named-page.result ≡ page_in p.args.o
+paged p = p.page_named-page.ensures ∙ ap (λ (f : Facts). page_named f.names) p.facts_of-f.ensures
+
+kinds : (p : After-buffer_of-buffer) {w : Work} → p.facts_of-f.result.work ≡ w → (facts_of p.args.o).work ≡ w
+kinds p e = ap (λ (f : Facts). f.work) (sym p.facts_of-f.ensures) ∙ e
+
+-- the page is in the part
+few : (p : After-buffer_of-buffer) → p.page_named-page.result < p.args.g.pages
+unfolding within
+few p =
+    omega (arith, paged p, page_within p.args.g (facts_of p.args.o).names (omega (arith, p.requires.0.blocks)) p.requires.1)
+
+pub returns-in-Erase : goal.returns-in-Erase
+returns-in-Erase c =
+    let a = c.args in
+    erases a.g a.o _ _ (used c.before.before.before.before.before.before) (paged c.before.before.before.before.before.before) a.array.now a.buffers.now a.bit (kinds c.before.before.before.before.before.before c.in-Erase.is) c.erase.ensures
+
+pub work-requires : goal.work-requires
+work-requires c = (c.requires.0, few c.before.before.before.before, run_length c.buffer_start-a.result page_room c.args.buffers.now (omega (arith, c.requires.2)))
+
+pub returns : goal.returns
+returns c =
+    let a = c.args in
+    let page = c.page_named-page.result in
+    let w = c.facts_of-f.result.work in
+    let bs = a.buffers.now in
+    let start = c.buffer_start-a in
+    let done = c.work in
+    let part = run-part start.result page_room bs ∙ ap (λ (n : ℕ). take page_room (drop n bs)) start.ensures.0 in
+    works a.g a.o c.buffer_of-buffer.result page (used c.before.before.before.before.before.before.before.before.before) (paged c.before.before.before.before.before.before.before.before.before) a.array.now bs a.bit c.requires.2 w c.in_default.in_default-own.keys2 (kinds c.before.before.before.before.before.before.before.before.before refl)
+    (done.ensures.0 ∙ ap (λ (l : List ℕ). array_by a.g page l a.array.now w) part)
+    (kept_spliced start.result (start.result + page_room - start.result) bs (omega arith) done.auto.1.1.1.1.1.0 done.ensures.1
+    ∙ ap (λ (l : List ℕ). splice start.result (buffer_by a.g page a.array.now l w) bs) part
+    ∙ ap (λ (n : ℕ). splice n (buffer_by a.g page a.array.now (lent c.buffer_of-buffer.result bs) w) bs) start.ensures.0)
+    (done.ensures.2 ∙ ap (λ (l : List ℕ). bit_by a.g page a.array.now l a.bit w) part)

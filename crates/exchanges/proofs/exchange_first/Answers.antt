@@ -1,0 +1,36 @@
+-- `exchanges::exchange_first` meets its contract: the reply is as long as the frame, so it is the first n bytes of its buffer.
+-- Assumes nothing.
+use mathlib.Core.Bool.{true}
+use mathlib.Core.Path.{◌≡◌, sym, subst⁻¹}
+use Prim.Native.Nat.{ℕ}
+use lib.ListN.{length, take, drop}
+use lib.Seq.{length-take-le}
+use Rattle.state.specs.Outcomes.{framed}
+use Rattle.runs.proofs.Turns.{reply-first}
+use borrow.Author.Rules.{rules}
+use Rattle.exchanges.proofs.exchange_first.Goals as goal
+
+pub slice_bounds-exchange-end : goal.slice_bounds-exchange-end
+slice_bounds-exchange-end c =
+    let s = c.before.before.before.before.before.before.before in
+    sym (length-take-le s.args.n s.args.frame.now s.requires.1)
+
+pub slice_bounds-exchange-end-3 : goal.slice_bounds-exchange-end-3
+slice_bounds-exchange-end-3 c =
+    let s = c.before.before.before.before.before.before.before.before in
+    sym (length-take-le s.args.n s.args.reply.now s.requires.2)
+
+pub exchange-requires : goal.exchange-requires
+exchange-requires c =
+    let s = c.before.before.before.before.before.before.before.before.before in
+    let a = s.args in
+    let f : length (take a.n a.frame.now) ≡ a.n = length-take-le a.n a.frame.now s.requires.1 in
+    let r : length (take a.n a.reply.now) ≡ a.n = length-take-le a.n a.reply.now s.requires.2 in
+    (s.requires.0, subst⁻¹ (λ (k : ℕ). framed k (length (take a.n a.reply.now)) ≡ true) f (subst⁻¹ (λ (k : ℕ). framed a.n k ≡ true) r s.requires.3), s.requires.4)
+
+pub returns : goal.returns
+returns c =
+    let s = c.before.before.before.before.before.before.before.before.before.before.before.before.before.before.before.before in
+    let a = s.args in
+    let exchange = c.exchange.ensures in
+    (reply-first exchange.0 a.n (drop a.n a.reply.now) (sym (length-take-le a.n a.frame.now s.requires.1)), exchange.1)

@@ -1,0 +1,17 @@
+-- `lengths::lending::buffer_for` meets its contract: a known part has its page size, so eight pages less three bytes; an unknown one needs none. Assumes nothing.
+use Rattle.lengths.proofs.Needed.{buffer-small, page_some, buffer_known, buffer_unknown}
+use native.Mathlib.Omega.{arith}
+use borrow.Author.Rules.{rules}
+use Rattle.lengths.proofs.lending.buffer_for.Goals as goal
+
+pub overflow_mul-result : goal.overflow_mul-result
+overflow_mul-result c = omega (arith, buffer-small c.args.size c.part_of-p.ensures c.in-Known.is, page_some c.args.size c.part_of-p.ensures c.in-Known.is)
+
+pub overflow_sub-result : goal.overflow_sub-result
+overflow_sub-result c = omega (arith, buffer-small c.args.size c.part_of-p.ensures c.in-Known.is, page_some c.args.size c.part_of-p.ensures c.in-Known.is)
+
+pub returns-in-Known : goal.returns-in-Known
+returns-in-Known c = buffer_known c.args.size c.part_of-p.ensures c.in-Known.is
+
+pub returns-in-Unknown : goal.returns-in-Unknown
+returns-in-Unknown c = buffer_unknown c.args.size c.part_of-p.ensures c.in-Unknown.is

@@ -1,0 +1,25 @@
+-- `memory::reply_once` meets its contract: over FFh throughout, the part behind the lead comes back as the bytes, as far as there are any and the reply reaches.
+-- Assumes nothing.
+use mathlib.Core.Path.{sym}
+use Prim.Native.Nat.{◌-◌}
+use native.Mathlib.Omega.{arith}
+use lib.ListN.{length, length-take, length-drop}
+use lib.Seq.{length-take-le}
+use borrow.Author.Rules.{rules}
+use Rattle.memory.proofs.Lent.{once}
+use Rattle.memory.proofs.reply_once.Goals as goal
+
+pub slice_bounds-copy-end-2 : goal.slice_bounds-copy-end-2
+slice_bounds-copy-end-2 c = sym (length-take-le c.lesser.result c.args.bytes.now (omega arith))
+
+pub copy-requires : goal.copy-requires
+copy-requires c = simp (length-take, length-drop) (omega arith)
+
+pub returns : goal.returns
+returns c =
+    let s = c.before.before.before.before.before.before.before.before.before.before.before.before in
+    let a = s.args in
+    let f = c.fill in
+    let k = c.lesser in
+    let m = c.copy in
+    once (length a.reply.now) a.lead k.result a.bytes.now f.new.0 m.new.0 s.requires f.ensures k.ensures m.ensures

@@ -1,0 +1,20 @@
+-- `obeying::act_on` meets its contract: the line is read as in the definition. Assumes nothing.
+use mathlib.Core.Path.{sym, subst, ◌∙◌}
+use lib.ListN.{length}
+use Rattle.orders.specs.Bounds.{SoundReading}
+use Rattle.obeying.specs.Desk.{desk_of}
+use Rattle.obeying.proofs.Laws.{order_done, fault_done}
+use borrow.Author.Rules.{rules}
+use Rattle.obeying.proofs.act_on.Goals as goal
+
+pub obey-requires : goal.obey-requires
+obey-requires c = (c.requires, subst (SoundReading (length c.args.line.now)) c.in-Order.is c.read-r.ensures.0)
+
+pub tell-requires : goal.tell-requires
+tell-requires c = c.requires.text
+
+pub returns-in-Order : goal.returns-in-Order
+returns-in-Order c = order_done c.args.line.now (desk_of c.args.s c.args.block.now c.args.array.now c.args.log.now c.args.out.now) c.args.s c.next_line-t.result (sym c.in-Order.is ∙ c.read-r.ensures.1) (c.next_line-t.ensures.0 c.args.block.now c.args.array.now c.args.log.now c.args.out.now) c.next_line-t.ensures.1 c.obey.ensures
+
+pub returns-in-Fault : goal.returns-in-Fault
+returns-in-Fault c = fault_done c.args.line.now (desk_of c.args.s c.args.block.now c.args.array.now c.args.log.now c.args.out.now) c.args.s c.next_line-t.result (sym c.in-Fault.is ∙ c.read-r.ensures.1) (c.next_line-t.ensures.0 c.args.block.now c.args.array.now c.args.log.now c.args.out.now) c.next_line-t.ensures.1 c.tell.ensures.0 c.tell.ensures.1

@@ -1,0 +1,8 @@
+-- `obeying::sum` meets its contract: the parts that the last step lent are summed. Assumes nothing.
+use Rattle.printing.proofs.Laws.{printed_as}
+use Rattle.obeying.proofs.Laws.{sum_parts, output_kept}
+use borrow.Author.Rules.{rules}
+use Rattle.obeying.proofs.sum.Goals as goal
+
+pub returns : goal.returns
+returns c = output_kept c.args.s c.with_output.ensures (printed_as c.print_sum-p.ensures (sum_parts c.args.s c.args.block.now c.args.array.now c.args.log.now c.args.out.now c.count.ensures.1 c.count2.ensures.1 c.count3.ensures.1))

@@ -1,0 +1,15 @@
+-- `openings::start_patch` meets its contract: the first state of a patch that is told what the caller tells.
+-- Assumes nothing.
+use mathlib.Core.Path.{ap, ◌∙◌}
+use lib.ListN.{length}
+use borrow.Author.Rules.{rules}
+use Rattle.slots.specs.declared.Detail.{Detail}
+use Rattle.slots.specs.declared.Kind.TheVariants.{Patch}
+use Rattle.slots.specs.Lists.{asking}
+use Rattle.worlds.specs.Start.{start_driver}
+use Rattle.openings.proofs.start_patch.Goals as goal
+
+pub returns : goal.returns
+returns c =
+    let a = c.args in
+    c.start.ensures ∙ ap (λ (d : Detail). start_driver a.array (asking Patch a.slot a.limit) d (length a.bytes.now) 0) c.changing-detail.ensures

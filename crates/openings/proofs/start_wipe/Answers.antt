@@ -1,0 +1,14 @@
+-- `openings::start_wipe` meets its contract: the first state of a wipe that is told what the caller tells.
+-- Assumes nothing.
+use mathlib.Core.Path.{ap, ◌∙◌}
+use borrow.Author.Rules.{rules}
+use Rattle.slots.specs.declared.Detail.{Detail}
+use Rattle.slots.specs.declared.Kind.TheVariants.{Wipe}
+use Rattle.slots.specs.Lists.{asking}
+use Rattle.worlds.specs.Start.{start_driver}
+use Rattle.openings.proofs.start_wipe.Goals as goal
+
+pub returns : goal.returns
+returns c =
+    let a = c.args in
+    c.start.ensures ∙ ap (λ (d : Detail). start_driver a.array (asking Wipe a.slot a.limit) d 0 0) c.untold-detail.ensures

@@ -1,0 +1,14 @@
+-- `printing::flush` meets its contract: what the writes took is the beginning of what waited. Assumes nothing.
+use native.Mathlib.Omega.{arith}
+use Rattle.printing.proofs.Laws.{flushed_none, flushed_stopped, flushed_taken}
+use borrow.Author.Rules.{rules}
+use Rattle.printing.proofs.flush.Goals as goal
+
+pub returns-then-o : goal.returns-then-o
+returns-then-o c = flushed_none c.if-o.true
+
+pub returns-then-room-n : goal.returns-then-room-n
+returns-then-room-n c = flushed_stopped c.stopped.ensures
+
+pub returns : goal.returns
+returns c = flushed_taken c.if1.false c.count.ensures.1 (omega (arith, c.write_all-k.ensures, c.count.ensures.0.1))

@@ -1,0 +1,15 @@
+-- `results::answer` meets its contract: the stage as it counts on the array's part is told.
+-- Assumes nothing.
+use mathlib.Core.Path.{ap, ◌∙◌}
+use Rattle.slots.specs.Driver.{told_by}
+use Rattle.slots.specs.declared.Stage.{Stage}
+use Rattle.worlds.specs.Step.{told_in}
+use Rattle.results.proofs.Stages.{stage_in_lem}
+use borrow.Author.Rules.{rules}
+use Rattle.results.proofs.answer.Goals as goal
+
+pub returns : goal.returns
+unfolding told_in
+returns c =
+    let d = c.args.d in
+    c.tell.ensures ∙ ap (λ (s : Stage). told_by s d.verdict) (stage_in_lem d c.part_of-p.ensures c.stage-s.ensures)

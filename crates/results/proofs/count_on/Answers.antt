@@ -1,0 +1,35 @@
+-- `results::count_on` meets its contract: bytes that are no record count 0; the length in a record is at most 2,109.
+-- Assumes nothing.
+use native.Mathlib.Omega.{arith}
+use mathlib.Core.Path.{refl, sym, ◌∙◌}
+use borrow.Author.Tests.{not-true, not-false}
+use Rattle.slots.proofs.Driven.{other}
+use Rattle.records.proofs.Parts.{part-pages}
+use Rattle.worlds.specs.Step.{told_in, count_told, count_by}
+use Rattle.results.proofs.Counts.{record_count}
+use borrow.Author.Rules.{rules}
+use Rattle.results.proofs.count_on.Goals as goal
+
+pub is_record-requires : goal.is_record-requires
+is_record-requires c = part-pages _ _ c.requires
+
+pub returns-then-not-is_record : goal.returns-then-not-is_record
+unfolding count_by
+returns-then-not-is_record c =
+    let a = c.args in
+    let r = c.is_record in
+    (sym (other _ (count_told (told_in a.d) a.d.kind a.staged.now) 0 (sym r.ensures ∙ not-true r.result c.if-not-is_record.true-raw)), omega arith)
+
+pub returns-in-Running : goal.returns-in-Running
+unfolding count_told
+returns-in-Running c =
+    let r = c.is_record in
+    record_count c.args.g c.args.d c.args.staged.now c.requires (sym r.ensures ∙ not-false r.result c.if-not-is_record.false-raw)
+    (sym c.in-Running.is ∙ c.answer-t.ensures) refl
+
+pub returns-in-Answered : goal.returns-in-Answered
+unfolding count_told
+returns-in-Answered c =
+    let r = c.is_record in
+    record_count c.args.g c.args.d c.args.staged.now c.requires (sym r.ensures ∙ not-false r.result c.if-not-is_record.false-raw)
+    (sym c.in-Answered.is ∙ c.answer-t.ensures) c.count_of.ensures.0

@@ -1,0 +1,11 @@
+-- `rows::erase_chip` meets its contract: the row has the sectors that are not sealed.
+-- Assumes nothing.
+use borrow.Author.Rules.{rules}
+use Rattle.control.specs.Control.{row_decided}
+use Rattle.control.specs.Rulings.{applied, changed}
+use Rattle.control.proofs.Bearing.{seals_of_lem}
+use Rattle.rows.proofs.erase_chip.Goals as goal
+
+pub returns : goal.returns
+unfolding row_decided applied changed
+returns c = λ r e. rw (c.start.ensures, c.unsealed_set.ensures r (seals_of_lem r c.args.m e))

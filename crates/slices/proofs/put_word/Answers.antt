@@ -1,0 +1,36 @@
+-- `slices::put_word` meets its contract: eight stores, one behind the other, are a part laid over the list. Assumes nothing.
+use native.Mathlib.Omega.{arith}
+use lib.ListN.{length-set}
+use Rattle.slices.specs.Words.{word_bytes}
+use Rattle.slices.proofs.Laws.{splice_cons, splice_nil}
+use native.Mathlib.Nat.{add_assoc}
+use borrow.Author.Rules.{rules}
+use Rattle.slices.proofs.put_word.Goals as goal
+
+pub bounds-bytes-at-2 : goal.bounds-bytes-at-2
+bounds-bytes-at-2 c = simp length-set (omega arith)
+
+pub bounds-bytes-at-3 : goal.bounds-bytes-at-3
+bounds-bytes-at-3 c = simp length-set (omega arith)
+
+pub bounds-bytes-at-4 : goal.bounds-bytes-at-4
+bounds-bytes-at-4 c = simp length-set (omega arith)
+
+pub bounds-bytes-at-5 : goal.bounds-bytes-at-5
+bounds-bytes-at-5 c = simp length-set (omega arith)
+
+pub bounds-bytes-at-6 : goal.bounds-bytes-at-6
+bounds-bytes-at-6 c = simp length-set (omega arith)
+
+pub bounds-bytes-at-7 : goal.bounds-bytes-at-7
+bounds-bytes-at-7 c = simp length-set (omega arith)
+
+pub bounds-bytes-at-8 : goal.bounds-bytes-at-8
+bounds-bytes-at-8 c = simp length-set (omega arith)
+
+pub shape_of-bytes : goal.shape_of-bytes
+shape_of-bytes c = simp length-set
+
+pub returns : goal.returns
+unfolding word_bytes
+returns c = simp (splice_cons, splice_nil, add_assoc)

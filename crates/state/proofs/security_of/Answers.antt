@@ -1,0 +1,23 @@
+-- `state::security_of` meets its contract: user and factory bytes, stored one after the other, are those bytes in a row.
+-- Assumes nothing.
+use mathlib.Core.Path.{◌≡◌, refl, sym, ◌∙◌}
+use lib.ListN.{length}
+use borrow.Author.Rules.{rules}
+use Rattle.state.proofs.Arms.{halves_fit, second_half, halves}
+use Rattle.state.proofs.security_of.Goals as goal
+
+pub copy-requires : goal.copy-requires
+copy-requires c =
+    let u : length c.args.r.user ≡ 64 = search rules in
+    sym u
+
+pub copy-requires-2 : goal.copy-requires-2
+copy-requires-2 c =
+    let u : length c.args.r.user ≡ 64 = search rules in
+    let v : length c.args.r.factory ≡ 64 = search rules in
+    second_half _ _ c.args.r.user 64 c.copy.ensures u refl ∙ sym v
+
+pub returns : goal.returns
+returns c =
+    let u : length c.args.r.user ≡ 64 = search rules in
+    halves _ _ c.args.r.user 64 c.copy.ensures u refl _ c.args.r.factory c.copy-2.ensures

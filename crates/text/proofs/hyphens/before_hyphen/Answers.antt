@@ -1,0 +1,12 @@
+-- `text::hyphens::before_hyphen` meets its contract: the scan ends at the first hyphen (`before`). Assumes nothing.
+use mathlib.Core.Path.{sym}
+use lib.Seq.{length-take-le}
+use Rattle.text.proofs.Halves.{before}
+use borrow.Author.Rules.{rules}
+use Rattle.text.proofs.hyphens.before_hyphen.Goals as goal
+
+pub slice_bounds-result-end : goal.slice_bounds-result-end
+slice_bounds-result-end c = sym (length-take-le _ _ c.scan.ensures.0)
+
+pub returns : goal.returns
+returns c = before c.args.word.now c.scan.result c.scan.ensures.3

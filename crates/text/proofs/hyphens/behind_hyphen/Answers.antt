@@ -1,0 +1,15 @@
+-- `text::hyphens::behind_hyphen` meets its contract: the scan ends at the first hyphen (`behind`), or nothing is left (`none_behind`).
+-- Assumes nothing.
+use Rattle.text.proofs.Halves.{behind, none_behind}
+use borrow.Author.Rules.{rules}
+use Rattle.text.proofs.hyphens.behind_hyphen.Goals as goal
+
+pub returns-then-at-word : goal.returns-then-at-word
+returns-then-at-word c =
+    let s = c.scan-at in
+    behind c.args.word.now s.result s.ensures.3
+
+pub returns : goal.returns
+returns c =
+    let s = c.scan-at in
+    none_behind c.args.word.now s.result s.ensures.3 c.if-at-word.false
