@@ -80,6 +80,7 @@ bit_apart a l =
     go : (d : ℕ) → Bit d → cond (eqb d 0) (bit_xor a (l / 2)) (bit_xor (bit_xor a (l / 2)) polynomial) ≡ bit_xor a (cond (eqb d 0) (l / 2) (bit_xor (l / 2) polynomial))
     go zero off = refl
     go (suc zero) on = xor_assoc a (l / 2) polynomial
+    go (suc (suc _)) x4 = elim x4 [ ]
 
 bits_apart : (n a l : ℕ) → crc_bits n (bit_xor (a * 2 ^ n) l) ≡ bit_xor a (crc_bits n l)
 unfolding crc_bits

@@ -9,10 +9,10 @@ use borrow.Author.Rules.{rules}
 use Rattle.acting.proofs.take_step.Goals as goal
 
 pub act-answer-requires : goal.act-answer-requires
-act-answer-requires c = (spares-ready c.args.o (length c.args.array.now) (length c.args.bytes.now) c.args.log.now c.args.out.now c.requires.0 c.requires.1 c.make-ready.ensures.1 c.make-ready.ensures.2, refl)
+act-answer-requires c = (spares-ready c.args.o (length c.args.array.now) (length c.args.bytes.now) c.args.log.now c.args.out.now c.requires.0 c.requires.1 c.make_ready.ensures.1 c.make_ready.ensures.2, refl)
 
 pub returns : goal.returns
 returns c =
     let a = c.args in
     took_on_lem a.o a.bytes.now a.script.now a.block.now a.array.now (junk_of (seed_of a.o) (length a.junk.now)) (blank (length a.log.now)) (blank (length a.out.now))
-    (c.make-ready.ensures.0 ∙ ap (λ (k : ℕ). junk_of k (length a.junk.now)) c.seed.ensures) c.make-ready.ensures.1 c.make-ready.ensures.2 c.act-answer.ensures
+    (c.make_ready.ensures.0 ∙ ap (λ (k : ℕ). junk_of k (length a.junk.now)) c.seed.ensures) c.make_ready.ensures.1 c.make_ready.ensures.2 c.act-answer.ensures

@@ -19,16 +19,16 @@ pub page_differs-requires : goal.page_differs-requires
 page_differs-requires c = (c.requires.0, c.requires.1, omega (arith, c.requires.0.most, c.requires.2))
 
 pub returns-in-Program : goal.returns-in-Program
-returns-in-Program c = rw c.enum_told.given.1 (c.program.ensures, refl, refl)
+returns-in-Program c = rw c.in-Program.is (c.program.ensures, refl, refl)
 
 pub returns-in-ProgramOver : goal.returns-in-ProgramOver
-returns-in-ProgramOver c = rw c.enum-told2.given.1 (c.program_over.ensures, refl, refl)
+returns-in-ProgramOver c = rw c.in-ProgramOver.is (c.program_over.ensures, refl, refl)
 
 pub returns-in-Transfer : goal.returns-in-Transfer
-returns-in-Transfer c = rw c.enum-told3.given.1 (refl, c.transfer.ensures, refl)
+returns-in-Transfer c = rw c.in-Transfer.is (refl, c.transfer.ensures, refl)
 
 pub returns-in-Compare : goal.returns-in-Compare
-returns-in-Compare c = rw c.enum-told4.given.1 (refl, refl, c.page_differs.ensures)
+returns-in-Compare c = rw c.in-Compare.is (refl, refl, c.page_differs.ensures)
 
 pub returns-in_default : goal.returns-in_default
 returns-in_default c =

@@ -15,7 +15,7 @@ returns-then-frame-lt4 c =
     begins-short a.frame.now a.opening c.if-frame-lt4.true n
 
 pub slice_bounds-differs-end : goal.slice_bounds-differs-end
-slice_bounds-differs-end c = sym (length-take-le 4 c.args.frame.now c.if1.false)
+slice_bounds-differs-end c = sym (length-take-le 4 c.args.frame.now c.if-frame-lt4.false)
 
 pub returns : goal.returns
 returns c =

@@ -11,28 +11,26 @@ use borrow.Author.Rules.{rules}
 use Rattle.exchanges.proofs.exchange.Goals as goal
 
 pub put_outline-requires : goal.put_outline-requires
-put_outline-requires c = let s = c.before.before.before.before.before.before.before.before.before.before.before in (s.requires.2, (framed_in _ _ s.requires.1).1)
+put_outline-requires c = (c.requires.2, (framed_in _ _ c.requires.1).1)
 
 pub settle-requires : goal.settle-requires
 settle-requires c =
-    let s = c.before.before.before.before.before.before.before.before.before.before.before.before.before.before.before.before in
-    let a = s.args in
+    let a = c.args in
     let send = c.send.ensures in
     let t = held_in a.block.now a.array.now in (
-      ap part_in (sent-state a.g t a.frame.now a.reply.now s.requires.0 s.requires.1 send) ∙ sent-placed a.g a.frame.now t s.requires.0,
-      sent_form a.g t a.frame.now a.reply.now s.requires.0 s.requires.1 send,
+      ap part_in (sent-state a.g t a.frame.now a.reply.now c.requires.0 c.requires.1 send) ∙ sent-placed a.g a.frame.now t c.requires.0,
+      sent_form a.g t a.frame.now a.reply.now c.requires.0 c.requires.1 send,
     )
 
 pub returns : goal.returns
 returns c =
-    let s = c.before.before.before.before.before.before.before.before.before.before.before.before.before.before.before.before.before.before.before in
-    let a = s.args in
+    let a = c.args in
     let send = c.send.ensures in
     let settle = c.settle.ensures in
     let t = held_in a.block.now a.array.now in (
       record {
-        state = settle.0 ∙ ap (state_after a.g a.b) (sent-state a.g t a.frame.now a.reply.now s.requires.0 s.requires.1 send);
-        reply = sent-reply a.g t a.frame.now a.reply.now s.requires.0 s.requires.1 send;
+        state = settle.0 ∙ ap (state_after a.g a.b) (sent-state a.g t a.frame.now a.reply.now c.requires.0 c.requires.1 send);
+        reply = sent-reply a.g t a.frame.now a.reply.now c.requires.0 c.requires.1 send;
         log = c.put_outline.ensures;
       },
       settle.1,

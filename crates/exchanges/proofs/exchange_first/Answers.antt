@@ -11,26 +11,20 @@ use borrow.Author.Rules.{rules}
 use Rattle.exchanges.proofs.exchange_first.Goals as goal
 
 pub slice_bounds-exchange-end : goal.slice_bounds-exchange-end
-slice_bounds-exchange-end c =
-    let s = c.before.before.before.before.before.before.before in
-    sym (length-take-le s.args.n s.args.frame.now s.requires.1)
+slice_bounds-exchange-end c = sym (length-take-le c.args.n c.args.frame.now c.requires.1)
 
 pub slice_bounds-exchange-end-3 : goal.slice_bounds-exchange-end-3
-slice_bounds-exchange-end-3 c =
-    let s = c.before.before.before.before.before.before.before.before in
-    sym (length-take-le s.args.n s.args.reply.now s.requires.2)
+slice_bounds-exchange-end-3 c = sym (length-take-le c.args.n c.args.reply.now c.requires.2)
 
 pub exchange-requires : goal.exchange-requires
 exchange-requires c =
-    let s = c.before.before.before.before.before.before.before.before.before in
-    let a = s.args in
-    let f : length (take a.n a.frame.now) ≡ a.n = length-take-le a.n a.frame.now s.requires.1 in
-    let r : length (take a.n a.reply.now) ≡ a.n = length-take-le a.n a.reply.now s.requires.2 in
-    (s.requires.0, subst⁻¹ (λ (k : ℕ). framed k (length (take a.n a.reply.now)) ≡ true) f (subst⁻¹ (λ (k : ℕ). framed a.n k ≡ true) r s.requires.3), s.requires.4)
+    let a = c.args in
+    let f : length (take a.n a.frame.now) ≡ a.n = length-take-le a.n a.frame.now c.requires.1 in
+    let r : length (take a.n a.reply.now) ≡ a.n = length-take-le a.n a.reply.now c.requires.2 in
+    (c.requires.0, subst⁻¹ (λ (k : ℕ). framed k (length (take a.n a.reply.now)) ≡ true) f (subst⁻¹ (λ (k : ℕ). framed a.n k ≡ true) r c.requires.3), c.requires.4)
 
 pub returns : goal.returns
 returns c =
-    let s = c.before.before.before.before.before.before.before.before.before.before.before.before.before.before.before.before in
-    let a = s.args in
+    let a = c.args in
     let exchange = c.exchange.ensures in
-    (reply-first exchange.0 a.n (drop a.n a.reply.now) (sym (length-take-le a.n a.frame.now s.requires.1)), exchange.1)
+    (reply-first exchange.0 a.n (drop a.n a.reply.now) (sym (length-take-le a.n a.frame.now c.requires.1)), exchange.1)

@@ -52,6 +52,12 @@ slice_bounds-act-count c =
     let r = a.c.registers in
     decided-lead a.g r a.frame.now _ (c.control_frame-d.ensures r (sym c.marks_of-m.ensures)) _ refl
 
+pub slice_bounds-act-start : goal.slice_bounds-act-start
+slice_bounds-act-start c =
+    let a = c.args in
+    let r = a.c.registers in
+    decided-lead a.g r a.frame.now _ (c.control_frame-d.ensures r (sym c.marks_of-m.ensures)) _ refl
+
 pub act-requires : goal.act-requires
 act-requires c =
     let a = c.args in

@@ -23,6 +23,9 @@ use Rattle.blocks.specs.Block.{decode_registers, decode_chip, encode_chip}
 use Rattle.inplace.proofs.Held.{plain_keeps, back_length, lent_both, back_bit}
 use Rattle.inplace.proofs.end_in.Goals as goal
 
+pub slice_bounds-complete_memory-end : goal.slice_bounds-complete_memory-end
+slice_bounds-complete_memory-end c = omega (arith, c.rest.auto.0, c.requires.1)
+
 pub complete_memory-bit-requires : goal.complete_memory-bit-requires
 complete_memory-bit-requires c = (c.requires.0, c.requires.3, run_length 236 (2 * page_room) c.rest.new.0 (omega (arith, c.rest.auto.0, c.requires.1)))
 

@@ -21,56 +21,63 @@ use Rattle.inplace.proofs.send_in.Goals as goal
 
 pub respond-requires : goal.respond-requires
 respond-requires c =
-    let s = c.before.before.before.before.before.before.before.before.before.before.before.before.before in
-    let a = s.args in
+    let a = c.args in
     let b = a.block.now in
     let r = decode_registers b in
-    let e = c.control-frame.ensures r (sym c.marks-at.ensures) in (
-      s.requires.0,
-      decided_names a.g r a.frame.now _ e _ s.requires.0,
-      decided-lead a.g r a.frame.now _ e _ s.requires.3,
+    let e = c.control_frame-d.ensures r (sym c.marks_at-m.ensures) in (
+      c.requires.0,
+      decided_names a.g r a.frame.now _ e _ c.requires.0,
+      decided-lead a.g r a.frame.now _ e _ c.requires.3,
       run_length 236 (2 * page_room) b (omega arith),
     )
 
 pub settle-requires : goal.settle-requires
 settle-requires c = (c.requires.1, c.requires.2)
 
+pub slice_bounds-act-end : goal.slice_bounds-act-end
+slice_bounds-act-end c = omega (arith, c.settle.auto.0, c.requires.1)
+
 pub slice_bounds-act-count-2 : goal.slice_bounds-act-count-2
 slice_bounds-act-count-2 c =
     let a = c.args in
     let b = a.block.now in
     let r = decode_registers b in
-    decided-lead a.g r a.frame.now _ (c.control-frame.ensures r (sym c.marks-at.ensures)) _ refl
+    decided-lead a.g r a.frame.now _ (c.control_frame-d.ensures r (sym c.marks_at-m.ensures)) _ refl
+
+pub slice_bounds-act-start-2 : goal.slice_bounds-act-start-2
+slice_bounds-act-start-2 c =
+    let a = c.args in
+    let b = a.block.now in
+    let r = decode_registers b in
+    decided-lead a.g r a.frame.now _ (c.control_frame-d.ensures r (sym c.marks_at-m.ensures)) _ refl
 
 pub act-requires : goal.act-requires
 act-requires c =
-    let s = c.before.before.before.before.before.before.before.before.before.before.before.before.before.before.before.before.before.before.before.before.before.before in
-    let a = s.args in
+    let a = c.args in
     let b = a.block.now in
     let r = decode_registers b in
-    let e = c.control-frame.ensures r (sym c.marks-at.ensures) in
-    (s.requires.0.most, decided_names a.g r a.frame.now _ e _ s.requires.0, run_length 236 (2 * page_room) c.settle.new.0 (omega (arith, c.settle.auto.0, s.requires.1)))
+    let e = c.control_frame-d.ensures r (sym c.marks_at-m.ensures) in
+    (c.requires.0.most, decided_names a.g r a.frame.now _ e _ c.requires.0, run_length 236 (2 * page_room) c.settle.new.0 (omega (arith, c.settle.auto.0, c.requires.1)))
 
 pub returns : goal.returns
 unfolding sent_state decode_chip
 returns c =
-    let s = c.before.before.before.before.before.before.before.before.before.before.before.before.before.before.before.before.before.before.before.before.before.before.before.before.before in
-    let a = s.args in
+    let a = c.args in
     let b = a.block.now in
     let r = decode_registers b in
     let f = a.frame.now in
     let xs = a.array.now in
-    let l = s.requires.1 in
-    let d = c.control-frame.result in
-    let m = sym c.marks-at.ensures in
-    let e = c.control-frame.ensures r m in
+    let l = c.requires.1 in
+    let d = c.control_frame-d.result in
+    let m = sym c.marks_at-m.ensures in
+    let e = c.control_frame-d.ensures r m in
     let k = d.change in
     let y = c.settle.new.0 in
     let h = c.settle.ensures in
     let n = run_length 236 (2 * page_room) y (omega (arith, c.settle.auto.0, l)) in
-    let j = ap (λ (bit : Bool). memory_in xs (take (2 * page_room) (drop 236 b)) bit) c.is_set.ensures ∙ buffers_lent b xs l in (
+    let j = ap (λ (bit : Bool). memory_in xs (take (2 * page_room) (drop 236 b)) bit) c.is_set-compare.ensures ∙ buffers_lent b xs l in (
       back b k l y h c.act.new.1.0 (c.act.auto.1.0 ∙ n)
           ∙ (λ i. encode_chip (chip_of (decided-registers a.g r f d e i) (decided-memory a.g r f d e (memory_of (decode_chip b) xs) xs (take (2 * page_room) (drop 236 y)) _ (decode_chip b).compare n (lent_both b k l y h xs) c.act.ensures i))),
-      decided-reply a.g r f d e (memory_of (decode_chip b) xs) _ _ s.requires.3
+      decided-reply a.g r f d e (memory_of (decode_chip b) xs) _ _ c.requires.3
           (c.respond.ensures r m (security_lent b l) ∙ ap (λ (x : Memory). replied (length a.reply.now) d.lead (data_of a.g r x d.action)) j),
     )

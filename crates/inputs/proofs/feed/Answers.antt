@@ -9,7 +9,7 @@ pub end_line-requires : goal.end_line-requires
 end_line-requires c = c.requires
 
 pub returns-then-byte-eq10 : goal.returns-then-byte-eq10
-returns-then-byte-eq10 c = fed-end c.args.byte (eq-eqb c.args.byte 10 c.if1.true) c.end_line.ensures
+returns-then-byte-eq10 c = fed-end c.args.byte (eq-eqb c.args.byte 10 c.if-byte-eq10.true) c.end_line.ensures
 
 pub keep-n-requires : goal.keep-n-requires
 keep-n-requires c = c.requires.1

@@ -11,6 +11,9 @@ use Rattle.memory.proofs.erase.Goals as goal
 pub slice_bounds-fill-count : goal.slice_bounds-fill-count
 slice_bounds-fill-count c = omega (arith, run_end c.args.g c.args.r c.page_start-a.ensures.0 c.page_start-e.ensures.0)
 
+pub slice_bounds-fill-start : goal.slice_bounds-fill-start
+slice_bounds-fill-start c = omega (arith, run_end c.args.g c.args.r c.page_start-a.ensures.0 c.page_start-e.ensures.0)
+
 pub returns : goal.returns
 unfolding erased
 returns c =

@@ -3,6 +3,9 @@ use borrow.Author.Rules.{rules}
 use Rattle.memory.proofs.Lent.{page_end, page_part}
 use Rattle.memory.proofs.reply_page.Goals as goal
 
+pub slice_bounds-reply_ring-end : goal.slice_bounds-reply_ring-end
+slice_bounds-reply_ring-end c = page_end c.args.array.now c.requires.0 c.requires.1 c.page_start-a.ensures.0
+
 pub returns : goal.returns
 returns c =
     let a = c.args in

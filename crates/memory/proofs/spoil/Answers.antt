@@ -12,8 +12,14 @@ use Rattle.memory.proofs.spoil.Goals as goal
 pub slice_bounds-copy-count : goal.slice_bounds-copy-count
 slice_bounds-copy-count c = omega (arith, run_end c.args.g c.args.r c.page_start-a.ensures.0 c.page_start-e.ensures.0)
 
+pub slice_bounds-copy-start : goal.slice_bounds-copy-start
+slice_bounds-copy-start c = omega (arith, run_end c.args.g c.args.r c.page_start-a.ensures.0 c.page_start-e.ensures.0)
+
 pub slice_bounds-copy-count-2 : goal.slice_bounds-copy-count-2
 slice_bounds-copy-count-2 c = omega (arith, run_end c.args.g c.args.r c.page_start-a.ensures.0 c.page_start-e.ensures.0)
+
+pub slice_bounds-copy-start-2 : goal.slice_bounds-copy-start-2
+slice_bounds-copy-start-2 c = omega (arith, run_end c.args.g c.args.r c.page_start-a.ensures.0 c.page_start-e.ensures.0)
 
 pub returns : goal.returns
 unfolding junked

@@ -10,6 +10,9 @@ use Rattle.memory.proofs.transfer.Goals as goal
 pub slice_bounds-copy-end-2 : goal.slice_bounds-copy-end-2
 slice_bounds-copy-end-2 c = sym (length-take-le c.args.g.size c.args.buffer.now c.requires.2)
 
+pub slice_bounds-copy-end-3 : goal.slice_bounds-copy-end-3
+slice_bounds-copy-end-3 c = page_end c.args.array.now c.requires.0 c.requires.1 c.page_start-a.ensures.0
+
 pub copy-requires : goal.copy-requires
 copy-requires c = sym (page_long c.args.array.now c.args.buffer.now c.requires.0 c.requires.1 c.requires.2 c.page_start-a.ensures.0)
 

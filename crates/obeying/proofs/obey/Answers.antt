@@ -18,7 +18,7 @@ pub sum-requires : goal.sum-requires
 sum-requires c = c.requires.0.text
 
 pub returns-then-is_sum : goal.returns-then-is_sum
-returns-then-is_sum c = sum_done c.args.o c.args.line.now c.args.s (sym c.is-step.ensures ∙ c.if1.false) (sym c.is_sum.ensures ∙ c.if2.true) c.sum.ensures.0 c.sum.ensures.1
+returns-then-is_sum c = sum_done c.args.o c.args.line.now c.args.s (sym c.is_step.ensures ∙ c.if-is_step.false) (sym c.is_sum.ensures ∙ c.if-is_sum.true) c.sum.ensures.0 c.sum.ensures.1
 
 pub part-requires : goal.part-requires
 part-requires c = (c.requires.0.array, part-whole c.args.o.command c.args.o.number (sym c.is_step.ensures ∙ c.if-is_step.false) (sym c.is_sum.ensures ∙ c.if-is_sum.false) c.requires.1.number)

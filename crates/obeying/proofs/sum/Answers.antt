@@ -5,4 +5,4 @@ use borrow.Author.Rules.{rules}
 use Rattle.obeying.proofs.sum.Goals as goal
 
 pub returns : goal.returns
-returns c = output_kept c.args.s c.with_output.ensures (printed_as c.print_sum-p.ensures (sum_parts c.args.s c.args.block.now c.args.array.now c.args.log.now c.args.out.now c.count.ensures.1 c.count2.ensures.1 c.count3.ensures.1))
+returns c = output_kept c.args.s c.with_output.ensures (printed_as c.print_sum-p.ensures (sum_parts c.args.s c.args.block.now c.args.array.now c.args.log.now c.args.out.now c.count-n.ensures.1 c.count-l.ensures.1 c.count-o.ensures.1))

@@ -12,25 +12,25 @@ pub read_all-i-requires : goal.read_all-i-requires
 read_all-i-requires c = (roomy_kept c.requires.0 c.start-s.auto.1.0 refl refl refl refl, c.requires.1)
 
 pub end_input-t-requires : goal.end_input-t-requires
-end_input-t-requires c = (roomy_kept c.requires.0 (c.read_all.auto.1.1.0 ∙ c.start.auto.1.0) c.read_all.auto.1.1.1.0 c.read_all.auto.1.1.1.1.0 c.read_all.auto.1.1.1.1.1.0 c.read_all.auto.1.1.1.1.1.1.0, c.read_all.auto.1.1.1.1.1.1.1.0 ∙ c.requires.1)
+end_input-t-requires c = (roomy_kept c.requires.0 (c.read_all-i.auto.1.1.0 ∙ c.start-s.auto.1.0) c.read_all-i.auto.1.1.1.0 c.read_all-i.auto.1.1.1.1.0 c.read_all-i.auto.1.1.1.1.1.0 c.read_all-i.auto.1.1.1.1.1.1.0, c.read_all-i.auto.1.1.1.1.1.1.1.0 ∙ c.requires.1)
 
 pub shape_of-array : goal.shape_of-array
-shape_of-array c = c.end-input.auto.1.1.0 ∙ c.read_all.auto.1.1.0 ∙ c.start.auto.1.0
+shape_of-array c = c.end_input-t.auto.1.1.0 ∙ c.read_all-i.auto.1.1.0 ∙ c.start-s.auto.1.0
 
 pub shape_of-junk : goal.shape_of-junk
-shape_of-junk c = c.end-input.auto.1.1.1.0 ∙ c.read_all.auto.1.1.1.0
+shape_of-junk c = c.end_input-t.auto.1.1.1.0 ∙ c.read_all-i.auto.1.1.1.0
 
 pub shape_of-log : goal.shape_of-log
-shape_of-log c = c.end-input.auto.1.1.1.1.0 ∙ c.read_all.auto.1.1.1.1.0
+shape_of-log c = c.end_input-t.auto.1.1.1.1.0 ∙ c.read_all-i.auto.1.1.1.1.0
 
 pub shape_of-out : goal.shape_of-out
-shape_of-out c = c.end-input.auto.1.1.1.1.1.0 ∙ c.read_all.auto.1.1.1.1.1.0
+shape_of-out c = c.end_input-t.auto.1.1.1.1.1.0 ∙ c.read_all-i.auto.1.1.1.1.1.0
 
 pub shape_of-text : goal.shape_of-text
-shape_of-text c = c.end-input.auto.1.1.1.1.1.1.0 ∙ c.read_all.auto.1.1.1.1.1.1.0
+shape_of-text c = c.end_input-t.auto.1.1.1.1.1.1.0 ∙ c.read_all-i.auto.1.1.1.1.1.1.0
 
 pub shape_of-line : goal.shape_of-line
-shape_of-line c = c.read_all.auto.1.1.1.1.1.1.1.0
+shape_of-line c = c.read_all-i.auto.1.1.1.1.1.1.1.0
 
 pub returns : goal.returns
-returns c = said (starts c.args.text.now c.args.line.now (c.start.ensures.0 c.args.log.now c.args.out.now) c.start.ensures.1 refl) c.read_all.ensures c.end-input.ensures c.write_out-w.ensures.0 refl
+returns c = said (starts c.args.text.now c.args.line.now (c.start-s.ensures.0 c.args.log.now c.args.out.now) c.start-s.ensures.1 refl) c.read_all-i.ensures c.end_input-t.ensures c.write_out-w.ensures.0 refl

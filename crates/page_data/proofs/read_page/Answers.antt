@@ -8,19 +8,17 @@ use Rattle.page_data.proofs.read_page.Goals as goal
 
 pub slice_bounds-judge-end-then-start-eq0 : goal.slice_bounds-judge-end-then-start-eq0
 slice_bounds-judge-end-then-start-eq0 c =
-    let s = c.before.before.before.before.before.before.before.before.before.before in
-    let a = s.args in
-    let p = c.page-start in
-    let r = c.copy-from in
-    sym (length-take-le a.g.size _ (read_room s.requires.0 a.kind a.verdict a.aim a.page a.payload.now a.staged.now p.result p.ensures.0 s.requires.1 a.reply.now r.new.0 r.ensures))
+    let a = c.args in
+    let p = c.page_start-start in
+    let r = c.copy_from in
+    sym (length-take-le a.g.size _ (read_room c.requires.0 a.kind a.verdict a.aim a.page a.payload.now a.staged.now p.result p.ensures.0 c.requires.1 a.reply.now r.new.0 r.ensures))
 
 pub returns-then-start-eq0 : goal.returns-then-start-eq0
 returns-then-start-eq0 c =
-    let s = c.before.before.before.before.before.before.before.before.before.before.before in
-    let a = s.args in
-    let p = c.page-start in
-    let r = c.copy-from in
-    read_first s.requires.0 a.kind a.verdict a.aim a.page a.payload.now a.staged.now p.result p.ensures.0 s.requires.1 a.reply.now r.new.0 r.ensures c.judge.result c.if1.true (c.judge.ensures a.verdict a.staged.now)
+    let a = c.args in
+    let p = c.page_start-start in
+    let r = c.copy_from in
+    read_first c.requires.0 a.kind a.verdict a.aim a.page a.payload.now a.staged.now p.result p.ensures.0 c.requires.1 a.reply.now r.new.0 r.ensures c.judge.result c.if-start-eq0.true (c.judge.ensures a.verdict a.staged.now)
 
 pub returns : goal.returns
 returns c =

@@ -11,4 +11,4 @@ pub returns-then-room-n : goal.returns-then-room-n
 returns-then-room-n c = flushed_stopped c.stopped.ensures
 
 pub returns : goal.returns
-returns c = flushed_taken c.if1.false c.count.ensures.1 (omega (arith, c.write_all-k.ensures, c.count.ensures.0.1))
+returns c = flushed_taken c.if-o.false c.count-n.ensures.1 (omega (arith, c.write_all-k.ensures, c.count-n.ensures.0.1))

@@ -12,6 +12,11 @@ copy-requires c =
     let u : length c.args.c.buffer1 ≡ buffer_size = search rules in
     sym u
 
+pub slice_bounds-bytes-end-2 : goal.slice_bounds-bytes-end-2
+slice_bounds-bytes-end-2 c =
+    let u : length c.args.c.buffer1 ≡ buffer_size = search rules in
+    halves_fit _ _ c.args.c.buffer1 buffer_size c.copy.ensures u refl
+
 pub copy-requires-2 : goal.copy-requires-2
 copy-requires-2 c =
     let u : length c.args.c.buffer1 ≡ buffer_size = search rules in

@@ -11,6 +11,11 @@ copy-requires c =
     let u : length c.args.r.user ≡ 64 = search rules in
     sym u
 
+pub slice_bounds-bytes-end-2 : goal.slice_bounds-bytes-end-2
+slice_bounds-bytes-end-2 c =
+    let u : length c.args.r.user ≡ 64 = search rules in
+    halves_fit _ _ c.args.r.user 64 c.copy.ensures u refl
+
 pub copy-requires-2 : goal.copy-requires-2
 copy-requires-2 c =
     let u : length c.args.r.user ≡ 64 = search rules in

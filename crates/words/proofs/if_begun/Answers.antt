@@ -12,12 +12,12 @@ unfolding begins_with
 returns-then-word-n c = simp (lt-leb _ _ c.if-word-n.true)
 
 pub slice_bounds-is_same-end : goal.slice_bounds-is_same-end
-slice_bounds-is_same-end c = sym (length-take-le _ _ c.if1.false)
+slice_bounds-is_same-end c = sym (length-take-le _ _ c.if-word-n.false)
 
 pub returns-then-is_same : goal.returns-then-is_same
 unfolding begins_with
-returns-then-is_same c = simp (le-leb _ _ c.if1.false, sym c.is_same.ensures ∙ c.if-is_same.true)
+returns-then-is_same c = simp (le-leb _ _ c.if-word-n.false, sym c.is_same.ensures ∙ c.if-is_same.true)
 
 pub returns : goal.returns
 unfolding begins_with
-returns c = simp (le-leb _ _ c.if1.false, sym c.is_same.ensures ∙ c.if-is_same.false)
+returns c = simp (le-leb _ _ c.if-word-n.false, sym c.is_same.ensures ∙ c.if-is_same.false)

@@ -35,7 +35,7 @@ returns-in-Raw c =
 pub returns-in-Send : goal.returns-in-Send
 returns-in-Send c =
     let a = c.args in
-    by_command a.o a.bytes.now a.script.now a.junk.now a.log.now a.out.now a.block.now a.array.now Send c.enum-told6.given.1 c.requires.0 (λ s. send_took a.block.now a.array.now c.requires.1 s a.bytes.now a.out.now c.slipknoll_send.ensures)
+    by_command a.o a.bytes.now a.script.now a.junk.now a.log.now a.out.now a.block.now a.array.now Send c.in-Send.is c.requires.0 (λ s. send_took a.block.now a.array.now c.requires.1 s a.bytes.now a.out.now c.slipknoll_send.ensures)
 
 pub returns-in-End : goal.returns-in-End
 returns-in-End c =

@@ -6,7 +6,7 @@ use borrow.Author.Rules.{rules}
 use Rattle.text.proofs.hyphens.before_hyphen.Goals as goal
 
 pub slice_bounds-result-end : goal.slice_bounds-result-end
-slice_bounds-result-end c = sym (length-take-le _ _ c.scan.ensures.0)
+slice_bounds-result-end c = sym (length-take-le _ _ c.scan-end.ensures.0)
 
 pub returns : goal.returns
-returns c = before c.args.word.now c.scan.result c.scan.ensures.3
+returns c = before c.args.word.now c.scan-end.result c.scan-end.ensures.3
