@@ -22,7 +22,7 @@ pub returns : goal.returns
 returns c =
     let a = c.args in
     let p = c.renew in
-    let l = p.auto.1.1.0 ∙ length-take-le a.n a.array.now (omega (arith, whole_room a.n c.requires.1, c.requires.0)) in (
+    let l = p.auto.array ∙ length-take-le a.n a.array.now (omega (arith, whole_room a.n c.requires.1, c.requires.0)) in (
       (λ log out. part-renewed a.s a.n (desk_of a.s a.block.now a.array.now log out) _ log out l refl p.ensures.0 p.ensures.1 c.after_step.ensures),
       ap (λ (z : Session). z.output) {y = after_step a.s a.n 0 0 0 a.s.output} c.after_step.ensures,
     )

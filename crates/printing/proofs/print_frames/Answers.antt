@@ -14,7 +14,7 @@ unfolding frames_text
 loop-i-init c = (zero-le, refl, printed_none c.args.start c.args.text.now)
 
 pub loop-i-preserved : goal.loop-i-preserved
-loop-i-preserved c = (search rules, c.print_frame-o.auto.1.0 ∙ c.loop-i.invariant.1, printed_as (printed_more c.loop-i.invariant.2 c.print_frame-o.ensures) (frames_more c.loop-i.i c.args.log.now))
+loop-i-preserved c = (search rules, c.print_frame-o.auto.text ∙ c.loop-i.invariant.1, printed_as (printed_more c.loop-i.invariant.2 c.print_frame-o.ensures) (frames_more c.loop-i.i c.args.log.now))
 
 pub returns : goal.returns
 returns c =
