@@ -2,7 +2,6 @@
 use mathlib.Core.Path.{refl}
 use Rattle.contents.proofs.Bytes.{read_whole}
 use native.Mathlib.Omega.{arith}
-use borrow.Author.Rules.{rules}
 use Rattle.contents.proofs.bytes_of.Goals as goal
 
 pub returns-then-start-end : goal.returns-then-start-end

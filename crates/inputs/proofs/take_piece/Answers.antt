@@ -1,12 +1,10 @@
 -- `inputs::take_piece` meets its contract: after i turns the first i bytes are read; what is lent keeps its length. Assumes nothing.
-use Prim.Native.Nat.{ℕ, ◌-◌, ◌≤◌, zero-le}
+use Prim.Native.Nat.{ℕ, ◌-◌, zero-le}
 use native.Mathlib.Omega.{arith}
-use lib.ListN.{length, take}
+use lib.ListN.{take}
 use lib.Seq.{take_all}
-use mathlib.Core.Path.{◌≡◌, refl, sym, ap, ◌∙◌}
-use Rattle.inputs.specs.Places.{Reads, place}
+use mathlib.Core.Path.{refl, sym, ap, ◌∙◌}
 use Rattle.inputs.proofs.Laws.{roomy_kept, reads_none, reads_more, reads_as, byte_more}
-use borrow.Author.Rules.{rules}
 use Rattle.inputs.proofs.take_piece.Goals as goal
 
 pub loop-i-init : goal.loop-i-init

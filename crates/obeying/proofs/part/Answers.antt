@@ -6,7 +6,6 @@ use Rattle.obeying.specs.declared.Session.{Session}
 use Rattle.obeying.specs.Desk.{desk_of}
 use Rattle.obeying.specs.Promises.{after_step}
 use Rattle.obeying.proofs.Laws.{whole_room, part-renewed}
-use borrow.Author.Rules.{rules}
 use Rattle.obeying.proofs.part.Goals as goal
 
 pub slice_bounds-renew-end : goal.slice_bounds-renew-end

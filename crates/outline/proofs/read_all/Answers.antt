@@ -1,12 +1,7 @@
 -- `outline::read_all` meets its contract: each piece is read behind those before it; what is lent keeps its length. Assumes nothing.
-use Prim.Native.Nat.{◌≤◌}
-use lib.ListN.{length}
-use mathlib.Core.Path.{◌≡◌, refl, ◌∙◌}
-use Rattle.inputs.specs.Places.{place}
+use mathlib.Core.Path.{refl, ◌∙◌}
 use Rattle.inputs.proofs.Laws.{roomy_kept}
-use Rattle.outline.specs.Run.{Went}
 use Rattle.outline.proofs.Laws.{went_none, went_more}
-use borrow.Author.Rules.{rules}
 use Rattle.outline.proofs.read_all.Goals as goal
 
 pub loop-turns-init : goal.loop-turns-init

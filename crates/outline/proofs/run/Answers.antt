@@ -2,7 +2,6 @@
 use mathlib.Core.Path.{refl, ◌∙◌}
 use Rattle.inputs.proofs.Laws.{roomy_kept}
 use Rattle.outline.proofs.Laws.{starts, said}
-use borrow.Author.Rules.{rules}
 use Rattle.outline.proofs.run.Goals as goal
 
 pub start-s-requires : goal.start-s-requires

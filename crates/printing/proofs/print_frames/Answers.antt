@@ -1,10 +1,8 @@
 -- `printing::print_frames` meets its contract: after i turns the lines of the first i frames are printed. Assumes nothing.
 use native.Mathlib.Omega.{arith}
 use borrow.Author.Rules.{rules}
-use lib.ListN.{length}
 use mathlib.Core.Path.{◌≡◌, refl, ap, ◌∙◌}
-use Prim.Native.Nat.{ℕ, ◌-◌, ◌≤◌, zero-le}
-use Rattle.printing.specs.Held.{Printed}
+use Prim.Native.Nat.{ℕ, ◌-◌, zero-le}
 use Rattle.printing.specs.Texts.{frames_text}
 use Rattle.printing.proofs.Laws.{printed_none, printed_more, printed_as, frames_more}
 use Rattle.printing.proofs.print_frames.Goals as goal
