@@ -6,16 +6,16 @@ use Rattle.records.proofs.judge.Goals as goal
 
 pub returns-in-Put : goal.returns-in-Put
 unfolding judged
-returns-in-Put c = λ v staged. rw c.in-Put.is
+returns-in-Put c = rw c.in-Put.is
 
 pub returns-in-Patch : goal.returns-in-Patch
 unfolding judged
-returns-in-Patch c = λ v staged. rw c.in-Patch.is (search rules)
+returns-in-Patch c = rw c.in-Patch.is (search rules)
 
 pub returns-in-Get : goal.returns-in-Get
 unfolding judged
-returns-in-Get c = λ v staged. rw c.in-Get.is (search rules)
+returns-in-Get c = rw c.in-Get.is (search rules)
 
 pub returns-in-Wipe : goal.returns-in-Wipe
 unfolding judged
-returns-in-Wipe c = λ v staged. rw c.in-Wipe.is
+returns-in-Wipe c = rw c.in-Wipe.is
