@@ -10,12 +10,7 @@ use lib.ListN.{length}
 use mathlib.Core.Path.{◌≡◌, ap, ◌∙◌}
 use native.Mathlib.Omega.{arith}
 use borrow.Author.Rules.{rules}
-use Rattle.sessions.proofs.turn.Goals.{After-struct_known-1}
 use Rattle.sessions.proofs.turn.Goals as goal
-
--- the frame's buffer, as long as it was lent
-long : (e : After-struct_known-1) → length e.args.frame.now ≡ frame_room
-long e = search rules
 
 pub step_at-x-requires : goal.step_at-x-requires
 step_at-x-requires c = sound-slot c.requires.sound
@@ -26,15 +21,19 @@ write_step-n-requires c = (sound-pages c.requires.sound, c.step_at-x.ensures.1, 
 pub exchange_first-requires : goal.exchange_first-requires
 exchange_first-requires c =
     let a = c.args in
+    -- the frame's buffer is as long as it was lent
+    let long : length a.frame.now ≡ frame_room = search rules in
     let room : length a.reply.now ≡ frame_room = search rules in
-    let k = written_taken a.g (held_in a.block.now a.array.now) a.s a.log.now c.requires a.payload.now a.staged.now a.frame.now (long c)
+    let k = written_taken a.g (held_in a.block.now a.array.now) a.s a.log.now c.requires a.payload.now a.staged.now a.frame.now long
     (c.step_at-x.ensures.0 a.g) c.write_step-n.ensures in
     (c.requires.part, k.0, omega (arith, k.1, room), k.2, c.requires.room)
 
 pub take_first-e-requires : goal.take_first-e-requires
 take_first-e-requires c =
     let a = c.args in
-    let k = written_taken a.g (held_in a.block.now a.array.now) a.s a.log.now c.requires a.payload.now a.staged.now a.frame.now (long c.before.before.before.before.before.before.before.before)
+    -- the frame's buffer is as long as it was lent
+    let long : length a.frame.now ≡ frame_room = search rules in
+    let k = written_taken a.g (held_in a.block.now a.array.now) a.s a.log.now c.requires a.payload.now a.staged.now a.frame.now long
     (c.step_at-x.ensures.0 a.g) c.write_step-n.ensures in
     (c.requires.sound, c.step_at-x.ensures.0 a.g, search rules, reply_reaches c.write_step-n.result c.write_step-n.new.frame c.exchange_first.new.reply c.exchange_first.ensures.0 k.0)
 
@@ -50,8 +49,10 @@ shape_of-array c = array_long c.exchange_first.ensures.0
 pub returns : goal.returns
 returns c =
     let a = c.args in
+    -- the frame's buffer is as long as it was lent
+    let long : length a.frame.now ≡ frame_room = search rules in
     let e = c.step_at-x.ensures.0 a.g in
-    let f = written-frame a.g (held_in a.block.now a.array.now) a.s a.log.now c.requires a.payload.now a.staged.now a.frame.now (long c.before.before.before.before.before.before.before.before.before.before.before.before.before) e
+    let f = written-frame a.g (held_in a.block.now a.array.now) a.s a.log.now c.requires a.payload.now a.staged.now a.frame.now long e
     c.write_step-n.ensures in (
       turned a.g (held_in a.block.now a.array.now) a.s a.payload.now a.staged.now a.script.now a.log.now c.requires c.byte_or-b.result _ _ _ _ _ _ _ _
           c.byte_or-b.ensures f c.exchange_first.ensures.0 c.take_first-e.ensures.0 c.take_first-e.ensures.1 c.heed.ensures
