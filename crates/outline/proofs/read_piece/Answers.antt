@@ -14,4 +14,4 @@ pub take_piece-t-requires : goal.take_piece-t-requires
 take_piece-t-requires c = c.requires
 
 pub returns : goal.returns
-returns c = went_by _ (sym (c.read_Some.ensures.1)) (c.take_piece-t.ensures) (written_out _ _ _ _ _ (c.write_out-w.ensures.0) (c.write_out-w.ensures.1))
+returns c = went_by _ (sym (c.read_some-got.ensures.1)) (c.take_piece-t.ensures) (written_out _ _ _ _ _ (c.write_out-w.ensures.0) (c.write_out-w.ensures.1))
