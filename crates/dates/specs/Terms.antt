@@ -1,7 +1,6 @@
 -- Terms, as a caller gives them.
 -- Assumes nothing.
 use Rattle.std.specs.Prelude.{Bool, true, ◌&&◌, leb}
-use Rattle.dates.specs.declared.Date.{Date}
 use Rattle.dates.specs.declared.Term.{Term}
 use Rattle.dates.specs.declared.Term.TheVariants.{Unlimited, Between}
 use Rattle.dates.specs.Calendar.{is_date, day_number}

@@ -13,7 +13,7 @@ use mathlib.Core.Path.{◌≡◌, refl, subst, subst⁻¹}
 use borrow.Author.Tests.{eqb-true}
 use Rattle.geometry.specs.declared.Geometry.{Geometry}
 use Rattle.geometry.specs.declared.Part.{Part}
-use Rattle.geometry.specs.declared.Part.TheVariants.{Known, Unknown}
+use Rattle.geometry.specs.declared.Part.TheVariants.{Known}
 use Rattle.geometry.specs.Parts.{row, parts, part_among, part_of, page_room, Sized, page_start, page_of}
 
 -- what holds of each of a list of parts

@@ -1,5 +1,4 @@
 -- `acting::make_ready` meets its contract: each buffer is filled, one after another. Assumes nothing.
-use borrow.Author.Rules.{rules}
 use Rattle.acting.proofs.make_ready.Goals as goal
 
 pub returns : goal.returns

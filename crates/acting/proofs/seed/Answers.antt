@@ -2,7 +2,6 @@
 use mathlib.Core.Path.{sym, ap}
 use Rattle.words.specs.declared.Command.{Command}
 use Rattle.acting.specs.Steps.{seed_by}
-use borrow.Author.Rules.{rules}
 use Rattle.acting.proofs.seed.Goals as goal
 
 pub returns-in-Put : goal.returns-in-Put

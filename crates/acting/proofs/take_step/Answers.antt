@@ -5,7 +5,6 @@ use Rattle.contents.specs.Junk.{junk_of}
 use lib.ListN.{length}
 use Prim.Native.Nat.{ℕ}
 use mathlib.Core.Path.{refl, ap, ◌∙◌}
-use borrow.Author.Rules.{rules}
 use Rattle.acting.proofs.take_step.Goals as goal
 
 pub act-answer-requires : goal.act-answer-requires

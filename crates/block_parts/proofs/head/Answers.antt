@@ -2,7 +2,6 @@
 use Rattle.blocks.specs.Block.{head, head_of}
 use Prim.Native.Nat.{ℕ}
 use mathlib.Core.Path.{ap, ◌∙◌}
-use borrow.Author.Rules.{rules}
 use Rattle.block_parts.proofs.head.Goals as goal
 
 pub returns-in-Idle : goal.returns-in-Idle

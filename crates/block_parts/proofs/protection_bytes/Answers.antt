@@ -3,7 +3,6 @@ use lib.ListN.{replicate}
 use Prim.Native.Nat.{ℕ}
 use mathlib.Core.List.{List, ◌++◌}
 use mathlib.Core.Path.{ap, ◌∙◌}
-use borrow.Author.Rules.{rules}
 use Rattle.block_parts.proofs.protection_bytes.Goals as goal
 
 pub returns : goal.returns

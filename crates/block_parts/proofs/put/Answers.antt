@@ -3,8 +3,7 @@ use lib.ListN.{length}
 use Prim.Native.Nat.{◌-◌, ◌+◌}
 use Rattle.slices.proofs.Laws.{kept_spliced}
 use native.Mathlib.Omega.{arith}
-use borrow.Author.Rules.{rules}
 use Rattle.block_parts.proofs.put.Goals as goal
 
 pub returns : goal.returns
-returns c = kept_spliced c.args.at (c.args.at + length c.args.part.now - c.args.at) c.args.block.now (omega arith) c.copy.auto.0 c.copy.ensures
+returns c = kept_spliced c.args.at (c.args.at + length c.args.part.now - c.args.at) c.args.block.now (omega arith) c.copy.auto.part c.copy.ensures

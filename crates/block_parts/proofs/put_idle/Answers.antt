@@ -1,6 +1,5 @@
 -- `block_parts::put_idle` meets its contract: no data are stored right behind the head of no operation.
 -- Assumes nothing.
-use borrow.Author.Rules.{rules}
 use mathlib.Core.List.{List}
 use mathlib.Core.Path.{sym, ap, ◌∙◌}
 use Prim.Native.Nat.{ℕ}

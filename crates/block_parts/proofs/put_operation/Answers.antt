@@ -1,6 +1,5 @@
 -- `block_parts::put_operation` meets its contract: no operation is `put_idle`'s, and the data of any other are stored right behind its head.
 -- Assumes nothing.
-use borrow.Author.Rules.{rules}
 use mathlib.Core.List.{List, ◌++◌}
 use mathlib.Core.Path.{sym, ap, ◌∙◌}
 use Prim.Native.Nat.{ℕ}

@@ -1,7 +1,6 @@
 -- `blocks::buffered` meets its contract: each arm is the case of its tag, and the last that of none of them. Assumes nothing.
 use Rattle.blocks.specs.Block.{buffered_of}
 use borrow.Author.Tests.{ne_eqb}
-use borrow.Author.Rules.{rules}
 use Rattle.blocks.proofs.buffered.Goals as goal
 
 pub returns-in-131 : goal.returns-in-131

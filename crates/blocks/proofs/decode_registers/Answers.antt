@@ -1,6 +1,5 @@
 -- `blocks::decode_registers` meets its contract: each field is what its reader ensures. Assumes nothing.
 use Rattle.blocks.specs.Block.{decode_registers}
-use borrow.Author.Rules.{rules}
 use Rattle.blocks.proofs.decode_registers.Goals as goal
 
 pub returns : goal.returns

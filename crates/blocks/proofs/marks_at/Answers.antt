@@ -1,6 +1,5 @@
 -- `blocks::marks_at` meets its contract: field for field the definition's.
 -- Assumes nothing.
-use borrow.Author.Rules.{rules}
 use mathlib.Core.Path.{ap, ◌∙◌}
 use Rattle.control.specs.Obeyed.{usage_of}
 use Rattle.blocks.specs.Block.{decode_registers}

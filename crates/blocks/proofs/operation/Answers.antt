@@ -2,7 +2,6 @@
 -- Assumes nothing.
 use mathlib.Core.Path.{refl}
 use native.Mathlib.Omega.{arith}
-use borrow.Author.Rules.{rules}
 use Rattle.blocks.specs.Block.{plain_of, operation_of, decode_operation, decode_chip}
 use Rattle.blocks.specs.Holds.{Holds}
 use Rattle.blocks.proofs.Decoded.{holds_decode}

@@ -5,7 +5,6 @@ use borrow.Author.Tests.{ne_eqb}
 use lib.ListN.{get_or}
 use Prim.Native.Nat.{ℕ}
 use mathlib.Core.Path.{ap, ◌∙◌}
-use borrow.Author.Rules.{rules}
 use Rattle.blocks.proofs.operation_in.Goals as goal
 
 pub returns-in-0 : goal.returns-in-0

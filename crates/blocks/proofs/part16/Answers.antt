@@ -1,7 +1,6 @@
 -- `blocks::part16` meets its contract: the part of the block that is copied is 16 bytes long from `at` on. Assumes nothing.
 use Rattle.slices.proofs.Laws.{run-part}
 use mathlib.Core.Path.{◌∙◌}
-use borrow.Author.Rules.{rules}
 use Rattle.blocks.proofs.part16.Goals as goal
 
 pub returns : goal.returns

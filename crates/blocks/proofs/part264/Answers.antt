@@ -2,7 +2,6 @@
 use Rattle.slices.proofs.Laws.{run-part}
 use Rattle.geometry.specs.Parts.{page_room}
 use mathlib.Core.Path.{◌∙◌}
-use borrow.Author.Rules.{rules}
 use Rattle.blocks.proofs.part264.Goals as goal
 
 pub returns : goal.returns

@@ -3,7 +3,6 @@ use Rattle.blocks.specs.Block.{plain_of}
 use Rattle.registers.specs.declared.Operation.TheVariants.{EraseChip}
 use borrow.Author.Tests.{ne_eqb}
 use mathlib.Core.Path.{ap}
-use borrow.Author.Rules.{rules}
 use Rattle.blocks.proofs.plain.Goals as goal
 
 pub returns-in-0 : goal.returns-in-0

@@ -5,7 +5,6 @@ use lib.Dec.{lit≤}
 use lib.Seq.{take-take}
 use lib.ListN.{drop}
 use mathlib.Core.Path.{sym, ap, ◌∙◌}
-use borrow.Author.Rules.{rules}
 use Rattle.blocks.proofs.protection_operation.Goals as goal
 
 pub returns : goal.returns

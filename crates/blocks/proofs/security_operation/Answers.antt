@@ -2,7 +2,6 @@
 use Rattle.registers.specs.Data.{pack64}
 use Rattle.registers.specs.declared.Operation.TheVariants.{ProgramSecurity}
 use mathlib.Core.Path.{ap, ◌∙◌}
-use borrow.Author.Rules.{rules}
 use Rattle.blocks.proofs.security_operation.Goals as goal
 
 pub returns : goal.returns

@@ -2,7 +2,6 @@
 use Rattle.slots.specs.Lists.{asking}
 use Rattle.runs.proofs.Calls.{refused_unknown}
 use Rattle.runs.proofs.Held.{part_held}
-use borrow.Author.Rules.{rules}
 use Rattle.callings.proofs.call.Goals as goal
 
 pub call_in-requires : goal.call_in-requires

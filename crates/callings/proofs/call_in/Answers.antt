@@ -2,7 +2,6 @@
 use Rattle.runs.proofs.Calls.{sized_known, refused_known, started, as_asked}
 use Rattle.slots.specs.Lists.{asking}
 use mathlib.Core.Path.{sym, ◌∙◌}
-use borrow.Author.Rules.{rules}
 use Rattle.callings.proofs.call_in.Goals as goal
 
 pub call_refusal-a-requires : goal.call_refusal-a-requires

@@ -1,6 +1,5 @@
 -- `callings::run` meets its contract. Assumes nothing.
 use Rattle.runs.proofs.Calls.{starts, cut_fits_lem, finished}
-use borrow.Author.Rules.{rules}
 use Rattle.callings.proofs.run.Goals as goal
 
 pub drive-e-requires : goal.drive-e-requires

@@ -1,6 +1,5 @@
 -- `calls::get` meets its contract: it is the call of its kind, with the buffer lent on. Assumes nothing.
 use mathlib.Core.List.{[]}
-use borrow.Author.Rules.{rules}
 use Rattle.slots.specs.declared.Kind.TheVariants.{Get}
 use Rattle.slots.specs.Lists.{asking}
 use Rattle.calls.proofs.Told.{told}

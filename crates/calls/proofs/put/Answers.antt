@@ -12,6 +12,6 @@ use Rattle.calls.proofs.put.Goals as goal
 pub returns : goal.returns
 returns c =
     let a = c.args in
-    let b = c.call.new.1.1.1.1.1.1.1.0 in
+    let b = c.call.new.buffer in
     let e : length b ≡ 0 = search rules in
     leaves_none b e (told (asking Put a.slot a.limit) a.script.now a.recipe.now a.junk.now a.log.now [] a.block.now a.array.now c.storing.ensures c.call.ensures)

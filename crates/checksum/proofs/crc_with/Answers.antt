@@ -1,8 +1,8 @@
 -- `checksum::crc_with` meets its contract: the state so far, taken on over the bytes behind i, is the state of the whole. Assumes nothing.
-use mathlib.Core.Path.{◌≡◌, refl, sym, ap, ◌∙◌}
-use Prim.Native.Nat.{ℕ, ◌+◌, ◌-◌, ◌≤◌, zero-le}
+use mathlib.Core.Path.{refl, sym, ap, ◌∙◌}
+use Prim.Native.Nat.{ℕ, ◌+◌, zero-le}
 use borrow.Author.Rules.{rules}
-use lib.ListN.{length, drop}
+use lib.ListN.{drop}
 use Rattle.checksum.specs.Checksum.{crc_of}
 use Rattle.checksum.proofs.Table.{crc_step, crc_end}
 use Rattle.checksum.proofs.crc_with.Goals as goal

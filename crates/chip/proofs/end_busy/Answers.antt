@@ -2,7 +2,6 @@
 -- Assumes nothing.
 use mathlib.Core.Path.{sym, ◌∙◌}
 use mathlib.Core.List.{[]}
-use borrow.Author.Rules.{rules}
 use Rattle.registers.proofs.Places.{placed_known, placed_sized}
 use Rattle.state.specs.declared.Answer.TheVariants as Answers
 use Rattle.state.specs.Memory.{state_of}

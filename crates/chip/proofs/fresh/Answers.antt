@@ -1,7 +1,6 @@
 -- `chip::fresh` meets its contract: the array is filled where its length is a part's, and left as it is where not.
 -- Assumes nothing.
 use mathlib.Core.Path.{refl, sym, ◌∙◌}
-use borrow.Author.Rules.{rules}
 use Rattle.state.specs.Outcomes.{fresh_state, fresh_registers}
 use Rattle.state.proofs.Accepted.{leaves_as, fresh_done, fresh_part_lem}
 use Rattle.chip.proofs.fresh.Goals as goal

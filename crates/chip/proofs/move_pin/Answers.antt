@@ -1,7 +1,6 @@
 -- `chip::move_pin` meets its contract: one register changes.
 -- Assumes nothing.
 use mathlib.Core.Path.{refl, ap, ◌∙◌}
-use borrow.Author.Rules.{rules}
 use Rattle.state.specs.Outcomes.{pinned_state, pin_outcome}
 use Rattle.state.specs.Memory.{with_registers}
 use Rattle.chip.proofs.move_pin.Goals as goal

@@ -1,7 +1,6 @@
 -- `chip::send` meets its contract: the part is looked up, and a known one's chip does the rest.
 -- Assumes nothing.
 use mathlib.Core.Path.{sym, ◌∙◌}
-use borrow.Author.Rules.{rules}
 use Rattle.registers.proofs.Places.{placed_sized}
 use Rattle.state.specs.declared.Answer.TheVariants as Answers
 use Rattle.state.specs.Memory.{state_of}

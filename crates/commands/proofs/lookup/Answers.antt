@@ -1,6 +1,5 @@
 -- `commands::lookup` meets its contract: each arm is a row of the table; an opcode that is none of them has no row (`passed`).
 -- Assumes nothing.
-use borrow.Author.Rules.{rules}
 use mathlib.Core.Path.{◌≡◌, refl, sym, ap, ◌∙◌}
 use mathlib.Core.Bool.{Bool, cond}
 use Prim.Native.Nat.{ℕ}

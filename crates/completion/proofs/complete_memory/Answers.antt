@@ -17,7 +17,6 @@ use Rattle.state.specs.Lent.{lent}
 use Rattle.completion.specs.Work.{array_by, buffer_by, bit_by}
 use Rattle.registers.proofs.Operations.{page_within}
 use Rattle.registers.specs.Operations.{page_named, buffer_of, buffer_used, within}
-use borrow.Author.Rules.{rules}
 use Rattle.completion.proofs.complete_memory.Goals.{After-buffer_of-buffer}
 use Rattle.completion.proofs.complete_memory.Goals as goal
 
@@ -57,7 +56,7 @@ returns c =
     let part = run-part start.result page_room bs ∙ ap (λ (n : ℕ). take page_room (drop n bs)) start.ensures.0 in
     works a.g a.o c.buffer_of-buffer.result page (used c.before.before.before.before.before.before.before.before.before) (paged c.before.before.before.before.before.before.before.before.before) a.array.now bs a.bit c.requires.2 w c.in_default.in_default-own.keys2 (kinds c.before.before.before.before.before.before.before.before.before refl)
     (done.ensures.0 ∙ ap (λ (l : List ℕ). array_by a.g page l a.array.now w) part)
-    (kept_spliced start.result (start.result + page_room - start.result) bs (omega arith) done.auto.1.1.1.1.1.0 done.ensures.1
+    (kept_spliced start.result (start.result + page_room - start.result) bs (omega arith) done.auto.buffer done.ensures.1
     ∙ ap (λ (l : List ℕ). splice start.result (buffer_by a.g page a.array.now l w) bs) part
     ∙ ap (λ (n : ℕ). splice n (buffer_by a.g page a.array.now (lent c.buffer_of-buffer.result bs) w) bs) start.ensures.0)
     (done.ensures.2 ∙ ap (λ (l : List ℕ). bit_by a.g page a.array.now l a.bit w) part)

@@ -1,6 +1,5 @@
 -- `completion::erase` meets its contract: what is erased is the operation's run, and the sectors of its set where there are any.
 -- Assumes nothing.
-use borrow.Author.Rules.{rules}
 use Rattle.geometry.proofs.Pages.{sized_own}
 use Rattle.memory.specs.Pages.{erased}
 use Rattle.state.proofs.Arms.{target_has, target_run, target_sectors}

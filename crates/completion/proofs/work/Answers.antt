@@ -1,6 +1,5 @@
 -- `completion::work` meets its contract: arm for arm what the work makes of array, buffer and compare bit.
 -- Assumes nothing.
-use borrow.Author.Rules.{rules}
 use mathlib.Core.Path.{refl}
 use native.Mathlib.Omega.{arith}
 use Rattle.completion.proofs.Lent.{idle}

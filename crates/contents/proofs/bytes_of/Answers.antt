@@ -2,13 +2,12 @@
 use mathlib.Core.Path.{refl}
 use Rattle.contents.proofs.Bytes.{read_whole}
 use native.Mathlib.Omega.{arith}
-use borrow.Author.Rules.{rules}
 use Rattle.contents.proofs.bytes_of.Goals as goal
 
 pub returns-then-start-end : goal.returns-then-start-end
 returns-then-start-end c =
     let a = c.args in
-    ((c.unhex.ensures.0, c.unhex.ensures.3), read_whole a.line.now a.out.now c.unhex.new.1.0 a.word c.lesser-start.result c.lesser-end.result c.unhex.result c.lesser-start.ensures c.lesser-end.ensures c.unhex.ensures.1 c.unhex.ensures.2)
+    ((c.unhex.ensures.0, c.unhex.ensures.3), read_whole a.line.now a.out.now c.unhex.new.out a.word c.lesser-start.result c.lesser-end.result c.unhex.result c.lesser-start.ensures c.lesser-end.ensures c.unhex.ensures.1 c.unhex.ensures.2)
 
 pub returns : goal.returns
 returns c = ((omega arith, refl), λ w h. absurd (omega (arith, w.0, w.1, c.lesser-start.ensures, c.lesser-end.ensures, c.if-start-end.false)))

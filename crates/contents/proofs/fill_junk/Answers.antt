@@ -1,8 +1,6 @@
 -- `contents::fill_junk` meets its contract: after i turns the first i bytes are the junk of the seed. Assumes nothing.
 use Rattle.contents.specs.Junk.{junk_byte}
-use Rattle.slices.proofs.Loops.{Stored, stored-none, stored_more, stored-all}
-use borrow.Author.Rules.{rules}
-use lib.ListN.{length}
+use Rattle.slices.proofs.Loops.{stored-none, stored_more, stored-all}
 use Prim.Native.Nat.{◌-◌}
 use Rattle.contents.proofs.fill_junk.Goals as goal
 

@@ -1,6 +1,5 @@
 -- `contents::junk_byte` meets its contract: what each remainder leaves out is a multiple of 256. Assumes nothing.
 use Rattle.contents.proofs.Remainders.{junk-low}
-use borrow.Author.Rules.{rules}
 use Rattle.contents.proofs.junk_byte.Goals as goal
 
 pub returns : goal.returns

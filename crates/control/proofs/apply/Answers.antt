@@ -1,6 +1,5 @@
 -- `control::apply` meets its contract: each arm is a clause of `changed`.
 -- Assumes nothing.
-use borrow.Author.Rules.{rules}
 use Rattle.control.specs.Rulings.{changed}
 use Rattle.control.proofs.apply.Goals as goal
 

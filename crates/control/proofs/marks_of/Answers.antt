@@ -1,6 +1,5 @@
 -- `control::marks_of` meets its contract: field for field the definition's.
 -- Assumes nothing.
-use borrow.Author.Rules.{rules}
 use Rattle.control.proofs.marks_of.Goals as goal
 
 pub returns : goal.returns

@@ -4,7 +4,6 @@ use mathlib.Core.Bool.{Bool, cond, ◌&&◌, ◌||◌}
 use mathlib.Core.Path.{◌≡◌, sym, ap, ◌∙◌}
 use Rattle.state.specs.declared.Answer.TheVariants.{Sealed}
 use Rattle.slots.specs.Driver.{ended, moved, course_by}
-use borrow.Author.Rules.{rules}
 use Rattle.courses.proofs.check.Goals as goal
 
 pub returns-then-is_sealed : goal.returns-then-is_sealed

@@ -4,7 +4,6 @@ use Prim.Native.Nat.{◌/◌, ◌%◌}
 use native.Mathlib.Omega.{arith}
 use borrow.Author.Tests.{eq-eqb, ne_eqb}
 use Rattle.courses.proofs.Control.{compare_by}
-use borrow.Author.Rules.{rules}
 use Rattle.courses.proofs.compare_bit.Goals as goal
 
 pub returns-then-status-ne1 : goal.returns-then-status-ne1

@@ -1,7 +1,6 @@
 -- `courses::go_on` meets its contract: the place is one further, and `last` says that the next step is the end.
 -- Assumes nothing.
 use Rattle.courses.proofs.Control.{goes_on}
-use borrow.Author.Rules.{rules}
 use Rattle.courses.proofs.go_on.Goals as goal
 
 pub returns : goal.returns

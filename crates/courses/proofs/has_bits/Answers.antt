@@ -7,7 +7,6 @@ use native.Mathlib.Omega.{arith}
 use lib.Dec.{eqb}
 use Rattle.registers.specs.Protection.{has_bits, bits_of}
 use Rattle.courses.proofs.Control.{set-high, first_byte}
-use borrow.Author.Rules.{rules}
 use Rattle.courses.proofs.has_bits.Goals as goal
 
 pub returns-in-0 : goal.returns-in-0

@@ -1,6 +1,5 @@
 -- `courses::next_stage` meets its contract: both sides of the test.
 -- Assumes nothing.
-use borrow.Author.Rules.{rules}
 use Rattle.courses.proofs.next_stage.Goals as goal
 
 pub returns-then-last : goal.returns-then-last

@@ -4,7 +4,6 @@ use Prim.Native.Nat.{◌/◌, ◌%◌}
 use native.Mathlib.Omega.{arith}
 use borrow.Author.Tests.{le-leb, lt-leb, eq-eqb, ne_eqb}
 use Rattle.slots.specs.Driver.{course_by}
-use borrow.Author.Rules.{rules}
 use Rattle.courses.proofs.poll.Goals as goal
 
 pub returns-then-status-ne9 : goal.returns-then-status-ne9

@@ -6,7 +6,6 @@ use mathlib.Core.Path.{refl, ap, ◌∙◌}
 use Rattle.slots.specs.declared.Step.TheVariants.{Wait, Protection, Lockdown}
 use Rattle.slots.specs.Driver.{heard, status_heard, register_heard, course_by}
 use Rattle.courses.proofs.Control.{by_step}
-use borrow.Author.Rules.{rules}
 use Rattle.courses.proofs.take_course.Goals as goal
 
 pub returns-in-Wait : goal.returns-in-Wait

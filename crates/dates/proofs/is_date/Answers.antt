@@ -4,7 +4,6 @@ use native.Mathlib.Omega.{arith}
 use borrow.Author.Tests.{le-leb}
 use Rattle.dates.specs.Calendar.{is_date}
 use Rattle.dates.proofs.Laws.{exists, refused}
-use borrow.Author.Rules.{rules}
 use Rattle.dates.proofs.is_date.Goals as goal
 
 pub returns-then-d-lt2000 : goal.returns-then-d-lt2000

@@ -4,7 +4,6 @@ use mathlib.Core.Path.{sym, ◌∙◌}
 use borrow.Author.Tests.{not-true, not-false}
 use Rattle.dates.specs.Calendar.{day_of}
 use Rattle.dates.specs.Terms.{is_term}
-use borrow.Author.Rules.{rules}
 use Rattle.dates.proofs.is_span.Goals as goal
 
 pub returns-then-not-is_date : goal.returns-then-not-is_date

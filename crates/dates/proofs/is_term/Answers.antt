@@ -1,7 +1,6 @@
 -- `dates::is_term` meets its contract: the definition's cases.
 -- Assumes nothing.
 use Rattle.dates.specs.Terms.{is_term}
-use borrow.Author.Rules.{rules}
 use Rattle.dates.proofs.is_term.Goals as goal
 
 pub returns-in-Unlimited : goal.returns-in-Unlimited

@@ -3,7 +3,6 @@
 use Prim.Native.Nat.{◌-◌}
 use native.Mathlib.Omega.{arith}
 use Rattle.dates.proofs.Laws.{leap_ahead, leap_even}
-use borrow.Author.Rules.{rules}
 use Rattle.dates.proofs.months_days.Goals as goal
 
 pub returns-then-month-gt2 : goal.returns-then-month-gt2

@@ -3,7 +3,6 @@
 use native.Mathlib.Omega.{arith}
 use mathlib.Core.Path.{sym}
 use Rattle.dates.proofs.Laws.{days_of_years_lem}
-use borrow.Author.Rules.{rules}
 use Rattle.dates.proofs.years_days.Goals as goal
 
 pub returns : goal.returns

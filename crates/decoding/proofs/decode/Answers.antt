@@ -2,7 +2,6 @@
 -- row by its four bytes.
 -- Assumes nothing.
 use mathlib.Core.Path.{sym, ap, ◌∙◌}
-use borrow.Author.Rules.{rules}
 use Rattle.commands.specs.declared.Found.TheVariants.{Row, Missing}
 use Rattle.commands.specs.Decode.{complete, opened}
 use Rattle.commands.proofs.Steps.{decode_empty, decode_opened}

@@ -3,7 +3,6 @@
 use mathlib.Core.Path.{sym, ap, ◌∙◌}
 use Rattle.geometry.specs.declared.Part.{Part}
 use Rattle.worlds.specs.Step.{poll_by, poll_in}
-use borrow.Author.Rules.{rules}
 use Rattle.driver.proofs.is_poll.Goals as goal
 
 pub poll_on-requires : goal.poll_on-requires

@@ -1,7 +1,6 @@
 -- `driver::next_frame` meets its contract: the frame written is that of the state taken in.
 -- Assumes nothing.
 use Rattle.driver.proofs.Frames.{next-framed}
-use borrow.Author.Rules.{rules}
 use Rattle.driver.proofs.next_frame.Goals as goal
 
 pub returns : goal.returns

@@ -9,7 +9,6 @@ use Rattle.turns.proofs.Turns.{sound-slot}
 use Rattle.worlds.specs.Step.{poll_by}
 use Rattle.worlds.specs.Turns.{step_in}
 use Rattle.worlds.proofs.Going.{going-sound}
-use borrow.Author.Rules.{rules}
 use Rattle.driver.proofs.poll_on.Goals as goal
 
 by_count : (b : Bool) → eqb (cond b 1 0) 1 ≡ b

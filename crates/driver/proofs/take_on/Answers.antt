@@ -8,7 +8,6 @@ use Rattle.turns.proofs.Turns.{sound-slot}
 use Rattle.worlds.specs.Step.{stage_by}
 use Rattle.worlds.proofs.Going.{going-sound}
 use Rattle.driver.proofs.States.{ended_took, going_took}
-use borrow.Author.Rules.{rules}
 use Rattle.driver.proofs.take_on.Goals.{Else-has_ended}
 use Rattle.driver.proofs.take_on.Goals as goal
 

@@ -4,9 +4,7 @@ use mathlib.Core.Path.{sym, ◌∙◌}
 use Rattle.records.proofs.Parts.{part-pages}
 use Rattle.turns.proofs.Turns.{sound-slot}
 use Rattle.driver.proofs.Frames.{nothing, ended-frame, written}
-use Rattle.geometry.proofs.Pages.{sized}
 use Rattle.worlds.proofs.Going.{going-sound}
-use borrow.Author.Rules.{rules}
 use Rattle.driver.proofs.write_on.Goals as goal
 
 pub returns-then-is_over_on : goal.returns-then-is_over_on

@@ -1,6 +1,5 @@
 -- `driver_blocks::decode` meets its contract: each field is what its reader ensures. Assumes nothing.
 use Rattle.driver_blocks.specs.Block.{decode_driver}
-use borrow.Author.Rules.{rules}
 use Rattle.driver_blocks.proofs.decode.Goals as goal
 
 pub returns : goal.returns

@@ -2,7 +2,6 @@
 use mathlib.Core.Path.{◌∙◌}
 use lib.ListN.{get_or}
 use Rattle.driver_blocks.specs.Block.{period_at, decode_aim}
-use borrow.Author.Rules.{rules}
 use Rattle.driver_blocks.proofs.decode_aim.Goals as goal
 
 pub returns : goal.returns

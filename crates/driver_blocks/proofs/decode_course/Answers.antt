@@ -3,7 +3,6 @@ use mathlib.Core.Bool.{Bool}
 use mathlib.Core.Path.{ap, ◌∙◌}
 use lib.ListN.{get_or}
 use Rattle.driver_blocks.specs.Block.{stage_of, decode_course}
-use borrow.Author.Rules.{rules}
 use Rattle.driver_blocks.proofs.decode_course.Goals as goal
 
 pub returns : goal.returns

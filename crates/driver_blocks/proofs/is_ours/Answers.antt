@@ -4,7 +4,6 @@ use mathlib.Core.Path.{◌≡◌, sym, ◌∙◌}
 use lib.ListN.{get_or}
 use borrow.Author.Tests.{le-leb, lt-leb, not-true, not-false}
 use Rattle.driver_blocks.specs.Block.{is_kind, is_ours}
-use borrow.Author.Rules.{rules}
 use Rattle.driver_blocks.proofs.is_ours.Goals as goal
 
 pub returns-then-not-is_kind : goal.returns-then-not-is_kind

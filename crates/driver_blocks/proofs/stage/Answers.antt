@@ -4,7 +4,6 @@ use mathlib.Core.Path.{◌≡◌, ap}
 use borrow.Author.Tests.{eq-eqb, ne_eqb, not-true, not-false}
 use Rattle.slots.specs.declared.Stage.TheVariants.{Ended}
 use Rattle.driver_blocks.specs.Block.{stage_of}
-use borrow.Author.Rules.{rules}
 use Rattle.driver_blocks.proofs.stage.Goals as goal
 
 pub returns-then-not-ours : goal.returns-then-not-ours

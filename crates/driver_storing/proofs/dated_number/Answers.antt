@@ -1,6 +1,5 @@
 -- `driver_storing::dated_number` meets its contract: each arm is the case of its constructor. Assumes nothing.
 use Rattle.driver_blocks.specs.Block.{dated_number}
-use borrow.Author.Rules.{rules}
 use Rattle.driver_storing.proofs.dated_number.Goals as goal
 
 pub returns-in-Always : goal.returns-in-Always

@@ -22,6 +22,6 @@ returns c =
     c.put_number-3.ensures
     c.put_number-4.ensures
     c.put_number-5.ensures
-    (c.put_number-6.ensures ∙ ap (λ (n : ℕ). splice 48 (word_bytes n) c.put_number-5.new.0) c.first_of.ensures)
-    (c.put_number-7.ensures ∙ ap (λ (n : ℕ). splice 56 (word_bytes n) c.put_number-6.new.0) c.last_of.ensures)
+    (c.put_number-6.ensures ∙ ap (λ (n : ℕ). splice 48 (word_bytes n) c.put_number-5.new.block) c.first_of.ensures)
+    (c.put_number-7.ensures ∙ ap (λ (n : ℕ). splice 56 (word_bytes n) c.put_number-6.new.block) c.last_of.ensures)
     c.put_number-8.ensures

@@ -1,6 +1,5 @@
 -- `driver_storing::end_number` meets its contract: each arm is the case of its constructor. Assumes nothing.
 use Rattle.driver_blocks.specs.Block.{end_number}
-use borrow.Author.Rules.{rules}
 use Rattle.driver_storing.proofs.end_number.Goals as goal
 
 pub returns-in-Going : goal.returns-in-Going

@@ -1,6 +1,5 @@
 -- `driver_storing::first_of` meets its contract: each arm is the case of its constructor. Assumes nothing.
 use Rattle.driver_blocks.specs.Block.{first_of}
-use borrow.Author.Rules.{rules}
 use Rattle.driver_storing.proofs.first_of.Goals as goal
 
 pub returns-in-Always : goal.returns-in-Always

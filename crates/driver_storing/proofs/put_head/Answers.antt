@@ -2,7 +2,6 @@
 use mathlib.Core.Path.{refl, sym, ap, ◌∙◌}
 use lib.ListN.{length}
 use lib.Seq.{length-take-le}
-use borrow.Author.Rules.{rules}
 use Rattle.slices.proofs.Laws.{head-over}
 use Rattle.driver_blocks.specs.Block.{head_bytes}
 use Rattle.driver_storing.proofs.put_head.Goals as goal

@@ -1,6 +1,5 @@
 -- `driver_storing::told_number` meets its contract: each arm is the case of its constructor. Assumes nothing.
 use Rattle.driver_blocks.specs.Block.{told_number}
-use borrow.Author.Rules.{rules}
 use Rattle.driver_storing.proofs.told_number.Goals as goal
 
 pub returns-in-Running : goal.returns-in-Running

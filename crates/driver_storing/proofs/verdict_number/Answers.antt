@@ -1,6 +1,5 @@
 -- `driver_storing::verdict_number` meets its contract: each arm is the case of its constructor. Assumes nothing.
 use Rattle.driver_blocks.specs.Block.{verdict_number}
-use borrow.Author.Rules.{rules}
 use Rattle.driver_storing.proofs.verdict_number.Goals as goal
 
 pub returns-in-Good : goal.returns-in-Good

@@ -1,7 +1,6 @@
 -- `endings::answer` meets its contract. Assumes nothing.
 use Rattle.slots.specs.Calls.{answer_in}
 use mathlib.Core.Path.{ap, ◌∙◌}
-use borrow.Author.Rules.{rules}
 use Rattle.endings.proofs.answer.Goals as goal
 
 pub returns : goal.returns

@@ -1,7 +1,6 @@
 -- `endings::answer_in` meets its contract. Assumes nothing.
 use Rattle.slots.specs.Calls.{answer_in}
 use mathlib.Core.Path.{sym, ap}
-use borrow.Author.Rules.{rules}
 use Rattle.endings.proofs.answer_in.Goals as goal
 
 pub returns-in-Running : goal.returns-in-Running

@@ -5,7 +5,6 @@ use Rattle.slices.specs.Lists.{over}
 use Prim.Native.Nat.{ℕ}
 use lib.ListN.{take, drop}
 use mathlib.Core.Path.{ap, ◌∙◌}
-use borrow.Author.Rules.{rules}
 use Rattle.endings.proofs.deliver.Goals as goal
 
 pub returns : goal.returns

@@ -8,7 +8,6 @@ use Rattle.state.specs.Outcomes.{cut_state}
 use borrow.Author.Tests.{not-true, not-false}
 use mathlib.Core.Bool.{Bool, cond}
 use mathlib.Core.Path.{sym, ap, ◌∙◌}
-use borrow.Author.Rules.{rules}
 use Rattle.endings.proofs.lose.Goals as goal
 
 pub returns-then-not-s : goal.returns-then-not-s

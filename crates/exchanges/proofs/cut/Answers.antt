@@ -2,7 +2,6 @@
 -- Assumes nothing.
 use Rattle.blocks.specs.Promises.{held_in}
 use Rattle.exchanges.proofs.Exchanges.{cut_left}
-use borrow.Author.Rules.{rules}
 use Rattle.exchanges.proofs.cut.Goals as goal
 
 pub returns : goal.returns

@@ -7,7 +7,6 @@ use Rattle.blocks.specs.Promises.{held_in}
 use Rattle.slots.specs.Calls.{state_after}
 use Rattle.runs.proofs.After.{sent-placed}
 use Rattle.exchanges.proofs.Exchanges.{sent-state, sent-reply, sent_form}
-use borrow.Author.Rules.{rules}
 use Rattle.exchanges.proofs.exchange.Goals as goal
 
 pub put_outline-requires : goal.put_outline-requires

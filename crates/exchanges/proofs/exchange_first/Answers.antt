@@ -7,7 +7,6 @@ use lib.ListN.{length, take, drop}
 use lib.Seq.{length-take-le}
 use Rattle.state.specs.Outcomes.{framed}
 use Rattle.runs.proofs.Turns.{reply-first}
-use borrow.Author.Rules.{rules}
 use Rattle.exchanges.proofs.exchange_first.Goals as goal
 
 pub slice_bounds-exchange-end : goal.slice_bounds-exchange-end

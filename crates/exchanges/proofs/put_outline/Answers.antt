@@ -5,7 +5,6 @@ use native.Mathlib.Omega.{arith}
 use lib.ListN.{length-set}
 use Rattle.slices.proofs.Laws.{splice_cons, splice_nil}
 use Rattle.slots.specs.Calls.{outline}
-use borrow.Author.Rules.{rules}
 use Rattle.exchanges.proofs.put_outline.Goals as goal
 
 pub bounds-log-at-2 : goal.bounds-log-at-2

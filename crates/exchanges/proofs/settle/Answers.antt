@@ -4,7 +4,6 @@ use mathlib.Core.Path.{sym, ◌∙◌}
 use Rattle.blocks.specs.Block.{decode_registers, decode_chip}
 use Rattle.blocks.specs.Promises.{held_in}
 use Rattle.exchanges.proofs.Exchanges.{other_byte, zero_idle, zero_ended}
-use borrow.Author.Rules.{rules}
 use Rattle.exchanges.proofs.settle.Goals as goal
 
 pub returns-then-b-ne0 : goal.returns-then-b-ne0

@@ -27,6 +27,6 @@ returns c =
     let t = c.text_table-t.ensures in
     let p = c.put-k in
     let q = c.put in
-    said a.f a.out.now p.new.0 q.new.0 p.result q.result
+    said a.f a.out.now p.new.out q.new.out p.result q.result
     (laid-part t c.part-a.ensures.1 c.subject_part.ensures.0 p.ensures)
     (laid-part t c.part-b.ensures.1 c.said_part.ensures.0 q.ensures)

@@ -4,7 +4,6 @@ use mathlib.Core.Path.{ap, ap₂, ◌∙◌}
 use Prim.Native.Nat.{ℕ, min}
 use native.Mathlib.Omega.{arith}
 use Rattle.faults.specs.Parts.{part_at}
-use borrow.Author.Rules.{rules}
 use Rattle.faults.proofs.part.Goals as goal
 
 pub returns : goal.returns

@@ -2,7 +2,6 @@
 -- Assumes nothing.
 use Rattle.faults.specs.Parts.{said_part}
 use mathlib.Core.Path.{sym, ap, ◌∙◌}
-use borrow.Author.Rules.{rules}
 use Rattle.faults.proofs.said_part.Goals as goal
 
 pub returns-in-Over : goal.returns-in-Over

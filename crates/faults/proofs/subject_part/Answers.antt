@@ -2,7 +2,6 @@
 -- Assumes nothing.
 use Rattle.faults.specs.Parts.{subject_part}
 use mathlib.Core.Path.{sym, ap, ◌∙◌}
-use borrow.Author.Rules.{rules}
 use Rattle.faults.proofs.subject_part.Goals as goal
 
 pub returns-in-Missing : goal.returns-in-Missing

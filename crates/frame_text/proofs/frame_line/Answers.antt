@@ -17,7 +17,7 @@ returns c =
     let e = c.lesser-e in
     let p = c.put_pairs in
     let long : length out ≡ 20 = search rules in
-    framed line out d.new.1.0 p.new.1.0 _ n.result d.result p.result
+    framed line out d.new.out p.new.out _ n.result d.result p.result
     n.ensures.0 d.ensures.0 d.ensures.1 d.ensures.2
     (first-bytes line (min n.result 4) a.result e.result a.ensures (e.ensures ∙ ap (λ (k : ℕ). min (2 + k) (length line)) m.ensures))
     p.ensures.0 p.ensures.1 long

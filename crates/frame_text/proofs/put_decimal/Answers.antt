@@ -1,7 +1,6 @@
 -- `frame_text::put_decimal` meets its contract: the digits lie one behind the other, so together they are the number. Assumes nothing.
 use mathlib.Core.Path.{ap, ◌∙◌}
 use native.Mathlib.Omega.{arith}
-use borrow.Author.Rules.{rules}
 use lib.ListN.{length}
 use Rattle.slices.proofs.Laws.{length-splice}
 use Rattle.frame_text.specs.Lines.{decimal_of}
@@ -17,7 +16,7 @@ shape_of-out c =
     let d₄ = c.put_digit-d in
     ap length (decimal-laid a.n d₁.result d₂.result d₃.result d₄.result
     d₁.ensures.1 d₂.ensures.1 d₃.ensures.1 d₄.ensures.1
-    a.out.now d₁.new.1.1.0 d₂.new.1.1.0 d₃.new.1.1.0 d₄.new.1.1.0
+    a.out.now d₁.new.out d₂.new.out d₃.new.out d₄.new.out
     d₁.ensures.2 d₂.ensures.2 d₃.ensures.2 d₄.ensures.2)
     ∙ length-splice 0 (decimal_of a.n) a.out.now
 
@@ -33,6 +32,6 @@ returns c =
           d₁.ensures.1 d₂.ensures.1 d₃.ensures.1 d₄.ensures.1,
       decimal-laid a.n d₁.result d₂.result d₃.result d₄.result
           d₁.ensures.1 d₂.ensures.1 d₃.ensures.1 d₄.ensures.1
-          a.out.now d₁.new.1.1.0 d₂.new.1.1.0 d₃.new.1.1.0 d₄.new.1.1.0
+          a.out.now d₁.new.out d₂.new.out d₃.new.out d₄.new.out
           d₁.ensures.2 d₂.ensures.2 d₃.ensures.2 d₄.ensures.2,
     )

@@ -1,5 +1,4 @@
 -- `frame_text::put_digit` meets its contract: the two cases are the definition's. Assumes nothing.
-use borrow.Author.Rules.{rules}
 use Rattle.frame_text.proofs.Texts.{digit_none, digit_some}
 use Rattle.frame_text.proofs.put_digit.Goals as goal
 

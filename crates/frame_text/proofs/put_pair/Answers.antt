@@ -1,7 +1,6 @@
 -- `frame_text::put_pair` meets its contract: three bytes stored in a row are three bytes laid over. Assumes nothing.
 use mathlib.Core.Path.{refl}
 use native.Mathlib.Omega.{arith}
-use borrow.Author.Rules.{rules}
 use lib.ListN.{length-set}
 use Rattle.frame_text.proofs.Texts.{three}
 use Rattle.frame_text.proofs.put_pair.Goals as goal

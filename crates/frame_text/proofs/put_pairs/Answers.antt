@@ -1,11 +1,8 @@
 -- `frame_text::put_pairs` meets its contract: the pairs of the first i bytes lie over `out`, and those from i on are still to be laid. Assumes nothing.
-use mathlib.Core.Path.{◌≡◌, refl, sym, ◌∙◌}
-use Prim.Native.Nat.{◌+◌, ◌*◌, ◌-◌, ◌≤◌, zero-le}
+use mathlib.Core.Path.{refl, sym, ◌∙◌}
+use Prim.Native.Nat.{◌-◌, zero-le}
 use native.Mathlib.Omega.{arith}
 use borrow.Author.Rules.{rules}
-use lib.ListN.{length, drop}
-use Rattle.slices.specs.Lists.{splice}
-use Rattle.frame_text.specs.Lines.{spaced}
 use Rattle.frame_text.proofs.Texts.{spaced-step, spaced-end}
 use Rattle.frame_text.proofs.put_pairs.Goals as goal
 
@@ -19,7 +16,7 @@ loop-i-preserved c =
       search rules,
       omega arith,
       search rules,
-      spaced-step c.args.bytes.now l.i l.next p.result l.out p.new.1.0 c.loop-i-test.true p.ensures.0 p.ensures.1
+      spaced-step c.args.bytes.now l.i l.next p.result l.out p.new.out c.loop-i-test.true p.ensures.0 p.ensures.1
           ∙ l.invariant.3,
     )
 

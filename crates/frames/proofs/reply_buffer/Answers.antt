@@ -1,6 +1,5 @@
 -- `frames::reply_buffer` meets its contract: the part that is lent on is the buffer.
 -- Assumes nothing.
-use borrow.Author.Rules.{rules}
 use mathlib.Core.List.{List}
 use mathlib.Core.Path.{ap, ◌∙◌}
 use Prim.Native.Nat.{ℕ}

@@ -1,6 +1,5 @@
 -- `frames::reply_status` meets its contract: the status byte is repeated.
 -- Assumes nothing.
-use borrow.Author.Rules.{rules}
 use mathlib.Core.Path.{ap, ◌∙◌, sym}
 use lib.ListN.{length}
 use Rattle.control.specs.declared.Marks.{Marks}

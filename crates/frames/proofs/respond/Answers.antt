@@ -1,6 +1,5 @@
 -- `frames::respond` meets its contract: each arm is a clause of `data_of`; the action names what its function asks for.
 -- Assumes nothing.
-use borrow.Author.Rules.{rules}
 use mathlib.Core.List.{List}
 use mathlib.Core.Path.{◌≡◌, refl, ap, ◌∙◌, sym}
 use Prim.Native.Nat.{ℕ}

@@ -1,6 +1,5 @@
 -- `frames::status` meets its contract: each bit is the number that the definition adds.
 -- Assumes nothing.
-use borrow.Author.Rules.{rules}
 use Rattle.state.specs.Frames.{status_of}
 use Rattle.frames.proofs.status.Goals as goal
 

@@ -2,7 +2,6 @@
 -- Assumes nothing.
 use Rattle.geometry.specs.Parts.{address_at}
 use native.Mathlib.Omega.{arith}
-use borrow.Author.Rules.{rules}
 use Rattle.geometry.proofs.address_at.Goals as goal
 
 pub returns : goal.returns

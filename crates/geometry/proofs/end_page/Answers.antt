@@ -5,7 +5,6 @@ use mathlib.Core.Path.{sym}
 use native.Mathlib.Nat.{mul-le-mul}
 use native.Mathlib.Omega.{arith}
 use Rattle.geometry.specs.Sectors.{end_page}
-use borrow.Author.Rules.{rules}
 use Rattle.geometry.proofs.end_page.Goals as goal
 
 pub overflow_mul-result : goal.overflow_mul-result

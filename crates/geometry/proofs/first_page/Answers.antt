@@ -6,7 +6,6 @@ use Prim.Native.Nat.{◌-◌}
 use native.Mathlib.Nat.{mul-le-mul}
 use native.Mathlib.Omega.{arith}
 use Rattle.geometry.specs.Sectors.{first_page}
-use borrow.Author.Rules.{rules}
 use Rattle.geometry.proofs.first_page.Goals as goal
 
 pub overflow_mul-result : goal.overflow_mul-result

@@ -2,7 +2,6 @@
 -- Assumes nothing.
 use Rattle.geometry.specs.Parts.{parts, part_among, part_of}
 use borrow.Author.Tests.{eq-eqb, ne_eqb}
-use borrow.Author.Rules.{rules}
 use Rattle.geometry.proofs.part_of.Goals as goal
 
 pub returns-then-length-eq1081344 : goal.returns-then-length-eq1081344

@@ -1,7 +1,6 @@
 -- `geometry::quotient` meets its contract: the divisor in the code is d.
 -- Assumes nothing.
 use mathlib.Core.Path.{refl}
-use borrow.Author.Rules.{rules}
 use Rattle.geometry.proofs.quotient.Goals as goal
 
 pub returns-in-512 : goal.returns-in-512

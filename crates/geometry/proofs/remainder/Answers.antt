@@ -3,7 +3,6 @@
 use mathlib.Core.Path.{◌≡◌, refl, subst}
 use Prim.Native.Nat.{ℕ, ◌%◌, ◌<◌}
 use native.Mathlib.Nat.{mod-lt}
-use borrow.Author.Rules.{rules}
 use Rattle.geometry.proofs.remainder.Goals as goal
 
 below : (n d k : ℕ) → 0 < d → d ≡ k → (n % k ≡ n % d) × (n % k < d)

@@ -4,7 +4,6 @@ use Prim.Native.Nat.{◌-◌}
 use native.Mathlib.Omega.{arith}
 use Rattle.geometry.specs.Sectors.{sector_count}
 use Rattle.geometry.proofs.Sectors.{sector_small}
-use borrow.Author.Rules.{rules}
 use Rattle.geometry.proofs.sector_count.Goals as goal
 
 pub overflow_sub-last : goal.overflow_sub-last

@@ -1,7 +1,7 @@
 -- `geometry::sector_of` meets its contract: the code's test of the page is the definition's.
 -- Assumes nothing.
 use mathlib.Core.Path.{◌≡◌}
-use Prim.Native.Nat.{ℕ, ◌+◌, ◌/◌, ◌<◌, ◌^◌}
+use Prim.Native.Nat.{◌/◌, ◌<◌, ◌^◌}
 use native.Mathlib.Nat.{div-lt_iff_lt-mul}
 use native.Mathlib.Omega.{arith}
 use borrow.Author.Tests.{lt-ltb, le-ltb}

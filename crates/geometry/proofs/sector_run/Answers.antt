@@ -4,7 +4,6 @@ use Rattle.geometry.proofs.Sectors.{first-end}
 use Prim.Native.Nat.{◌<◌}
 use native.Mathlib.Omega.{arith}
 use Rattle.geometry.specs.Sectors.{first_page, end_page, sector_run}
-use borrow.Author.Rules.{rules}
 use Rattle.geometry.proofs.sector_run.Goals.{Start}
 use Rattle.geometry.proofs.sector_run.Goals as goal
 
@@ -16,8 +15,7 @@ overflow_sub-result c = omega (arith, ends c.before.before.before.before, c.end_
 
 pub returns : goal.returns
 unfolding sector_run
-returns c =
-    (
+returns c = (
   rw (c.lesser-e.ensures, c.lesser-a.ensures, c.end_page-end.ensures, c.first_page-first.ensures),
   omega (arith, ends c.before.before.before.before, c.end_page-end.ensures, c.first_page-first.ensures),
 )

@@ -1,6 +1,5 @@
 -- `hexadecimal::pair` meets its contract: both digits are worth what the definition says. Assumes nothing.
 use mathlib.Core.Path.{refl}
-use borrow.Author.Rules.{rules}
 use Rattle.text.specs.Hexadecimal.{pair_of}
 use Rattle.hexadecimal.proofs.pair.Goals as goal
 

@@ -1,11 +1,10 @@
 -- `hexadecimal::store` meets its contract: the first i bytes are stored, and those from i on are still to be laid over `out`. Assumes nothing.
-use mathlib.Core.Path.{◌≡◌, refl, sym, ◌∙◌}
-use Prim.Native.Nat.{◌-◌, ◌≤◌, zero-le}
+use mathlib.Core.Path.{refl, sym, ◌∙◌}
+use Prim.Native.Nat.{◌-◌, zero-le}
 use native.Mathlib.Omega.{arith}
 use borrow.Author.Rules.{rules}
-use lib.ListN.{length, take, drop, length-set}
+use lib.ListN.{take, length-set}
 use Rattle.slices.proofs.Laws.{splice-zero}
-use Rattle.slices.specs.Lists.{over, splice}
 use Rattle.text.specs.Hexadecimal.{pairs}
 use Rattle.hexadecimal.proofs.Pairs.{store_step, store_end}
 use Rattle.hexadecimal.proofs.store.Goals as goal

@@ -6,10 +6,8 @@ use Rattle.slices.specs.Lists.{over, splice}
 use Rattle.text.specs.Hexadecimal.{pairs}
 use Rattle.hexadecimal.proofs.store.Given as goal
 
-
 abbrev pub invariant-loop-i : goal.invariant-loop-i
 invariant-loop-i l = (l.i ≤ l.m) × (length l.out ≡ length l.initial.out) × (splice l.i (drop l.i (take l.n (pairs l.word))) l.out ≡ over (take l.n (pairs l.word)) l.initial.out)
-
 
 abbrev pub decreases-loop-i : goal.decreases-loop-i
 decreases-loop-i l = l.m - l.i

@@ -1,6 +1,5 @@
 -- `inplace::cut` meets its contract: the block is read, `chip::cut` is called on it, and what it leaves is stored.
 -- Assumes nothing.
-use borrow.Author.Rules.{rules}
 use Rattle.state.specs.declared.Chip.{Chip}
 use Rattle.state.specs.Memory.{state_of}
 use Rattle.state.specs.Outcomes.{cut_outcome}

@@ -1,6 +1,5 @@
 -- `inplace::send_in` meets its contract: the reply is made of the parts that are lent, the change stored, and the buffer written, all by what control ruled on the frame.
 -- Assumes nothing.
-use borrow.Author.Rules.{rules}
 use mathlib.Core.Bool.{Bool}
 use mathlib.Core.Path.{refl, sym, ap, ◌∙◌}
 use native.Mathlib.Omega.{arith}
@@ -35,7 +34,7 @@ pub settle-requires : goal.settle-requires
 settle-requires c = (c.requires.1, c.requires.2)
 
 pub slice_bounds-act-end : goal.slice_bounds-act-end
-slice_bounds-act-end c = omega (arith, c.settle.auto.0, c.requires.1)
+slice_bounds-act-end c = omega (arith, c.settle.auto.block, c.requires.1)
 
 pub slice_bounds-act-count-2 : goal.slice_bounds-act-count-2
 slice_bounds-act-count-2 c =
@@ -57,7 +56,7 @@ act-requires c =
     let b = a.block.now in
     let r = decode_registers b in
     let e = c.control_frame-d.ensures r (sym c.marks_at-m.ensures) in
-    (c.requires.0.most, decided_names a.g r a.frame.now _ e _ c.requires.0, run_length 236 (2 * page_room) c.settle.new.0 (omega (arith, c.settle.auto.0, c.requires.1)))
+    (c.requires.0.most, decided_names a.g r a.frame.now _ e _ c.requires.0, run_length 236 (2 * page_room) c.settle.new.block (omega (arith, c.settle.auto.block, c.requires.1)))
 
 pub returns : goal.returns
 unfolding sent_state decode_chip
@@ -72,11 +71,11 @@ returns c =
     let m = sym c.marks_at-m.ensures in
     let e = c.control_frame-d.ensures r m in
     let k = d.change in
-    let y = c.settle.new.0 in
+    let y = c.settle.new.block in
     let h = c.settle.ensures in
-    let n = run_length 236 (2 * page_room) y (omega (arith, c.settle.auto.0, l)) in
+    let n = run_length 236 (2 * page_room) y (omega (arith, c.settle.auto.block, l)) in
     let j = ap (λ (bit : Bool). memory_in xs (take (2 * page_room) (drop 236 b)) bit) c.is_set-compare.ensures ∙ buffers_lent b xs l in (
-      back b k l y h c.act.new.1.0 (c.act.auto.1.0 ∙ n)
+      back b k l y h c.act.new.buffers (c.act.auto.buffers ∙ n)
           ∙ (λ i. encode_chip (chip_of (decided-registers a.g r f d e i) (decided-memory a.g r f d e (memory_of (decode_chip b) xs) xs (take (2 * page_room) (drop 236 y)) _ (decode_chip b).compare n (lent_both b k l y h xs) c.act.ensures i))),
       decided-reply a.g r f d e (memory_of (decode_chip b) xs) _ _ c.requires.3
           (c.respond.ensures r m (security_lent b l) ∙ ap (λ (x : Memory). replied (length a.reply.now) d.lead (data_of a.g r x d.action)) j),

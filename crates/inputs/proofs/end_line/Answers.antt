@@ -1,7 +1,6 @@
 -- `inputs::end_line` meets its contract: what the kept characters say is what the line says. Assumes nothing.
 use Rattle.inputs.proofs.Laws.{line-ended}
 use mathlib.Core.Path.{refl}
-use borrow.Author.Rules.{rules}
 use Rattle.inputs.proofs.end_line.Goals as goal
 
 pub act_on-s-requires : goal.act_on-s-requires

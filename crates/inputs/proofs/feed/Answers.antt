@@ -2,7 +2,6 @@
 use mathlib.Core.Path.{refl}
 use borrow.Author.Tests.{eq-eqb, ne_eqb}
 use Rattle.inputs.proofs.Laws.{fed-end, fed-kept}
-use borrow.Author.Rules.{rules}
 use Rattle.inputs.proofs.feed.Goals as goal
 
 pub end_line-requires : goal.end_line-requires

@@ -1,7 +1,6 @@
 -- `inputs::finish` meets its contract: nothing is left, or the line that is left ends. Assumes nothing.
 use borrow.Author.Tests.{ne_eqb}
 use Rattle.inputs.proofs.Laws.{ends-none, ends_last}
-use borrow.Author.Rules.{rules}
 use Rattle.inputs.proofs.finish.Goals as goal
 
 pub returns-then-r-eq0 : goal.returns-then-r-eq0

@@ -1,6 +1,5 @@
 -- `inputs::keep` meets its contract: a character stands behind those that are kept. Assumes nothing.
 use Rattle.inputs.proofs.Laws.{kept_more, kept_full}
-use borrow.Author.Rules.{rules}
 use Rattle.inputs.proofs.keep.Goals as goal
 
 pub returns-then-filled-line : goal.returns-then-filled-line

@@ -1,7 +1,6 @@
 -- `inputs::write_out` meets its contract: what waited is written, and all else stays. Assumes nothing.
 use mathlib.Core.Path.{refl}
 use Rattle.inputs.proofs.Laws.{output_kept}
-use borrow.Author.Rules.{rules}
 use Rattle.inputs.proofs.write_out.Goals as goal
 
 pub returns : goal.returns

@@ -2,7 +2,6 @@
 use Prim.Native.Nat.{◌/◌}
 use Rattle.lines.proofs.Laws.{digit_low}
 use mathlib.Core.Path.{◌∙◌}
-use borrow.Author.Rules.{rules}
 use Rattle.lines.proofs.digit_at.Goals as goal
 
 pub returns : goal.returns

@@ -1,6 +1,5 @@
 -- `lines::put` meets its contract: the part lent to the copy comes back as the piece. Assumes nothing.
 use Rattle.lines.proofs.Laws.{put_stands}
-use borrow.Author.Rules.{rules}
 use Rattle.lines.proofs.put.Goals as goal
 
 pub returns : goal.returns

@@ -3,7 +3,6 @@ use Rattle.lines.specs.Texts.{word_text}
 use native.Mathlib.Omega.{arith}
 use Rattle.lines.specs.Texts.{check_text}
 use Rattle.lines.proofs.Laws.{stands_more}
-use borrow.Author.Rules.{rules}
 use Rattle.lines.proofs.put_check.Goals as goal
 
 pub returns : goal.returns

@@ -2,7 +2,6 @@
 use native.Mathlib.Omega.{arith}
 use Rattle.lines.specs.Texts.{count_text}
 use Rattle.lines.proofs.Laws.{stands_more}
-use borrow.Author.Rules.{rules}
 use Rattle.lines.proofs.put_count.Goals as goal
 
 pub returns : goal.returns

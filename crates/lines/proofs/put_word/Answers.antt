@@ -5,7 +5,6 @@ use mathlib.Core.Path.{ap, ◌∙◌}
 use mathlib.Core.List.{[], ◌∷◌}
 use Rattle.lines.specs.Texts.{word_text}
 use Rattle.lines.proofs.Laws.{stands_as}
-use borrow.Author.Rules.{rules}
 use Rattle.lines.proofs.put_word.Goals as goal
 
 pub returns : goal.returns

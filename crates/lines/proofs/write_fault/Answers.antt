@@ -2,7 +2,6 @@
 use native.Mathlib.Omega.{arith}
 use Rattle.lines.specs.Texts.{fault_text}
 use Rattle.lines.proofs.Laws.{stands_more, stands_counts}
-use borrow.Author.Rules.{rules}
 use Rattle.lines.proofs.write_fault.Goals as goal
 
 pub returns : goal.returns

@@ -2,7 +2,6 @@
 use native.Mathlib.Omega.{arith}
 use Rattle.lines.specs.Texts.{frame_text}
 use Rattle.lines.proofs.Laws.{stands_more, stands_as, stands_counts, laid-over}
-use borrow.Author.Rules.{rules}
 use Rattle.lines.proofs.write_frame.Goals as goal
 
 pub returns : goal.returns

@@ -3,7 +3,6 @@ use mathlib.Core.Path.{ap, ◌∙◌}
 use Prim.Native.Nat.{ℕ, ◌*◌}
 use native.Mathlib.Omega.{arith}
 use lib.ListN.{replicate, length-replicate}
-use borrow.Author.Rules.{rules}
 use Rattle.memory.specs.Pages.{erased}
 use Rattle.memory.proofs.Lent.{run_end, run_long, run_back}
 use Rattle.memory.proofs.erase.Goals as goal

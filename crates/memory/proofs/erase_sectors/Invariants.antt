@@ -5,10 +5,8 @@ use Rattle.memory.specs.Pages.{erased}
 use Rattle.memory.proofs.Lent.{Passed}
 use Rattle.memory.proofs.erase_sectors.Given as goal
 
-
 abbrev pub invariant-loop-s : goal.invariant-loop-s
 invariant-loop-s l = Passed (erased l.g) l.g l.sectors l.initial.array l.s l.m l.array
-
 
 abbrev pub decreases-loop-s : goal.decreases-loop-s
 decreases-loop-s l = l.count - l.s

@@ -6,7 +6,6 @@ use mathlib.Core.List.{List}
 use Prim.Native.Nat.{ℕ}
 use lib.ListN.{take}
 use lib.Seq.{length-take-le}
-use borrow.Author.Rules.{rules}
 use Rattle.slices.specs.Lists.{same}
 use Rattle.memory.specs.Pages.{differing}
 use Rattle.memory.proofs.Lent.{page_end, page_part}

@@ -1,7 +1,6 @@
 -- `memory::program` meets its contract: the page's part of the array comes back as the buffer's first bytes. Assumes nothing.
 use mathlib.Core.Path.{sym}
 use lib.Seq.{length-take-le}
-use borrow.Author.Rules.{rules}
 use Rattle.memory.specs.Pages.{programmed}
 use Rattle.memory.proofs.Lent.{page_end, page_long, page_back}
 use Rattle.memory.proofs.program.Goals as goal

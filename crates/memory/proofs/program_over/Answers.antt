@@ -4,7 +4,6 @@ use mathlib.Core.List.{List}
 use Prim.Native.Nat.{ℕ}
 use lib.ListN.{take}
 use lib.Seq.{length-take-le}
-use borrow.Author.Rules.{rules}
 use Rattle.slices.specs.Lists.{and_over}
 use Rattle.slices.proofs.Laws.{length-and_over}
 use Rattle.geometry.specs.Parts.{page_of}

@@ -1,7 +1,6 @@
 -- `memory::reply_nothing` meets its contract: a reply with no data is FFh throughout, whatever its lead. Assumes nothing.
 use mathlib.Core.Path.{sym, ◌∙◌}
 use lib.ListN.{length}
-use borrow.Author.Rules.{rules}
 use Rattle.memory.proofs.Replies.{replied_nothing}
 use Rattle.memory.proofs.reply_nothing.Goals as goal
 

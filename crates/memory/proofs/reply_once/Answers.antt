@@ -5,7 +5,6 @@ use Prim.Native.Nat.{◌-◌}
 use native.Mathlib.Omega.{arith}
 use lib.ListN.{length, length-take, length-drop}
 use lib.Seq.{length-take-le}
-use borrow.Author.Rules.{rules}
 use Rattle.memory.proofs.Lent.{once}
 use Rattle.memory.proofs.reply_once.Goals as goal
 
@@ -21,4 +20,4 @@ returns c =
     let f = c.fill in
     let k = c.lesser-n in
     let m = c.copy in
-    once (length a.reply.now) a.lead k.result a.bytes.now f.new.0 m.new.0 c.requires f.ensures k.ensures m.ensures
+    once (length a.reply.now) a.lead k.result a.bytes.now f.new.part m.new.part c.requires f.ensures k.ensures m.ensures

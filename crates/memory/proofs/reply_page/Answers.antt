@@ -1,5 +1,4 @@
 -- `memory::reply_page` meets its contract: the part of the array that is handed on is the page. Assumes nothing.
-use borrow.Author.Rules.{rules}
 use Rattle.memory.proofs.Lent.{page_end, page_part}
 use Rattle.memory.proofs.reply_page.Goals as goal
 

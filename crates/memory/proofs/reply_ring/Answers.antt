@@ -1,7 +1,6 @@
 -- `memory::reply_ring` meets its contract: the lead comes back as FFh and all behind it as the bytes read. Assumes nothing.
 use mathlib.Core.Path.{sym}
 use lib.Seq.{length-take-le}
-use borrow.Author.Rules.{rules}
 use Rattle.slices.specs.Lists.{ring_read}
 use Rattle.memory.specs.Replies.{ring_data}
 use Rattle.memory.proofs.Lent.{led}
@@ -14,4 +13,4 @@ pub returns : goal.returns
 unfolding ring_read
 returns c =
     let a = c.args in
-    led a.lead a.reply.now c.fill.new.0 c.ring_read.new.0 (ring_data a.size a.start a.ring.now) c.requires.0 c.fill.ensures c.ring_read.ensures
+    led a.lead a.reply.now c.fill.new.part c.ring_read.new.part (ring_data a.size a.start a.ring.now) c.requires.0 c.fill.ensures c.ring_read.ensures

@@ -4,7 +4,6 @@ use mathlib.Core.Path.{◌∙◌}
 use Prim.Native.Nat.{◌*◌}
 use native.Mathlib.Omega.{arith}
 use lib.ListN.{length-take, length-drop}
-use borrow.Author.Rules.{rules}
 use Rattle.memory.specs.Pages.{junked}
 use Rattle.memory.proofs.Lent.{run_end, run_from, run_back}
 use Rattle.memory.proofs.spoil.Goals as goal

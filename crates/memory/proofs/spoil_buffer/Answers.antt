@@ -5,7 +5,6 @@ use Prim.Native.Nat.{◌-◌}
 use native.Mathlib.Omega.{arith}
 use lib.ListN.{length-take, length-drop}
 use lib.Seq.{length-take-le}
-use borrow.Author.Rules.{rules}
 use Rattle.slices.proofs.Laws.{run-part}
 use Rattle.memory.specs.Pages.{junk_buffer}
 use Rattle.memory.proofs.Lent.{over_back}

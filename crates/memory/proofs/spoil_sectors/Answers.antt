@@ -1,16 +1,14 @@
 -- `memory::spoil_sectors` meets its contract: before sector s the sectors below it are done, and what is left of the set is that set divided by 2 s times.
 -- Assumes nothing.
 use mathlib.Core.Path.{ap, subst, ◌∙◌}
-use mathlib.Core.Logic.{⊎_elim}
 use Prim.Native.Nat.{ℕ, ◌-◌, ◌≤◌, ◌<◌}
 use native.Mathlib.Omega.{arith}
 use lib.ListN.{length}
 use Rattle.geometry.proofs.Pages.{sized_own}
 use Rattle.geometry.proofs.Sectors.{sectors_few}
-use borrow.Author.Rules.{rules}
-use Rattle.memory.specs.Pages.{junked}
-use Rattle.memory.proofs.Lent.{Passed, passed_none, passed_done, passed_by, passed_all}
+use Rattle.memory.proofs.Lent.{passed_none, passed_done, passed_by, passed_all}
 use Rattle.memory.proofs.spoil_sectors.Goals as goal
+use Rattle.memory.proofs.spoil_sectors.Goals.{then-left-eq1, else-left-eq1}
 
 pub sector_count-count-requires : goal.sector_count-count-requires
 sector_count-count-requires c = sized_own c.args.g _ c.requires.0
@@ -30,10 +28,10 @@ pub loop-s-preserved : goal.loop-s-preserved
 loop-s-preserved c =
     let p = c.loop-s.invariant in
     let t = subst (λ (n : ℕ). c.loop-s.s < n) c.sector_count-count.ensures c.loop-s-test.true in
-    ⊎_elim
-    (λ w. passed_done p t w.0.taken w.2.ensures.0 (ap length w.6 ∙ w.3.kept.1.0) (w.6 ∙ w.3.ensures))
-    (λ w. passed_by p t w.0.left w.1)
-    c.if-left-eq1.branch
+    elim c.if-left-eq1.branch [
+      | then-left-eq1 w ↦ passed_done p t w.if-left-eq1.true w.sector_run.ensures.0 (ap length w.array-is ∙ w.spoil.auto.array) (w.array-is ∙ w.spoil.ensures)
+      | else-left-eq1 w ↦ passed_by p t w.if-left-eq1.false w.array-is
+    ]
 
 pub returns : goal.returns
 returns c = passed_all c.loop-s.invariant (subst (λ (n : ℕ). n ≤ c.loop-s.s) c.sector_count-count.ensures c.loop-s-test.false)

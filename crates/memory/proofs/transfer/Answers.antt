@@ -1,7 +1,6 @@
 -- `memory::transfer` meets its contract: the buffer's beginning comes back as the page, which is as long. Assumes nothing.
 use mathlib.Core.Path.{sym, ◌∙◌}
 use lib.Seq.{length-take-le}
-use borrow.Author.Rules.{rules}
 use Rattle.geometry.proofs.Pages.{length-page_of}
 use Rattle.memory.specs.Pages.{transferred}
 use Rattle.memory.proofs.Lent.{page_end, page_part, page_long, over_back}

@@ -1,6 +1,5 @@
 -- `obedience::is_allowed` meets its contract: arm for arm the definition's.
 -- Assumes nothing.
-use borrow.Author.Rules.{rules}
 use Rattle.control.specs.Obeyed.{allowed}
 use Rattle.obedience.proofs.is_allowed.Goals as goal
 

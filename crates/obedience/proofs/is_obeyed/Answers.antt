@@ -3,7 +3,6 @@
 -- Assumes nothing.
 use mathlib.Core.Logic.{⊎_elim}
 use mathlib.Core.Path.{◌≡◌, sym, ◌∙◌, ap}
-use borrow.Author.Rules.{rules}
 use borrow.Author.Tests.{not-true, not-false}
 use Rattle.control.specs.declared.Marks.{Marks}
 use Rattle.control.specs.Obeyed.{allowed, class_of, is_wake, obeyed, usage_of}

@@ -4,7 +4,6 @@ use lib.ListN.{length}
 use Rattle.orders.specs.Bounds.{SoundReading}
 use Rattle.obeying.specs.Desk.{desk_of}
 use Rattle.obeying.proofs.Laws.{order_done, fault_done}
-use borrow.Author.Rules.{rules}
 use Rattle.obeying.proofs.act_on.Goals as goal
 
 pub obey-requires : goal.obey-requires

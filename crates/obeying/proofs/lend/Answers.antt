@@ -7,7 +7,6 @@ use Prim.Native.Nat.{ℕ}
 use Rattle.obeying.specs.Orders.{seen_on}
 use Rattle.obeying.specs.Desk.{desk_of}
 use Rattle.obeying.proofs.Laws.{lent, lends_all, part_of_lem}
-use borrow.Author.Rules.{rules}
 use Rattle.obeying.proofs.lend.Goals as goal
 
 pub run-requires : goal.run-requires

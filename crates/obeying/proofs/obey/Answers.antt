@@ -2,7 +2,6 @@
 use mathlib.Core.Path.{sym, ◌∙◌}
 use Rattle.obeying.specs.Desk.{desk_of}
 use Rattle.obeying.proofs.Laws.{step-obeyed, step-shown, obeyed_as, sum_done, part-done, part-whole}
-use borrow.Author.Rules.{rules}
 use Rattle.obeying.proofs.obey.Goals as goal
 
 pub step-requires : goal.step-requires

@@ -3,7 +3,6 @@ use mathlib.Core.Path.{ap, ◌∙◌}
 use Rattle.state.specs.Outcomes.{Left}
 use Rattle.blocks.specs.Promises.{stored_in}
 use Rattle.obeying.proofs.Laws.{fresh_part_lem, fresh_stored}
-use borrow.Author.Rules.{rules}
 use Rattle.obeying.proofs.renew.Goals as goal
 
 pub returns : goal.returns

@@ -1,6 +1,5 @@
 -- `obeying::run` meets its contract: what the step left is what its order names, and what it shows is printed. Assumes nothing.
 use Rattle.obeying.proofs.Laws.{seen_lent, ran}
-use borrow.Author.Rules.{rules}
 use Rattle.obeying.proofs.run.Goals as goal
 
 pub returns : goal.returns

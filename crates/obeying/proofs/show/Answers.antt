@@ -3,7 +3,6 @@ use mathlib.Core.Bool.{Bool}
 use mathlib.Core.Path.{sym, ap, ◌∙◌}
 use Rattle.obeying.specs.Orders.{shown_by}
 use Rattle.printing.proofs.Laws.{printed_as}
-use borrow.Author.Rules.{rules}
 use Rattle.obeying.proofs.show.Goals as goal
 
 pub returns-then-is_call : goal.returns-then-is_call

@@ -1,9 +1,7 @@
 -- `obeying::start` meets its contract: before the first line nothing was lent. Assumes nothing.
-use mathlib.Core.Path.{refl, ap, ◌∙◌}
+use mathlib.Core.Path.{refl, ◌∙◌}
 use mathlib.Core.Logic.{inl}
-use Rattle.obeying.specs.Desk.{desk_of}
 use Rattle.obeying.proofs.Laws.{starts}
-use borrow.Author.Rules.{rules}
 use Rattle.obeying.proofs.start.Goals as goal
 
 pub part-requires : goal.part-requires

@@ -3,7 +3,6 @@ use native.Mathlib.Omega.{arith}
 use Rattle.obeying.specs.Orders.{seen_in}
 use Rattle.obeying.specs.Desk.{desk_of}
 use Rattle.obeying.proofs.Laws.{words_seen, obeyed_seen}
-use borrow.Author.Rules.{rules}
 use Rattle.obeying.proofs.step.Goals as goal
 
 pub lend-requires : goal.lend-requires

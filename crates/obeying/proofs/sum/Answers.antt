@@ -1,7 +1,6 @@
 -- `obeying::sum` meets its contract: the parts that the last step lent are summed. Assumes nothing.
 use Rattle.printing.proofs.Laws.{printed_as}
 use Rattle.obeying.proofs.Laws.{sum_parts, output_kept}
-use borrow.Author.Rules.{rules}
 use Rattle.obeying.proofs.sum.Goals as goal
 
 pub returns : goal.returns

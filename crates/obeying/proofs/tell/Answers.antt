@@ -1,14 +1,10 @@
 -- `obeying::tell` meets its contract: the message laid over the start of the buffer is printed behind the line's number. Assumes nothing.
 use native.Mathlib.Omega.{arith}
-use mathlib.Core.Path.{◌≡◌, sym, ap, subst, ◌∙◌}
+use mathlib.Core.Path.{ap}
 use Rattle.lines.specs.Texts.{fault_text}
 use Rattle.lines.proofs.Laws.{stands_counts}
-use Rattle.printing.specs.declared.Output.{Output}
-use Rattle.printing.specs.Held.{Printed}
 use Rattle.printing.proofs.Laws.{printed_as, line_of}
-use Rattle.obeying.specs.declared.Session.{Session}
 use Rattle.obeying.proofs.Laws.{message_stands, output_kept}
-use borrow.Author.Rules.{rules}
 use Rattle.obeying.proofs.tell.Goals as goal
 
 pub slice_bounds-message-end : goal.slice_bounds-message-end

@@ -1,7 +1,6 @@
 -- `openings::start_wipe` meets its contract: the first state of a wipe that is told what the caller tells.
 -- Assumes nothing.
 use mathlib.Core.Path.{ap, ◌∙◌}
-use borrow.Author.Rules.{rules}
 use Rattle.slots.specs.declared.Detail.{Detail}
 use Rattle.slots.specs.declared.Kind.TheVariants.{Wipe}
 use Rattle.slots.specs.Lists.{asking}

@@ -4,7 +4,6 @@ use Rattle.operands.specs.declared.Step.TheVariants as Step
 use Rattle.operands.proofs.Steps.{operands_read}
 use Rattle.operands.specs.Operands.{then_place, then_bytes}
 use mathlib.Core.Path.{refl, sym, ap, ◌∙◌}
-use borrow.Author.Rules.{rules}
 use Rattle.operands.proofs.read_operands.Goals as goal
 
 pub returns-in-More-b : goal.returns-in-More-b

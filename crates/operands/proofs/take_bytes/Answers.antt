@@ -4,7 +4,6 @@ use Rattle.operands.proofs.Steps.{bytes-none, bytes-missing, bytes_read}
 use Rattle.operands.specs.Operands.{with_bytes_to}
 use borrow.Author.Tests.{not-true, not-false}
 use mathlib.Core.Path.{sym, ap, ◌∙◌}
-use borrow.Author.Rules.{rules}
 use Rattle.operands.proofs.take_bytes.Goals as goal
 
 pub returns-then-not-takes_bytes : goal.returns-then-not-takes_bytes

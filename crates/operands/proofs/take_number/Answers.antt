@@ -3,7 +3,6 @@
 use Rattle.operands.proofs.Steps.{first-none, first_read}
 use Rattle.operands.specs.Operands.{with_number_to, take_first}
 use mathlib.Core.Path.{sym, ap, ◌∙◌}
-use borrow.Author.Rules.{rules}
 use Rattle.operands.proofs.take_number.Goals as goal
 
 pub returns-then-is_nothing : goal.returns-then-is_nothing

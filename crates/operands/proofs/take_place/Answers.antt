@@ -4,7 +4,6 @@ use Rattle.operands.proofs.Steps.{place_none, place_read}
 use Rattle.operands.specs.Operands.{with_place_to}
 use borrow.Author.Tests.{not-true, not-false}
 use mathlib.Core.Path.{sym, ap, ◌∙◌}
-use borrow.Author.Rules.{rules}
 use Rattle.operands.proofs.take_place.Goals as goal
 
 pub returns-then-not-takes_place : goal.returns-then-not-takes_place

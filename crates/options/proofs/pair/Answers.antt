@@ -2,7 +2,6 @@
 -- Assumes nothing.
 use Rattle.options.specs.Options.{both_or_none, paired}
 use mathlib.Core.Path.{sym, ap, ◌∙◌}
-use borrow.Author.Rules.{rules}
 use Rattle.options.proofs.pair.Goals as goal
 
 pub returns-then-last : goal.returns-then-last

@@ -2,7 +2,6 @@
 -- Assumes nothing.
 use Rattle.options.specs.Options.{paired, options_of}
 use mathlib.Core.Path.{ap, ◌∙◌}
-use borrow.Author.Rules.{rules}
 use Rattle.options.proofs.read_options.Goals as goal
 
 pub returns : goal.returns

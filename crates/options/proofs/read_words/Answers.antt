@@ -2,13 +2,10 @@
 -- behind the one before it, so what is left of the line falls.
 -- Assumes nothing.
 use Rattle.options.proofs.Turns.{begun, turned, stop}
-use Rattle.options.specs.Options.{take_words, words_of}
-use Rattle.words.specs.Bounds.{Within}
 use lib.ListN.{length}
-use borrow.Author.Rules.{rules}
 use native.Mathlib.Omega.{arith}
 use Prim.Native.Nat.{◌-◌}
-use mathlib.Core.Path.{◌≡◌, sym, ◌∙◌}
+use mathlib.Core.Path.{sym, ◌∙◌}
 use Rattle.options.proofs.read_words.Goals as goal
 
 pub loop-w-init : goal.loop-w-init

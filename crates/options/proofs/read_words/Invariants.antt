@@ -8,10 +8,8 @@ use Prim.Native.Nat.{◌-◌}
 use mathlib.Core.Path.{◌≡◌}
 use Rattle.options.proofs.read_words.Given as goal
 
-
 abbrev pub invariant-loop-w : goal.invariant-loop-w
 invariant-loop-w l = Within (length l.line) l.w × (take_words (length l.line) l.line l.c l.s l.w ≡ words_of l.line l.c l.at)
-
 
 abbrev pub decreases-loop-w : goal.decreases-loop-w
 decreases-loop-w l = length l.line - l.w.start

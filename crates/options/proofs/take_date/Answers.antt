@@ -5,7 +5,6 @@ use Rattle.settings.specs.declared.Days.{Days}
 use Rattle.options.specs.Options.{date_taken}
 use Rattle.settings.specs.Settings.{with_days}
 use mathlib.Core.Path.{sym, ap, ◌∙◌}
-use borrow.Author.Rules.{rules}
 use Rattle.options.proofs.take_date.Goals as goal
 
 pub returns-in-Value : goal.returns-in-Value

@@ -4,7 +4,6 @@ use Rattle.words.proofs.Spans.{value_within}
 use Rattle.options.specs.Options.{key_taken, take_option}
 use native.Mathlib.Omega.{arith}
 use mathlib.Core.Path.{sym, ap, ◌∙◌}
-use borrow.Author.Rules.{rules}
 use Rattle.options.proofs.take_option.Goals as goal
 
 pub overflow_add-start : goal.overflow_add-start

@@ -2,7 +2,6 @@
 -- Assumes nothing.
 use Rattle.options.specs.Options.{script_taken}
 use mathlib.Core.Path.{sym, ap, ◌∙◌}
-use borrow.Author.Rules.{rules}
 use Rattle.options.proofs.take_script.Goals as goal
 
 pub returns-in-Fine : goal.returns-in-Fine

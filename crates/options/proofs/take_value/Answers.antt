@@ -2,7 +2,6 @@
 -- Assumes nothing.
 use Rattle.options.specs.Options.{take_value}
 use mathlib.Core.Path.{sym, ◌∙◌}
-use borrow.Author.Rules.{rules}
 use Rattle.options.proofs.take_value.Goals as goal
 
 pub returns-then-is_given : goal.returns-then-is_given

@@ -8,7 +8,6 @@ use Rattle.faults.specs.declared.Fault.TheVariants as Fault
 use mathlib.Core.Bool.{true, false}
 use borrow.Author.Tests.{not-true, not-false}
 use mathlib.Core.Path.{refl, sym, ap, ◌∙◌}
-use borrow.Author.Rules.{rules}
 use Rattle.options.proofs.take_word.Goals as goal
 
 pub returns-then-not-is_call : goal.returns-then-not-is_call

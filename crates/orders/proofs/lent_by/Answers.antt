@@ -3,7 +3,6 @@
 use Rattle.orders.specs.declared.Lent.TheVariants as Lent
 use mathlib.Core.Bool.{Bool, cond}
 use mathlib.Core.Path.{sym, ap}
-use borrow.Author.Rules.{rules}
 use Rattle.orders.proofs.lent_by.Goals as goal
 
 pub returns-then-s : goal.returns-then-s

@@ -2,7 +2,6 @@
 -- Assumes nothing.
 use Prim.Native.Nat.{◌%◌}
 use Rattle.orders.specs.Orders.{order_of}
-use borrow.Author.Rules.{rules}
 use Rattle.orders.proofs.order_of.Goals as goal
 
 pub returns : goal.returns

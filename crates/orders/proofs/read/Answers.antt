@@ -5,7 +5,6 @@ use Rattle.faults.specs.declared.Fault.TheVariants as Fault
 use Rattle.orders.proofs.Whole.{too_long, blank, commanded}
 use Rattle.orders.specs.Lines.{with_command}
 use mathlib.Core.Path.{sym, ap, ◌∙◌}
-use borrow.Author.Rules.{rules}
 use Rattle.orders.proofs.read.Goals as goal
 
 pub returns-then-line-gt-LONGEST : goal.returns-then-line-gt-LONGEST

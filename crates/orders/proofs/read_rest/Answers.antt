@@ -3,7 +3,6 @@
 use Rattle.orders.specs.declared.Reading.TheVariants as Reading
 use Rattle.orders.specs.Lines.{with_options, with_operands}
 use mathlib.Core.Path.{sym, ap, ◌∙◌}
-use borrow.Author.Rules.{rules}
 use Rattle.orders.proofs.read_rest.Goals as goal
 
 pub returns-in-More-p : goal.returns-in-More-p

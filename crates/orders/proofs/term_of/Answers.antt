@@ -3,7 +3,6 @@
 use Rattle.dates.specs.declared.Term.TheVariants as Term
 use mathlib.Core.Bool.{Bool, cond}
 use mathlib.Core.Path.{sym, ap}
-use borrow.Author.Rules.{rules}
 use Rattle.orders.proofs.term_of.Goals as goal
 
 pub returns-then-d : goal.returns-then-d

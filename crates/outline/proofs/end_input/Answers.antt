@@ -1,6 +1,5 @@
 -- `outline::end_input` meets its contract: the last line ends, unless the input could not be read. Assumes nothing.
 use Rattle.outline.proofs.Laws.{closes_unread, closes_read}
-use borrow.Author.Rules.{rules}
 use Rattle.outline.proofs.end_input.Goals as goal
 
 pub returns-then-i : goal.returns-then-i

@@ -1,9 +1,7 @@
 -- `outline::read_piece` meets its contract: the piece is counted, and read in a row behind what was read. Assumes nothing.
-use mathlib.Core.List.{List}
 use mathlib.Core.Path.{sym}
 use Rattle.inputs.proofs.Laws.{written_out}
 use Rattle.outline.proofs.Laws.{went_stopped, went_by}
-use borrow.Author.Rules.{rules}
 use Rattle.outline.proofs.read_piece.Goals as goal
 
 pub returns-then-n-eq0 : goal.returns-then-n-eq0

@@ -3,7 +3,6 @@
 use mathlib.Core.Path.{sym, ◌∙◌}
 use native.Mathlib.Omega.{arith}
 use lib.ListN.{length}
-use borrow.Author.Rules.{rules}
 use Rattle.slices.proofs.Laws.{tabulate-part, run-part}
 use Rattle.page_data.proofs.copy_from.Goals as goal
 

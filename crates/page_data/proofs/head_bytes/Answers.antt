@@ -1,7 +1,6 @@
 -- `page_data::head_bytes` meets its contract: the bytes are those of the definition, one by one.
 -- Assumes nothing.
 use mathlib.Core.List.{[], ◌∷◌}
-use borrow.Author.Rules.{rules}
 use Rattle.slots.specs.Records.{head_size, version_of, day_bytes, period_bytes}
 use Rattle.page_data.proofs.head_bytes.Goals as goal
 

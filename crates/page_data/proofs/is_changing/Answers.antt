@@ -3,7 +3,6 @@
 use mathlib.Core.Path.{sym, ap}
 use Rattle.slots.specs.declared.Verdict.{Verdict}
 use Rattle.slots.specs.Records.{changed}
-use borrow.Author.Rules.{rules}
 use Rattle.page_data.proofs.is_changing.Goals as goal
 
 pub returns-in-Good : goal.returns-in-Good

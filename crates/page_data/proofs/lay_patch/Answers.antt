@@ -4,7 +4,6 @@ use mathlib.Core.Path.{refl, sym, ◌∙◌}
 use Prim.Native.Nat.{◌+◌, ◌-◌}
 use native.Mathlib.Omega.{arith}
 use lib.ListN.{length}
-use borrow.Author.Rules.{rules}
 use Rattle.slices.proofs.Laws.{run_length}
 use Rattle.page_data.proofs.Bytes.{laid_before, laid-after, run-left, run_right, laid-some}
 use Rattle.page_data.proofs.lay_patch.Goals as goal
@@ -43,5 +42,5 @@ returns c =
     let copy = c.copy in
     let a = c.args in
     laid-some a.head a.place a.bytes.now a.start a.part.now excess.result excess2.result lesser.result
-    copy.new.0 excess.ensures excess2.ensures c.if-part-to.false
+    copy.new.part excess.ensures excess2.ensures c.if-part-to.false
     c.if-bytes-from.false lesser.ensures copy.ensures

@@ -2,12 +2,10 @@
 -- the head has.
 -- Assumes nothing.
 use mathlib.Core.Path.{sym, ap, ◌∙◌}
-use mathlib.Core.List.{List}
-use Prim.Native.Nat.{ℕ, ◌≤◌}
+use Prim.Native.Nat.{ℕ}
 use native.Mathlib.Omega.{arith}
 use lib.ListN.{length, take}
 use lib.Seq.{length-take-le}
-use borrow.Author.Rules.{rules}
 use Rattle.slots.specs.Records.{head_size}
 use Rattle.page_data.proofs.Pages.{image_made, image_later}
 use Rattle.page_data.proofs.load_image.Goals as goal
@@ -34,7 +32,7 @@ returns-then-start-eq0 c =
     let h = c.head_size-head in
     let r = c.copy_from in
     let k = h.ensures.0 ∙ ap head_size c.version_of.ensures in
-    image_made a.period a.recipe.now a.part.now c.copy.new.0 r.new.0 a.start h.result c.requires.1 k c.if-start-eq0.true
+    image_made a.period a.recipe.now a.part.now c.copy.new.part r.new.part a.start h.result c.requires.1 k c.if-start-eq0.true
     (c.copy.ensures ∙ ap (λ (n : ℕ). take n c.head_bytes-bytes.result) k ∙ c.head_bytes-bytes.ensures) r.ensures
 
 pub overflow_sub-start : goal.overflow_sub-start

@@ -3,7 +3,6 @@
 use native.Mathlib.Omega.{arith}
 use lib.ListN.{length}
 use borrow.Author.Tests.{not-true, not-false}
-use borrow.Author.Rules.{rules}
 use Rattle.page_data.proofs.Pages.{patch-kept, patch-laid}
 use Rattle.page_data.proofs.load_patched.Goals as goal
 
@@ -12,7 +11,7 @@ returns-then-not-is_changing c =
     let a = c.args in
     let r = c.copy in
     let h = c.is_changing in
-    patch-kept a.verdict a.aim a.payload.now a.staged.now a.start (length a.part.now) (omega (arith, c.requires.0, c.requires.1)) r.new.0 r.ensures
+    patch-kept a.verdict a.aim a.payload.now a.staged.now a.start (length a.part.now) (omega (arith, c.requires.0, c.requires.1)) r.new.part r.ensures
     h.ensures (not-true h.result c.if-not-is_changing.true-raw)
 
 pub returns : goal.returns
@@ -22,5 +21,5 @@ returns c =
     let b = c.body_start in
     let l = c.lay_patch in
     let h = c.is_changing in
-    patch-laid a.verdict a.aim a.payload.now a.staged.now a.start (length a.part.now) (omega (arith, c.requires.0, c.requires.1)) r.new.0 r.ensures
-    b.result l.new.1.1.1.1.0 h.ensures (not-false h.result c.if-not-is_changing.false-raw) b.ensures.0 l.ensures
+    patch-laid a.verdict a.aim a.payload.now a.staged.now a.start (length a.part.now) (omega (arith, c.requires.0, c.requires.1)) r.new.part r.ensures
+    b.result l.new.part h.ensures (not-false h.result c.if-not-is_changing.false-raw) b.ensures.0 l.ensures

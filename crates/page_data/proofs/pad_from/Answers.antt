@@ -4,7 +4,6 @@ use mathlib.Core.Path.{sym, ◌∙◌}
 use native.Mathlib.Omega.{arith}
 use lib.Seq.{length-take-le}
 use lib.ListN.{length, length-take, length-drop}
-use borrow.Author.Rules.{rules}
 use Rattle.page_data.proofs.Bytes.{copied_none, copied_some}
 use Rattle.page_data.proofs.pad_from.Goals as goal
 
@@ -14,7 +13,7 @@ returns-then-source-from c =
     c.fill.ensures ∙ copied_none (length a.part.now) a.source.now a.from a.other c.if-source-from.true
 
 pub slice_bounds-copy-end-2 : goal.slice_bounds-copy-end-2
-slice_bounds-copy-end-2 c = sym (length-take-le c.lesser-n.result c.fill.new.0 (omega arith))
+slice_bounds-copy-end-2 c = sym (length-take-le c.lesser-n.result c.fill.new.part (omega arith))
 
 pub copy-requires : goal.copy-requires
 copy-requires c = simp (length-take, length-drop) (omega arith)
@@ -25,5 +24,5 @@ returns c =
     let fill = c.fill in
     let copy = c.copy in
     let a = c.args in
-    copied_some (length a.part.now) a.source.now a.from a.other lesser.result fill.new.0 copy.new.0
+    copied_some (length a.part.now) a.source.now a.from a.other lesser.result fill.new.part copy.new.part
     c.if-source-from.false fill.ensures lesser.ensures copy.ensures

@@ -3,7 +3,6 @@
 use mathlib.Core.Path.{refl, ◌∙◌}
 use mathlib.Core.List.{[]}
 use native.Mathlib.Omega.{arith}
-use borrow.Author.Rules.{rules}
 use Rattle.geometry.proofs.Pages.{sized_own}
 use Rattle.state.specs.PowerLoss.{lost_memory}
 use Rattle.state.specs.Memory.{state_of, with_registers}

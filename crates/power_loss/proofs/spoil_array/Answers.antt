@@ -1,6 +1,5 @@
 -- `power_loss::spoil_array` meets its contract: the bytes of the operation's run, then those of the sectors of its set.
 -- Assumes nothing.
-use borrow.Author.Rules.{rules}
 use Rattle.geometry.proofs.Pages.{sized_own}
 use Rattle.memory.specs.Pages.{junked}
 use Rattle.state.specs.PowerLoss.{array_lost}

@@ -3,7 +3,6 @@ use lib.Bits.{bit_xor}
 use Prim.Native.Nat.{ℕ}
 use mathlib.Core.Path.{ap, ◌∙◌}
 use Rattle.printing.specs.Texts.{checksum}
-use borrow.Author.Rules.{rules}
 use Rattle.printing.proofs.check_of.Goals as goal
 
 pub returns : goal.returns

@@ -1,6 +1,5 @@
 -- `printing::emit` meets its contract: the line stands behind what waits, or at the start once that is written. Assumes nothing.
 use Rattle.printing.proofs.Laws.{printed_behind, printed_first, printed_lost}
-use borrow.Author.Rules.{rules}
 use Rattle.printing.proofs.emit.Goals as goal
 
 pub returns-then-line-text : goal.returns-then-line-text

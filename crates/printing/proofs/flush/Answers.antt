@@ -1,7 +1,6 @@
 -- `printing::flush` meets its contract: what the writes took is the beginning of what waited. Assumes nothing.
 use native.Mathlib.Omega.{arith}
 use Rattle.printing.proofs.Laws.{flushed_none, flushed_stopped, flushed_taken}
-use borrow.Author.Rules.{rules}
 use Rattle.printing.proofs.flush.Goals as goal
 
 pub returns-then-o : goal.returns-then-o

@@ -1,6 +1,5 @@
 -- `printing::print_answer` meets its contract: the line that the buffer holds is printed. Assumes nothing.
 use Rattle.printing.proofs.Laws.{printed_as, line_of}
-use borrow.Author.Rules.{rules}
 use Rattle.printing.proofs.print_answer.Goals as goal
 
 pub returns : goal.returns

@@ -1,7 +1,6 @@
 -- `printing::print_call` meets its contract: the frames, then the totals. Assumes nothing.
 use Rattle.printing.specs.Texts.{call_text}
 use Rattle.printing.proofs.Laws.{printed_more}
-use borrow.Author.Rules.{rules}
 use Rattle.printing.proofs.print_call.Goals as goal
 
 pub returns : goal.returns

@@ -1,10 +1,8 @@
 -- `printing::print_frames` meets its contract: after i turns the lines of the first i frames are printed. Assumes nothing.
 use native.Mathlib.Omega.{arith}
 use borrow.Author.Rules.{rules}
-use lib.ListN.{length}
 use mathlib.Core.Path.{◌≡◌, refl, ap, ◌∙◌}
-use Prim.Native.Nat.{ℕ, ◌-◌, ◌≤◌, zero-le}
-use Rattle.printing.specs.Held.{Printed}
+use Prim.Native.Nat.{ℕ, ◌-◌, zero-le}
 use Rattle.printing.specs.Texts.{frames_text}
 use Rattle.printing.proofs.Laws.{printed_none, printed_more, printed_as, frames_more}
 use Rattle.printing.proofs.print_frames.Goals as goal
@@ -14,7 +12,7 @@ unfolding frames_text
 loop-i-init c = (zero-le, refl, printed_none c.args.start c.args.text.now)
 
 pub loop-i-preserved : goal.loop-i-preserved
-loop-i-preserved c = (search rules, c.print_frame-o.auto.1.0 ∙ c.loop-i.invariant.1, printed_as (printed_more c.loop-i.invariant.2 c.print_frame-o.ensures) (frames_more c.loop-i.i c.args.log.now))
+loop-i-preserved c = (search rules, c.print_frame-o.auto.text ∙ c.loop-i.invariant.1, printed_as (printed_more c.loop-i.invariant.2 c.print_frame-o.ensures) (frames_more c.loop-i.i c.args.log.now))
 
 pub returns : goal.returns
 returns c =

@@ -6,10 +6,8 @@ use Rattle.printing.specs.Held.{Printed}
 use Rattle.printing.specs.Texts.{frames_text}
 use Rattle.printing.proofs.print_frames.Given as goal
 
-
 abbrev pub invariant-loop-i : goal.invariant-loop-i
 invariant-loop-i l = (l.i ≤ l.n) × (length l.text ≡ length l.initial.text) × Printed (frames_text l.i l.log) l.initial.o l.initial.text l.o l.text
-
 
 abbrev pub decreases-loop-i : goal.decreases-loop-i
 decreases-loop-i l = l.n - l.i

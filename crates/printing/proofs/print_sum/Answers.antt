@@ -3,7 +3,6 @@ use Rattle.lines.specs.Texts.{sum_text}
 use mathlib.Core.Path.{◌∙◌}
 use Rattle.printing.specs.Texts.{sum_line}
 use Rattle.printing.proofs.Laws.{printed_as, line_of}
-use borrow.Author.Rules.{rules}
 use Rattle.printing.proofs.print_sum.Goals as goal
 
 pub returns : goal.returns

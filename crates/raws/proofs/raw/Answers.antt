@@ -4,7 +4,6 @@ use Rattle.runs.proofs.Held.{part_held}
 use Rattle.state.specs.Answers.{number_of}
 use Rattle.registers.proofs.Places.{placed_sized}
 use mathlib.Core.Path.{sym, ap, ◌∙◌}
-use borrow.Author.Rules.{rules}
 use Rattle.raws.proofs.raw.Goals as goal
 
 pub raw_refusal-a-requires : goal.raw_refusal-a-requires

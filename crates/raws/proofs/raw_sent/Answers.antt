@@ -1,6 +1,5 @@
 -- `raws::raw_sent` meets its contract. Assumes nothing.
 use Rattle.runs.proofs.Raws.{raw_taken, raw-sent, raw-fits, raw-cut}
-use borrow.Author.Rules.{rules}
 use Rattle.raws.proofs.raw_sent.Goals as goal
 
 pub exchange-requires : goal.exchange-requires

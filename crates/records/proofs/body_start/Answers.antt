@@ -1,7 +1,6 @@
 -- `records::body_start` meets its contract: the head of the version in byte 0.
 -- Assumes nothing.
 use mathlib.Core.Path.{ap, ◌∙◌}
-use borrow.Author.Rules.{rules}
 use Rattle.slots.specs.Records.{head_size}
 use Rattle.records.proofs.body_start.Goals as goal
 

@@ -1,11 +1,10 @@
 -- `records::is_record` meets its contract: the version is tested first, and then the length against its limit.
 -- Assumes nothing.
-use mathlib.Core.Bool.{Bool, true, ◌&&◌, ◌||◌}
+use mathlib.Core.Bool.{Bool, ◌&&◌, ◌||◌}
 use mathlib.Core.Path.{sym, ap, ◌∙◌}
 use Prim.Native.Nat.{ℕ}
 use lib.Dec.{eqb, leb}
 use borrow.Author.Tests.{not-true, not-false}
-use borrow.Author.Rules.{rules}
 use Rattle.slots.specs.Records.{length_in, version_in, is_record, limit_of}
 use Rattle.records.proofs.is_record.Goals as goal
 

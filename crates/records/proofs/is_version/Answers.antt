@@ -1,6 +1,5 @@
 -- `records::is_version` meets its contract: 1, or else 2.
 -- Assumes nothing.
-use mathlib.Core.Path.{sym}
 use borrow.Author.Tests.{eq-eqb, ne_eqb}
 use Rattle.records.proofs.is_version.Goals as goal
 

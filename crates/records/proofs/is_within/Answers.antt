@@ -1,6 +1,5 @@
 -- `records::is_within` meets its contract: without a term every day is inside; else the day is compared with the first and the last.
 -- Assumes nothing.
-use borrow.Author.Rules.{rules}
 use borrow.Author.Tests.{le-leb, lt-leb}
 use Rattle.slots.specs.Records.{is_within}
 use Rattle.records.proofs.is_within.Goals as goal

@@ -2,7 +2,6 @@
 -- Assumes nothing.
 use mathlib.Core.Path.{ap, ◌∙◌}
 use mathlib.Core.Bool.{cond}
-use borrow.Author.Rules.{rules}
 use Rattle.slots.specs.declared.Period.{Period}
 use Rattle.slots.specs.declared.Verdict.TheVariants.{Good, Blank, Outside}
 use Rattle.slots.specs.Records.{is_within, get_verdict}

@@ -4,7 +4,6 @@ use mathlib.Core.Path.{ap, ◌∙◌}
 use mathlib.Core.Bool.{cond}
 use Prim.Native.Nat.{ℕ, ◌+◌}
 use lib.Dec.{ltb}
-use borrow.Author.Rules.{rules}
 use Rattle.slots.specs.declared.Verdict.TheVariants.{Good, Blank, Beyond}
 use Rattle.slots.specs.Records.{length_in, patch_verdict}
 use Rattle.records.proofs.Ends.{not_later}

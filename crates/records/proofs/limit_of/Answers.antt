@@ -2,7 +2,6 @@
 -- Assumes nothing.
 use mathlib.Core.Path.{ap}
 use Prim.Native.Nat.{ℕ, ◌-◌, ◌*◌}
-use borrow.Author.Rules.{rules}
 use Rattle.slots.specs.Records.{slot_size, limit_of}
 use Rattle.records.proofs.limit_of.Goals as goal
 

@@ -1,7 +1,6 @@
 -- `records::miscompare` meets its contract: each verdict has its own.
 -- Assumes nothing.
 use Rattle.slots.specs.Driver.{miscomparing}
-use borrow.Author.Rules.{rules}
 use Rattle.records.proofs.miscompare.Goals as goal
 
 pub returns-in-Good : goal.returns-in-Good

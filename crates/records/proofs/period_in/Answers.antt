@@ -2,8 +2,6 @@
 -- Assumes nothing.
 use mathlib.Core.Bool.{Bool, cond}
 use mathlib.Core.Path.{sym, ap, ◌∙◌}
-use lib.Dec.{eqb}
-use borrow.Author.Rules.{rules}
 use borrow.Author.Tests.{eq-eqb, ne_eqb}
 use Rattle.slots.specs.declared.Period.TheVariants.{Always, Days}
 use Rattle.slots.specs.Records.{day_in, version_in, period_in}

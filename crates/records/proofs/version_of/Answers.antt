@@ -1,6 +1,5 @@
 -- `records::version_of` meets its contract: 2 with a term, 1 without.
 -- Assumes nothing.
-use borrow.Author.Rules.{rules}
 use Rattle.slots.specs.Records.{version_of}
 use Rattle.records.proofs.version_of.Goals as goal
 

@@ -1,7 +1,6 @@
 -- `refusals::bad_script` meets its contract: the largest byte tells both tests.
 -- Assumes nothing.
 use Rattle.refusals.proofs.Scripts.{fine_below, bad_above, cut_two, small}
-use borrow.Author.Rules.{rules}
 use Rattle.refusals.proofs.bad_script.Goals as goal
 
 pub returns-then-most-lt2 : goal.returns-then-most-lt2

@@ -3,7 +3,6 @@
 use mathlib.Core.Path.{sym, ◌∙◌}
 use Rattle.slots.specs.Lists.{asking}
 use Rattle.refusals.proofs.Calls.{early_told, late_told, limit-few}
-use borrow.Author.Rules.{rules}
 use Rattle.refusals.proofs.call_refusal.Goals as goal
 
 pub returns-then-number-ne0 : goal.returns-then-number-ne0

@@ -4,7 +4,6 @@ use mathlib.Core.Bool.{true, false}
 use mathlib.Core.Path.{◌≡◌, sym, ◌∙◌}
 use borrow.Author.Tests.{lt-ltb, le-ltb}
 use Rattle.slots.specs.Refusals.{bad_script, late_refusal}
-use borrow.Author.Rules.{rules}
 use Rattle.refusals.proofs.late_refusal.Goals as goal
 
 pub returns-then-log-least : goal.returns-then-log-least

@@ -6,7 +6,6 @@ use lib.ListN.{length}
 use borrow.Author.Tests.{not-true, not-false}
 use Rattle.state.specs.Outcomes.{framed}
 use Rattle.slots.specs.Refusals.{raw_refusal}
-use borrow.Author.Rules.{rules}
 use Rattle.refusals.proofs.raw_refusal.Goals as goal
 
 pub returns-then-not-is_framed : goal.returns-then-not-is_framed

@@ -1,6 +1,5 @@
 -- `register_ends::complete` meets its contract: what the operation does, then idle.
 -- Assumes nothing.
-use borrow.Author.Rules.{rules}
 use Rattle.control.specs.Completion.{completed}
 use Rattle.register_ends.proofs.complete.Goals as goal
 

@@ -1,6 +1,5 @@
 -- `register_ends::lock` meets its contract: one setter over the locked bytes.
 -- Assumes nothing.
-use borrow.Author.Rules.{rules}
 use Rattle.register_ends.proofs.lock.Goals as goal
 
 pub returns : goal.returns

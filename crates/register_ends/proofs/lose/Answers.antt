@@ -1,6 +1,5 @@
 -- `register_ends::lose` meets its contract: what the cut does to the operation, then the restart.
 -- Assumes nothing.
-use borrow.Author.Rules.{rules}
 use Rattle.control.specs.PowerLoss.{lost}
 use Rattle.register_ends.proofs.lose.Goals as goal
 

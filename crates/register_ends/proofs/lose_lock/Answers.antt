@@ -2,7 +2,6 @@
 -- with (`lock_cut`, `lock_kept`).
 -- Assumes nothing.
 use mathlib.Core.Path.{◌∙◌}
-use borrow.Author.Rules.{rules}
 use Rattle.control.proofs.Steps.{lock_cut, lock_kept}
 use Rattle.register_ends.proofs.lose_lock.Goals as goal
 

@@ -2,7 +2,6 @@
 -- Assumes nothing.
 use Rattle.control.proofs.Steps.{lock_small, update-lost}
 use mathlib.Core.Path.{refl}
-use borrow.Author.Rules.{rules}
 use Rattle.register_ends.proofs.lose_operation.Goals as goal
 
 pub lose_lock-requires : goal.lose_lock-requires

@@ -1,6 +1,5 @@
 -- `registers::facts_of` meets its contract: arm for arm the table.
 -- Assumes nothing.
-use borrow.Author.Rules.{rules}
 use Rattle.registers.proofs.facts_of.Goals as goal
 
 pub returns-in-Program : goal.returns-in-Program

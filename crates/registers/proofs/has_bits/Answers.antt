@@ -1,7 +1,6 @@
 -- `registers::has_bits` meets its contract: the test is the definition's.
 -- Assumes nothing.
 use Rattle.registers.specs.Protection.{has_bits}
-use borrow.Author.Rules.{rules}
 use Rattle.registers.proofs.has_bits.Goals as goal
 
 pub returns : goal.returns

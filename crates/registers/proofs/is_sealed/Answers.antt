@@ -8,7 +8,6 @@ use Rattle.geometry.specs.declared.Geometry.{Geometry}
 use Rattle.registers.specs.declared.Registers.{Registers}
 use Rattle.registers.specs.declared.Seals.{Seals}
 use Rattle.registers.specs.Protection.{has_bits, seals_of}
-use borrow.Author.Rules.{rules}
 use Rattle.registers.proofs.is_sealed.Goals as goal
 
 -- what holds of the seals holds of the registers that have them

@@ -2,7 +2,6 @@
 -- Assumes nothing.
 use Rattle.geometry.proofs.Sectors.{sectors_few}
 use native.Mathlib.Omega.{arith}
-use borrow.Author.Rules.{rules}
 use Rattle.registers.proofs.is_within.Goals as goal
 
 pub power-requires : goal.power-requires

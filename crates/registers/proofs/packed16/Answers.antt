@@ -1,7 +1,6 @@
 -- `registers::packed16` meets its contract, word for word.
 -- Assumes nothing.
 use Rattle.registers.specs.Data.{pack16}
-use borrow.Author.Rules.{rules}
 use Rattle.registers.proofs.packed16.Goals as goal
 
 pub returns : goal.returns

@@ -3,7 +3,6 @@
 use mathlib.Core.Path.{sym, ◌∙◌}
 use Rattle.geometry.proofs.Pages.{sized, sized_own}
 use Rattle.registers.proofs.Places.{known_placed, known_beyond, unknown_placed, within-tested}
-use borrow.Author.Rules.{rules}
 use Rattle.registers.proofs.place.Goals as goal
 
 pub is_within-requires : goal.is_within-requires
@@ -15,16 +14,14 @@ is_within-requires c =
 pub returns-then-is_within : goal.returns-then-is_within
 returns-then-is_within c =
     let s = c.args in
-    let p = c.p-1 in
-    let e = sym c.part_of-p.ensures ∙ p.given.1 in
-    sym (known_placed s.length s.o _ e (within-tested _ s.o c.facts_of-f.ensures c.is_Within.ensures c.if-is_within.true))
+    let e = sym c.part_of-p.ensures ∙ c.in-Known.is in
+    sym (known_placed s.length s.o _ e (within-tested _ s.o c.facts_of-f.ensures c.is_within.ensures c.if-is_within.true))
 
 pub returns-else-is_within : goal.returns-else-is_within
 returns-else-is_within c =
     let s = c.args in
-    let p = c.p-1 in
-    let e = sym c.part_of-p.ensures ∙ p.given.1 in
-    sym (known_beyond s.length s.o _ e (within-tested _ s.o c.facts_of-f.ensures c.is_Within.ensures c.if-is_within.false))
+    let e = sym c.part_of-p.ensures ∙ c.in-Known.is in
+    sym (known_beyond s.length s.o _ e (within-tested _ s.o c.facts_of-f.ensures c.is_within.ensures c.if-is_within.false))
 
 pub returns-in-Unknown : goal.returns-in-Unknown
 returns-in-Unknown c = let s = c.args in sym (unknown_placed s.length s.o (sym c.part_of-p.ensures ∙ c.in-Unknown.is))

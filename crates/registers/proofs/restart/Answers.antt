@@ -1,6 +1,5 @@
 -- `registers::restart` meets its contract: the three fields that a cut changes.
 -- Assumes nothing.
-use borrow.Author.Rules.{rules}
 use Rattle.registers.proofs.restart.Goals as goal
 
 pub returns : goal.returns

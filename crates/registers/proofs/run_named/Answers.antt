@@ -3,7 +3,6 @@
 use Rattle.registers.proofs.Operations.{named-block, named_sector, runs}
 use Rattle.geometry.proofs.Sectors.{sectors_few}
 use native.Mathlib.Omega.{arith}
-use borrow.Author.Rules.{rules}
 use Rattle.registers.proofs.run_named.Goals as goal
 
 pub overflow_mul-result : goal.overflow_mul-result

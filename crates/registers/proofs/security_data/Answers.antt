@@ -7,7 +7,6 @@ use lib.ListN.{replicate}
 use Rattle.slices.specs.Lists.{ring_write}
 use Rattle.slices.proofs.Laws.{tail_part}
 use Rattle.registers.specs.Data.{padded, pack64}
-use borrow.Author.Rules.{rules}
 use Rattle.registers.proofs.security_data.Goals as goal
 
 pub returns : goal.returns

@@ -6,7 +6,6 @@ use Prim.Native.Nat.{ℕ}
 use Rattle.slices.specs.Lists.{splice}
 use Rattle.slices.specs.Words.{word_bytes}
 use Rattle.registers.proofs.Data.{put16}
-use borrow.Author.Rules.{rules}
 use Rattle.registers.proofs.unpacked16.Goals as goal
 
 pub returns : goal.returns

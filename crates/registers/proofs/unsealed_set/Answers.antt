@@ -1,12 +1,9 @@
 -- `registers::unsealed_set` meets its contract. The loop's invariant: m is the set of the sectors from s on. Assumes nothing.
-use borrow.Author.Rules.{rules}
 use borrow.Author.Tests.{not-true, not-false}
-use mathlib.Core.Path.{◌≡◌, refl, sym, ◌∙◌}
-use Prim.Native.Nat.{◌-◌, ◌≤◌}
+use mathlib.Core.Path.{refl, sym, ◌∙◌}
+use Prim.Native.Nat.{◌-◌}
 use native.Mathlib.Omega.{arith}
-use Rattle.geometry.specs.declared.Geometry.{Geometry}
 use Rattle.geometry.proofs.Sectors.{sectors_few}
-use Rattle.registers.specs.Protection.{Roomed, unsealed_from}
 use Rattle.registers.proofs.Sets.{bare, set_alike, from_none, from_most, from_free, from_sealed, from_all}
 use Rattle.registers.proofs.unsealed_set.Goals as goal
 

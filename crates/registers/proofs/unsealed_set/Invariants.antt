@@ -6,10 +6,8 @@ use Rattle.registers.specs.Protection.{Roomed, unsealed_from}
 use Rattle.registers.proofs.Sets.{bare}
 use Rattle.registers.proofs.unsealed_set.Given as goal
 
-
 abbrev pub invariant-loop-s : goal.invariant-loop-s
 invariant-loop-s l = (l.s ≤ l.initial.s) × ((g : Geometry) → Roomed g → l.m ≡ unsealed_from g (bare l.seals) (l.initial.s - l.s) l.s)
-
 
 abbrev pub decreases-loop-s : goal.decreases-loop-s
 decreases-loop-s l = l.s

@@ -1,6 +1,5 @@
 -- `registers::update_of` meets its contract: arm for arm the table.
 -- Assumes nothing.
-use borrow.Author.Rules.{rules}
 use Rattle.registers.proofs.update_of.Goals as goal
 
 pub returns-in-ProgramProtection : goal.returns-in-ProgramProtection

@@ -5,7 +5,6 @@ use Rattle.slots.specs.Driver.{told_by}
 use Rattle.slots.specs.declared.Stage.{Stage}
 use Rattle.worlds.specs.Step.{told_in}
 use Rattle.results.proofs.Stages.{stage_in_lem}
-use borrow.Author.Rules.{rules}
 use Rattle.results.proofs.answer.Goals as goal
 
 pub returns : goal.returns

@@ -4,7 +4,6 @@ use native.Mathlib.Omega.{arith}
 use mathlib.Core.Path.{sym, ap, ◌∙◌}
 use Rattle.geometry.specs.declared.Part.{Part}
 use Rattle.worlds.specs.Step.{count_by, count_in}
-use borrow.Author.Rules.{rules}
 use Rattle.results.proofs.count.Goals as goal
 
 pub count_on-requires : goal.count_on-requires

@@ -7,7 +7,6 @@ use Rattle.slots.proofs.Driven.{other}
 use Rattle.records.proofs.Parts.{part-pages}
 use Rattle.worlds.specs.Step.{told_in, count_told, count_by}
 use Rattle.results.proofs.Counts.{record_count}
-use borrow.Author.Rules.{rules}
 use Rattle.results.proofs.count_on.Goals as goal
 
 pub is_record-requires : goal.is_record-requires

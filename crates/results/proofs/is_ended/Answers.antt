@@ -3,7 +3,6 @@
 use mathlib.Core.Path.{ap, ◌∙◌}
 use Rattle.slots.specs.Driver.{is_ended}
 use Rattle.results.proofs.Stages.{stage_in_lem}
-use borrow.Author.Rules.{rules}
 use Rattle.results.proofs.is_ended.Goals as goal
 
 pub returns : goal.returns

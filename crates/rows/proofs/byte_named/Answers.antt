@@ -1,7 +1,6 @@
 -- `rows::byte_named` meets its contract: the byte of the address that `address_at` reads.
 -- Assumes nothing.
 use mathlib.Core.Path.{◌∙◌, ap}
-use borrow.Author.Rules.{rules}
 use Rattle.geometry.specs.Parts.{byte_at}
 use Rattle.rows.proofs.byte_named.Goals as goal
 

@@ -1,6 +1,5 @@
 -- `rows::compare` meets its contract: the row has the page that the frame names.
 -- Assumes nothing.
-use borrow.Author.Rules.{rules}
 use Rattle.control.specs.Control.{row_decided}
 use Rattle.control.specs.Rulings.{applied, changed}
 use Rattle.rows.proofs.compare.Goals as goal

@@ -1,6 +1,5 @@
 -- `rows::erase_block` meets its contract: the row has the block of the page that the frame names.
 -- Assumes nothing.
-use borrow.Author.Rules.{rules}
 use Rattle.control.specs.Control.{row_decided}
 use Rattle.rows.proofs.erase_block.Goals as goal
 

@@ -1,6 +1,5 @@
 -- `rows::erase_chip` meets its contract: the row has the sectors that are not sealed.
 -- Assumes nothing.
-use borrow.Author.Rules.{rules}
 use Rattle.control.specs.Control.{row_decided}
 use Rattle.control.specs.Rulings.{applied, changed}
 use Rattle.control.proofs.Bearing.{seals_of_lem}

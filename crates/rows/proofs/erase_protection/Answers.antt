@@ -1,6 +1,5 @@
 -- `rows::erase_protection` meets its contract: WP decides (`erased-high`, `erased-low`).
 -- Assumes nothing.
-use borrow.Author.Rules.{rules}
 use Rattle.control.specs.Rulings.{applied, changed}
 use Rattle.control.proofs.Bearing.{wp_of}
 use Rattle.control.proofs.Steps.{erased-high, erased-low}

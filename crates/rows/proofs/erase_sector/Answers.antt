@@ -1,6 +1,5 @@
 -- `rows::erase_sector` meets its contract: the row has the sector of the page that the frame names.
 -- Assumes nothing.
-use borrow.Author.Rules.{rules}
 use Rattle.control.specs.Control.{row_decided}
 use Rattle.rows.proofs.erase_sector.Goals as goal
 

@@ -1,6 +1,5 @@
 -- `rows::lock_sector` meets its contract: the row has the sector of the page that bytes 4 to 6 name.
 -- Assumes nothing.
-use borrow.Author.Rules.{rules}
 use Rattle.control.specs.Control.{sector_locked}
 use Rattle.control.specs.Rulings.{applied, changed}
 use Rattle.rows.proofs.lock_sector.Goals as goal

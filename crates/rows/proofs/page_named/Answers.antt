@@ -1,7 +1,6 @@
 -- `rows::page_named` meets its contract: the page of the address that `address_at` reads.
 -- Assumes nothing.
 use mathlib.Core.Path.{◌∙◌, ap}
-use borrow.Author.Rules.{rules}
 use Rattle.geometry.specs.Parts.{page_at}
 use Rattle.rows.proofs.page_named.Goals as goal
 

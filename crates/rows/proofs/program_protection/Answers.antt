@@ -3,7 +3,6 @@
 use Prim.Native.Nat.{ℕ}
 use lib.ListN.{drop}
 use mathlib.Core.Path.{sym, ap, ◌∙◌}
-use borrow.Author.Rules.{rules}
 use Rattle.registers.specs.Data.{padded, pack16}
 use Rattle.control.specs.Control.{protection_data}
 use Rattle.control.specs.Rulings.{applied, changed}

@@ -1,6 +1,5 @@
 -- `rows::program_security` meets its contract: the used mark decides (`security_free`, `security_used`).
 -- Assumes nothing.
-use borrow.Author.Rules.{rules}
 use Rattle.control.specs.Control.{security_data}
 use Rattle.control.specs.Rulings.{applied, changed}
 use Rattle.control.proofs.Bearing.{used_of}

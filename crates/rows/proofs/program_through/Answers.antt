@@ -4,7 +4,6 @@
 use mathlib.Core.Path.{◌∙◌, ap}
 use native.Mathlib.Omega.{arith}
 use Rattle.geometry.proofs.Sectors.{sector_served}
-use borrow.Author.Rules.{rules}
 use Rattle.geometry.specs.Parts.{page_at, byte_at, address_at}
 use Rattle.geometry.specs.Sectors.{sector_of}
 use Rattle.control.specs.Control.{row_decided}

@@ -1,6 +1,5 @@
 -- `rows::protect_off` meets its contract: WP decides (`off_high`, `off_low`).
 -- Assumes nothing.
-use borrow.Author.Rules.{rules}
 use Rattle.control.specs.Rulings.{applied, changed}
 use Rattle.control.proofs.Bearing.{wp_of}
 use Rattle.control.proofs.Steps.{off_high, off_low}

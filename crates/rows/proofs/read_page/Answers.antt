@@ -1,6 +1,5 @@
 -- `rows::read_page` meets its contract: the row has the page and the byte that the frame names.
 -- Assumes nothing.
-use borrow.Author.Rules.{rules}
 use Rattle.control.specs.Control.{row_decided}
 use Rattle.control.specs.Rulings.{applied, changed}
 use Rattle.rows.proofs.read_page.Goals as goal

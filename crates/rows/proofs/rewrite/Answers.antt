@@ -1,6 +1,5 @@
 -- `rows::rewrite` meets its contract: the row has the page that the frame names.
 -- Assumes nothing.
-use borrow.Author.Rules.{rules}
 use Rattle.control.specs.Control.{row_decided}
 use Rattle.rows.proofs.rewrite.Goals as goal
 

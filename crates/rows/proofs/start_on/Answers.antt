@@ -3,7 +3,6 @@
 use mathlib.Core.Path.{sym}
 use native.Mathlib.Omega.{arith}
 use Rattle.geometry.proofs.Sectors.{sector_served}
-use borrow.Author.Rules.{rules}
 use Rattle.control.specs.Rulings.{applied, changed}
 use Rattle.control.proofs.Bearing.{seals_of_lem}
 use Rattle.control.proofs.Frames.{started_open, started-sealed}

@@ -2,7 +2,6 @@
 -- row`); the frame holds what the row reads (`decoded-room`, `decoded-data`).
 -- Assumes nothing.
 use mathlib.Core.Path.{sym, ◌∙◌}
-use borrow.Author.Rules.{rules}
 use Rattle.control.specs.Rulings.{applied, changed}
 use Rattle.control.proofs.Steps.{obeyed-row, refused-row, decoded_room, decoded_data}
 use Rattle.rulings.proofs.control_frame.Goals as goal

@@ -2,7 +2,6 @@
 -- (`has_room`, `has_data`).
 -- Assumes nothing.
 use mathlib.Core.Path.{refl}
-use borrow.Author.Rules.{rules}
 use Rattle.commands.specs.Room.{room, takes}
 use Rattle.control.specs.Control.{row_decided}
 use Rattle.control.specs.Rulings.{applied, changed}

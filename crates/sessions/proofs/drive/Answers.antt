@@ -1,15 +1,11 @@
 -- `sessions::drive` meets its contract. Assumes nothing.
-use Rattle.runs.proofs.Loop.{Along, along_start, start-going, along_going, along_turned, turned_less, along_ended}
-use Rattle.runs.specs.Runs.{bound_by}
-use Rattle.runs.specs.Exchange.{Canonical}
+use Rattle.runs.proofs.Loop.{along_start, start-going, along_going, along_turned, turned_less, along_ended}
 use Rattle.blocks.specs.Promises.{held_in}
 use Rattle.slots.proofs.Places.{never}
-use Rattle.slots.specs.Driver.{is_ended}
 use Prim.Native.Nat.{◌-◌}
 use mathlib.Core.Bool.{true}
-use mathlib.Core.Path.{◌≡◌, sym, ◌∙◌}
+use mathlib.Core.Path.{sym, ◌∙◌}
 use borrow.Author.Tests.{not-true, not-false}
-use borrow.Author.Rules.{rules}
 use Rattle.sessions.proofs.drive.Goals as goal
 
 pub loop-g-init : goal.loop-g-init

@@ -6,7 +6,6 @@ use Rattle.state.specs.declared.Answer.TheVariants as Answers
 use borrow.Author.Tests.{eq-eqb, ne_eqb}
 use mathlib.Core.Bool.{Bool, cond}
 use mathlib.Core.Path.{sym, ap, ◌∙◌}
-use borrow.Author.Rules.{rules}
 use Rattle.sessions.proofs.heed.Goals as goal
 
 pub returns-then-b-eq2 : goal.returns-then-b-eq2

@@ -1,7 +1,6 @@
 -- `sessions::is_going` meets its contract. Assumes nothing.
 use mathlib.Core.Bool.{not}
 use mathlib.Core.Path.{ap}
-use borrow.Author.Rules.{rules}
 use Rattle.sessions.proofs.is_going.Goals as goal
 
 pub returns : goal.returns

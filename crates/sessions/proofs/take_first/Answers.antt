@@ -2,7 +2,6 @@
 -- Assumes nothing.
 use lib.Seq.{length-take-le}
 use mathlib.Core.Path.{sym, ◌∙◌}
-use borrow.Author.Rules.{rules}
 use Rattle.worlds.specs.Turns.{with}
 use Rattle.sessions.proofs.take_first.Goals as goal
 

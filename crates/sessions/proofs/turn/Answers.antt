@@ -5,7 +5,6 @@ use Rattle.slots.specs.Plans.{is_wait}
 use mathlib.Core.Bool.{cond}
 use Rattle.blocks.specs.Promises.{held_in}
 use Rattle.turns.proofs.Turns.{sound-pages, sound-slot}
-use Rattle.geometry.proofs.Pages.{sized}
 use Rattle.slots.specs.declared.Step.{Step}
 use lib.ListN.{length}
 use mathlib.Core.Path.{◌≡◌, ap, ◌∙◌}
@@ -37,7 +36,7 @@ take_first-e-requires c =
     let a = c.args in
     let k = written_taken a.g (held_in a.block.now a.array.now) a.s a.log.now c.requires a.payload.now a.staged.now a.frame.now (long c.before.before.before.before.before.before.before.before)
     (c.step_at-x.ensures.0 a.g) c.write_step-n.ensures in
-    (c.requires.sound, c.step_at-x.ensures.0 a.g, search rules, reply_reaches c.write_step-n.result c.write_step-n.new.1.1.1.1.1.0 c.exchange_first.new.1.1.1.1.0 c.exchange_first.ensures.0 k.0)
+    (c.requires.sound, c.step_at-x.ensures.0 a.g, search rules, reply_reaches c.write_step-n.result c.write_step-n.new.frame c.exchange_first.new.reply c.exchange_first.ensures.0 k.0)
 
 pub overflow_add-result : goal.overflow_add-result
 overflow_add-result c = omega (arith, c.requires.frames)

@@ -2,7 +2,6 @@
 -- Assumes nothing.
 use Rattle.settings.specs.Settings.{is_given}
 use mathlib.Core.Path.{sym, ap}
-use borrow.Author.Rules.{rules}
 use Rattle.settings.proofs.is_given.Goals as goal
 
 pub returns-in-Limit : goal.returns-in-Limit

@@ -3,7 +3,6 @@
 use Rattle.settings.specs.Settings.{with_day}
 use Rattle.words.specs.declared.Key.{Key}
 use mathlib.Core.Path.{sym, ap}
-use borrow.Author.Rules.{rules}
 use Rattle.settings.proofs.with_day.Goals as goal
 
 pub returns-in-First : goal.returns-in-First

@@ -5,7 +5,6 @@ use Rattle.settings.specs.declared.Settings.{Settings}
 use Rattle.words.specs.declared.Key.{Key}
 use mathlib.Core.Path.{◌≡◌, sym, ap}
 use Prim.Native.Nat.{ℕ}
-use borrow.Author.Rules.{rules}
 use Rattle.settings.proofs.with_number.Goals as goal
 
 -- the arm of the key that k is

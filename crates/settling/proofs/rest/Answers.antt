@@ -1,7 +1,6 @@
 -- `settling::rest` meets its contract: marks and compare bit are stored anew, no operation with them, and the rest lies where it lay
 -- (`settled`).
 -- Assumes nothing.
-use borrow.Author.Rules.{rules}
 use mathlib.Core.List.{◌++◌}
 use mathlib.Core.Path.{ap, ◌∙◌}
 use Prim.Native.Nat.{ℕ}
@@ -14,7 +13,7 @@ use Rattle.blocks.proofs.Settled.{settled_chip, settled}
 use Rattle.settling.proofs.rest.Goals as goal
 
 pub shape_of-block : goal.shape_of-block
-shape_of-block c = c.put_idle.auto.0 ∙ length-set c.args.block.now 764 c.flag_byte.result
+shape_of-block c = c.put_idle.auto.block ∙ length-set c.args.block.now 764 c.flag_byte.result
 
 pub returns : goal.returns
 unfolding changed decode_chip decode_registers

@@ -1,7 +1,6 @@
 -- `settling::settle` meets its contract: where nothing changes on an idle chip, storing no operation stores the one that is there; else
 -- `settle_in` does it.
 -- Assumes nothing.
-use borrow.Author.Rules.{rules}
 use mathlib.Core.Path.{◌≡◌, sym, ap, ◌∙◌}
 use Rattle.registers.specs.declared.Operation.TheVariants.{Idle}
 use Rattle.registers.specs.Fields.{with_operation}

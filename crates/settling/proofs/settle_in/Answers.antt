@@ -1,6 +1,5 @@
 -- `settling::settle_in` meets its contract: marks, operation and compare bit are stored anew, and the rest lies where it lay (`settled`).
 -- Assumes nothing.
-use borrow.Author.Rules.{rules}
 use mathlib.Core.List.{◌++◌}
 use mathlib.Core.Path.{ap, ◌∙◌}
 use Prim.Native.Nat.{ℕ}
@@ -12,7 +11,7 @@ use Rattle.blocks.proofs.Settled.{settled_chip, settled}
 use Rattle.settling.proofs.settle_in.Goals as goal
 
 pub shape_of-block-in-Nothing : goal.shape_of-block-in-Nothing
-shape_of-block-in-Nothing c = c.put_operation.auto.0 ∙ length-set c.args.block.now 764 c.flag_byte.result
+shape_of-block-in-Nothing c = c.put_operation.auto.block ∙ length-set c.args.block.now 764 c.flag_byte.result
 
 pub returns-in-Nothing : goal.returns-in-Nothing
 unfolding changed decode_chip decode_registers
@@ -25,7 +24,7 @@ returns-in-Nothing c =
     ∙ (λ i. encode_chip (settled_chip b (c.is_set-used.ensures i) (c.is_set-protect.ensures i) (c.is_set-wp.ensures i) (c.is_set-deep.ensures i) (c.requires.1 i))))
 
 pub shape_of-block-in-Start : goal.shape_of-block-in-Start
-shape_of-block-in-Start c = c.put_operation-in-Start.auto.0 ∙ length-set c.args.block.now 764 c.flag_byte.result
+shape_of-block-in-Start c = c.put_operation-in-Start.auto.block ∙ length-set c.args.block.now 764 c.flag_byte.result
 
 pub returns-in-Start : goal.returns-in-Start
 unfolding changed decode_chip decode_registers
@@ -39,7 +38,7 @@ returns-in-Start c =
     ∙ (λ i. encode_chip (settled_chip b (c.is_set-used.ensures i) (c.is_set-protect.ensures i) (c.is_set-wp.ensures i) (c.is_set-deep.ensures i) x.0.0)))
 
 pub shape_of-block-in-Protect : goal.shape_of-block-in-Protect
-shape_of-block-in-Protect c = c.put_operation-in-Protect.auto.0 ∙ length-set c.args.block.now 764 c.flag_byte.result
+shape_of-block-in-Protect c = c.put_operation-in-Protect.auto.block ∙ length-set c.args.block.now 764 c.flag_byte.result
 
 pub returns-in-Protect : goal.returns-in-Protect
 unfolding changed decode_chip decode_registers
@@ -53,7 +52,7 @@ returns-in-Protect c =
     ∙ (λ i. encode_chip (settled_chip b (c.is_set-used.ensures i) x.0.0 (c.is_set-wp.ensures i) (c.is_set-deep.ensures i) (c.requires.1 i))))
 
 pub shape_of-block-in-Sleep : goal.shape_of-block-in-Sleep
-shape_of-block-in-Sleep c = c.put_operation-in-Sleep.auto.0 ∙ length-set c.args.block.now 764 c.flag_byte.result
+shape_of-block-in-Sleep c = c.put_operation-in-Sleep.auto.block ∙ length-set c.args.block.now 764 c.flag_byte.result
 
 pub returns-in-Sleep : goal.returns-in-Sleep
 unfolding changed decode_chip decode_registers

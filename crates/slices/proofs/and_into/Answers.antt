@@ -1,11 +1,10 @@
 -- `slices::and_into` meets its contract: after i turns the first i bytes are ANDed with those of `mask`, the others as they came. Assumes nothing.
 use mathlib.Core.Path.{sym, ap, ◌∙◌}
-use Prim.Native.Nat.{ℕ, ◌-◌}
-use borrow.Author.Rules.{rules}
-use lib.ListN.{length, get_or}
+use Prim.Native.Nat.{ℕ}
+use lib.ListN.{get_or}
 use lib.Bits.{bit_and}
 use Rattle.slices.proofs.Laws.{and_over-tabulate}
-use Rattle.slices.proofs.Loops.{Stored, stored-none, stored_more, stored-all, stored-rest}
+use Rattle.slices.proofs.Loops.{stored-none, stored_more, stored-all, stored-rest}
 use Rattle.slices.proofs.and_into.Goals as goal
 
 pub loop-i-init : goal.loop-i-init

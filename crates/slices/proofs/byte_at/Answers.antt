@@ -1,7 +1,6 @@
 -- `slices::byte_at` meets its contract: what a slice of bytes holds is below 256. Assumes nothing.
 use mathlib.Core.Path.{refl}
 use native.Mathlib.Omega.{arith}
-use borrow.Author.Rules.{rules}
 use Rattle.slices.proofs.byte_at.Goals as goal
 
 pub overflow_cast-result : goal.overflow_cast-result

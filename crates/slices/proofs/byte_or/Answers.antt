@@ -2,7 +2,6 @@
 -- Assumes nothing.
 use mathlib.Core.Path.{sym}
 use lib.ListN.{get_or-eq_default}
-use borrow.Author.Rules.{rules}
 use Rattle.slices.proofs.Laws.{get_or_other}
 use Rattle.slices.proofs.byte_or.Goals as goal
 

@@ -1,11 +1,10 @@
 -- `slices::copy` meets its contract: after i turns the first i bytes are those of `source`. Assumes nothing.
 use Rattle.slices.specs.Lists.{tabulate}
 use mathlib.Core.Path.{refl, ap, ◌∙◌}
-use Prim.Native.Nat.{ℕ, ◌-◌}
-use borrow.Author.Rules.{rules}
-use lib.ListN.{length, get_or}
+use Prim.Native.Nat.{ℕ}
+use lib.ListN.{get_or}
 use Rattle.slices.proofs.Laws.{tabulate-get_or}
-use Rattle.slices.proofs.Loops.{Stored, stored-none, stored_more, stored-all}
+use Rattle.slices.proofs.Loops.{stored-none, stored_more, stored-all}
 use Rattle.slices.proofs.copy.Goals as goal
 
 pub loop-i-init : goal.loop-i-init

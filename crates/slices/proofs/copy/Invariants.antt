@@ -4,10 +4,8 @@ use lib.ListN.{length, get_or}
 use Rattle.slices.proofs.Loops.{Stored}
 use Rattle.slices.proofs.copy.Given as goal
 
-
 abbrev pub invariant-loop-i : goal.invariant-loop-i
 invariant-loop-i l = Stored (λ k. get_or l.source k 0) l.initial.part l.i l.part
-
 
 abbrev pub decreases-loop-i : goal.decreases-loop-i
 decreases-loop-i l = length l.initial.part - l.i

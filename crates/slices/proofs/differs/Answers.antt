@@ -1,7 +1,7 @@
 -- `slices::differs` meets its contract: the two are the same if none was found before i to differ and what lies from i on is the same. Assumes nothing.
 use mathlib.Core.Path.{◌≡◌, refl, sym, ap, ◌∙◌}
 use mathlib.Core.Bool.{Bool, true, false, not, ◌&&◌}
-use Prim.Native.Nat.{◌+◌, ◌-◌, ◌≤◌, ◌<◌, zero-le}
+use Prim.Native.Nat.{◌+◌, ◌<◌, zero-le}
 use native.Mathlib.Omega.{arith}
 use borrow.Author.Rules.{rules}
 use lib.ListN.{length, drop}
@@ -39,7 +39,7 @@ loop-i-preserved c =
       search rules,
       search rules,
       elim c.if-a-i.branch [
-        then-a-i w ↦ c.loop-i.invariant.2 ∙ ap (λ (t : Bool). not c.loop-i.found && t) (same_not a b i h k w.if-a-i.true) ∙ and-false (not c.loop-i.found) ∙ sym (ap (λ (f : Bool). not f && same (drop (i + 1) a) (drop (i + 1) b)) w.found-is)
+        | then-a-i w ↦ c.loop-i.invariant.2 ∙ ap (λ (t : Bool). not c.loop-i.found && t) (same_not a b i h k w.if-a-i.true) ∙ and-false (not c.loop-i.found) ∙ sym (ap (λ (f : Bool). not f && same (drop (i + 1) a) (drop (i + 1) b)) w.found-is)
         | else-a-i w ↦ c.loop-i.invariant.2 ∙ ap (λ (t : Bool). not c.loop-i.found && t) (same_step a b i h k w.if-a-i.false) ∙ sym (ap (λ (f : Bool). not f && same (drop (i + 1) a) (drop (i + 1) b)) w.found-is)
       ],
     )

@@ -2,12 +2,11 @@
 -- Assumes nothing.
 use mathlib.Core.List.{List, [], ◌∷◌}
 use mathlib.Core.Path.{◌≡◌, refl, ◌∙◌}
-use Prim.Native.Nat.{ℕ, ◌-◌}
+use Prim.Native.Nat.{ℕ}
 use native.Mathlib.Omega.{arith}
-use borrow.Author.Rules.{rules}
 use lib.ListN.{length, set, replicate}
 use Rattle.slices.proofs.Laws.{tabulate_const}
-use Rattle.slices.proofs.Loops.{Stored, stored-none, stored_more, stored-all}
+use Rattle.slices.proofs.Loops.{stored-none, stored_more, stored-all}
 use Rattle.slices.proofs.fill.Goals as goal
 
 one : (xs : List ℕ) (v : ℕ) → length xs ≡ 1 → set xs 0 v ≡ replicate (length xs) v

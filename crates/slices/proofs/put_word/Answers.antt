@@ -4,7 +4,6 @@ use lib.ListN.{length-set}
 use Rattle.slices.specs.Words.{word_bytes}
 use Rattle.slices.proofs.Laws.{splice_cons, splice_nil}
 use native.Mathlib.Nat.{add_assoc}
-use borrow.Author.Rules.{rules}
 use Rattle.slices.proofs.put_word.Goals as goal
 
 pub bounds-bytes-at-2 : goal.bounds-bytes-at-2

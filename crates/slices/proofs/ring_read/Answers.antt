@@ -2,12 +2,9 @@
 use Rattle.slices.proofs.Laws.{run_length}
 use Rattle.slices.specs.Lists.{ring_read}
 use Rattle.slices.proofs.Loops.{stored-all}
-use Rattle.slices.proofs.Runs.{Reading, reading-none, reading_more}
+use Rattle.slices.proofs.Runs.{reading-none, reading_more}
 use mathlib.Core.Path.{sym, ◌∙◌}
-use Prim.Native.Nat.{◌-◌}
 use native.Mathlib.Omega.{arith}
-use borrow.Author.Rules.{rules}
-use lib.ListN.{length}
 use Rattle.slices.proofs.ring_read.Goals as goal
 
 pub loop-done-init : goal.loop-done-init

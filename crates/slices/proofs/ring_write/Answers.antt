@@ -1,11 +1,8 @@
 -- `slices::ring_write` meets its contract: a turn stores a run of bytes that go together in the ring. Assumes nothing.
 use Rattle.slices.proofs.Laws.{run_length}
-use Rattle.slices.proofs.Runs.{Writing, writing_none, writing_more, writing_all}
+use Rattle.slices.proofs.Runs.{writing_none, writing_more, writing_all}
 use mathlib.Core.Path.{sym, ◌∙◌}
-use Prim.Native.Nat.{◌-◌}
 use native.Mathlib.Omega.{arith}
-use borrow.Author.Rules.{rules}
-use lib.ListN.{length}
 use Rattle.slices.proofs.ring_write.Goals as goal
 
 pub loop-done-init : goal.loop-done-init

@@ -1,6 +1,5 @@
 -- `slices::word_at` meets its contract: eight bytes below 256 make a sum below 2 ^ 64. Assumes nothing.
 use Rattle.slices.specs.Words.{word_at}
-use borrow.Author.Rules.{rules}
 use Rattle.slices.proofs.word_at.Goals as goal
 
 pub returns : goal.returns

@@ -2,7 +2,6 @@
 use mathlib.Core.Path.{ap, ◌∙◌}
 use Rattle.worlds.specs.Step.{told_in}
 use Rattle.driver_blocks.specs.Block.{told_number}
-use borrow.Author.Rules.{rules}
 use Rattle.slipknoll.proofs.slipknoll_driver_answer.Goals as goal
 
 pub returns : goal.returns

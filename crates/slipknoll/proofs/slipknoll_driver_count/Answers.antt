@@ -2,7 +2,6 @@
 use Rattle.worlds.specs.Step.{count_in}
 use Rattle.slots.specs.declared.Driver.{Driver}
 use mathlib.Core.Path.{ap, ◌∙◌}
-use borrow.Author.Rules.{rules}
 use Rattle.slipknoll.proofs.slipknoll_driver_count.Goals as goal
 
 pub returns : goal.returns

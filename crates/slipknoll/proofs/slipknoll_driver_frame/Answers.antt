@@ -6,7 +6,6 @@ use lib.ListN.{length}
 use Rattle.slices.specs.Lists.{over}
 use Rattle.slots.specs.declared.Driver.{Driver}
 use Rattle.worlds.specs.Step.{frame_in}
-use borrow.Author.Rules.{rules}
 use Rattle.slipknoll.proofs.slipknoll_driver_frame.Goals as goal
 
 pub returns : goal.returns

@@ -5,7 +5,6 @@ use Rattle.slices.specs.Lists.{over}
 use Rattle.slots.specs.declared.Driver.{Driver}
 use Rattle.worlds.specs.Step.{staged_in, took_in, next_in}
 use Rattle.driver_blocks.specs.Block.{encode_driver}
-use borrow.Author.Rules.{rules}
 use Rattle.slipknoll.proofs.slipknoll_driver_next.Goals as goal
 
 pub returns : goal.returns

@@ -1,7 +1,6 @@
 -- `slipknoll::slipknoll_driver_start_get` meets its contract: the block holds the first state of `openings::start_get`. Assumes nothing.
 use mathlib.Core.Path.{ap, ◌∙◌}
 use Rattle.driver_blocks.specs.Block.{encode_driver}
-use borrow.Author.Rules.{rules}
 use Rattle.slipknoll.proofs.slipknoll_driver_start_get.Goals as goal
 
 pub returns : goal.returns

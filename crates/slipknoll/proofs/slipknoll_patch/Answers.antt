@@ -1,5 +1,4 @@
 -- `slipknoll::slipknoll_patch` meets its contract: the call keeps its promise on the block, and its caller is told what it handed back. Assumes nothing.
-use borrow.Author.Rules.{rules}
 use Rattle.runs.proofs.Promised.{told}
 use Rattle.slipknoll.proofs.slipknoll_patch.Goals as goal
 

@@ -1,7 +1,6 @@
 -- `starts::aim_of` meets its contract: dates become day numbers.
 -- Assumes nothing.
 use Rattle.slots.specs.Details.{aim_of}
-use borrow.Author.Rules.{rules}
 use Rattle.starts.proofs.aim_of.Goals as goal
 
 pub returns : goal.returns

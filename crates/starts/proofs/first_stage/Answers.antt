@@ -4,7 +4,6 @@ use mathlib.Core.Path.{sym}
 use Rattle.slots.proofs.Driven.{other}
 use Rattle.slots.proofs.Accepted.{picked}
 use Rattle.worlds.proofs.Going.{none, some}
-use borrow.Author.Rules.{rules}
 use Rattle.starts.proofs.first_stage.Goals as goal
 
 pub returns-then-number-eq0 : goal.returns-then-number-eq0

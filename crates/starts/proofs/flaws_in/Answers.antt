@@ -1,7 +1,6 @@
 -- `starts::flaws_in` meets its contract: 5 and 14, each by its own test.
 -- Assumes nothing.
 use Rattle.slots.specs.Refusals.{flaws_in}
-use borrow.Author.Rules.{rules}
 use Rattle.starts.proofs.flaws_in.Goals as goal
 
 pub returns : goal.returns

@@ -3,7 +3,6 @@
 use mathlib.Core.Path.{ap}
 use mathlib.Core.Bool.{not}
 use Rattle.slots.specs.Refusals.{is_misdated}
-use borrow.Author.Rules.{rules}
 use Rattle.starts.proofs.is_misdated.Goals as goal
 
 pub returns-in-Put : goal.returns-in-Put

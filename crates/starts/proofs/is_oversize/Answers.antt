@@ -4,10 +4,8 @@ use mathlib.Core.Bool.{or-false}
 use mathlib.Core.Path.{sym, ap, ◌∙◌}
 use Prim.Native.Nat.{ℕ, ◌+◌}
 use lib.Dec.{ltb}
-use Rattle.slots.specs.declared.Period.{Period}
 use Rattle.slots.specs.Refusals.{is_over, is_short}
 use Rattle.slots.specs.Records.{limit_of, version_of}
-use borrow.Author.Rules.{rules}
 use Rattle.starts.proofs.is_oversize.Goals as goal
 
 pub returns-in-Put : goal.returns-in-Put

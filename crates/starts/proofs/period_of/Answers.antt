@@ -2,7 +2,6 @@
 -- Assumes nothing.
 use Rattle.slots.specs.declared.Period.TheVariants.{Days}
 use Rattle.slots.specs.Details.{period_of}
-use borrow.Author.Rules.{rules}
 use Rattle.starts.proofs.period_of.Goals as goal
 
 pub returns-in-Unlimited : goal.returns-in-Unlimited

@@ -6,7 +6,6 @@ use Rattle.geometry.specs.declared.Part.{Part}
 use Rattle.slots.specs.Lists.{asking}
 use Rattle.records.proofs.Parts.{part-pages}
 use Rattle.worlds.specs.Start.{start_refusal}
-use borrow.Author.Rules.{rules}
 use Rattle.starts.proofs.refusal.Goals as goal
 
 pub refusal_on-requires : goal.refusal_on-requires

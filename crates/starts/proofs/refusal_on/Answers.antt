@@ -5,7 +5,6 @@ use Rattle.slots.specs.declared.Flaws.{Flaws}
 use Rattle.slots.specs.Refusals.{early_refusal}
 use Rattle.slots.specs.Lists.{asking}
 use Rattle.worlds.specs.Start.{start_refusal}
-use borrow.Author.Rules.{rules}
 use Rattle.starts.proofs.refusal_on.Goals as goal
 
 pub returns : goal.returns

@@ -1,16 +1,14 @@
 -- `starts::start` meets its contract: the first state is put together from its parts, of which the stage goes by the refusal.
 -- Assumes nothing.
-use mathlib.Core.Path.{◌≡◌, ap, ◌∙◌}
+use mathlib.Core.Path.{ap, ◌∙◌}
 use mathlib.Core.Bool.{false, cond}
 use lib.Dec.{eqb}
 use Rattle.state.specs.Answers.{number_of}
 use Rattle.state.specs.declared.Answer.{Answer}
 use Rattle.slots.specs.declared.Verdict.TheVariants.{Good}
-use Rattle.slots.specs.declared.Stage.{Stage}
 use Rattle.slots.specs.declared.Stage.TheVariants.{Going, Ended}
 use Rattle.slots.specs.Calls.{first_course}
 use Rattle.worlds.specs.Start.{start_driver}
-use borrow.Author.Rules.{rules}
 use Rattle.starts.proofs.start.Goals as goal
 
 pub returns : goal.returns

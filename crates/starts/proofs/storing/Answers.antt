@@ -2,7 +2,6 @@
 -- Assumes nothing.
 use mathlib.Core.Path.{ap}
 use Rattle.slots.specs.declared.Detail.{Detail}
-use borrow.Author.Rules.{rules}
 use Rattle.starts.proofs.storing.Goals as goal
 
 pub returns : goal.returns

@@ -1,6 +1,5 @@
 -- `state::number` meets its contract: each arm is a row of the table.
 -- Assumes nothing.
-use borrow.Author.Rules.{rules}
 use Rattle.state.specs.Answers.{number_of}
 use Rattle.state.proofs.number.Goals as goal
 

@@ -3,7 +3,6 @@
 use mathlib.Core.Path.{sym, ap, ◌∙◌}
 use Rattle.geometry.specs.declared.Part.{Part}
 use Rattle.worlds.specs.Step.{fault_by}
-use borrow.Author.Rules.{rules}
 use Rattle.states.proofs.fault.Goals as goal
 
 pub fault_on-requires : goal.fault_on-requires

@@ -11,7 +11,6 @@ use Rattle.slots.proofs.Accepted.{picked}
 use Rattle.worlds.specs.Turns.{asked_of}
 use Rattle.worlds.specs.Step.{stray_refusal, fault_by}
 use Rattle.worlds.proofs.Going.{none, some, asked-slot}
-use borrow.Author.Rules.{rules}
 use Rattle.states.proofs.fault_on.Goals as goal
 
 pub returns-then-number-ne0 : goal.returns-then-number-ne0

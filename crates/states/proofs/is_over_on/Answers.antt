@@ -2,7 +2,6 @@
 -- Assumes nothing.
 use mathlib.Core.Path.{sym, ap, ◌∙◌}
 use Rattle.slots.specs.Driver.{is_ended}
-use borrow.Author.Rules.{rules}
 use Rattle.states.proofs.is_over_on.Goals as goal
 
 pub stage-s-requires : goal.stage-s-requires

@@ -9,7 +9,6 @@ use Rattle.slots.proofs.Driven.{other}
 use Rattle.slots.specs.declared.Stage.TheVariants.{Going, Ended}
 use Rattle.worlds.proofs.Sane.{stage-ended}
 use Rattle.worlds.specs.Step.{stage_by}
-use borrow.Author.Rules.{rules}
 use Rattle.states.proofs.stage.Goals as goal
 
 pub returns-then-has_ended : goal.returns-then-has_ended

@@ -6,7 +6,6 @@ use borrow.Author.Tests.{le-leb, lt-leb}
 use Rattle.slots.specs.Plans.{is_end}
 use Rattle.worlds.specs.Step.{stray_refusal}
 use Rattle.worlds.specs.Turns.{step_in}
-use borrow.Author.Rules.{rules}
 use Rattle.states.proofs.stray_refusal.Goals as goal
 
 pub returns-then-c-lt1 : goal.returns-then-c-lt1

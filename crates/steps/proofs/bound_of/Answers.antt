@@ -4,7 +4,6 @@ use native.Mathlib.Omega.{arith}
 use mathlib.Core.Path.{sym, ap}
 use Rattle.slots.specs.declared.Kind.{Kind}
 use Rattle.slots.specs.Plans.{stated}
-use borrow.Author.Rules.{rules}
 use Rattle.steps.proofs.bound_of.Goals as goal
 
 pub returns-in-Put : goal.returns-in-Put

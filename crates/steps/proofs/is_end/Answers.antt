@@ -3,7 +3,6 @@
 use mathlib.Core.Path.{sym, ap}
 use Rattle.slots.specs.Plans.{is_end}
 use Rattle.steps.proofs.Last.{not_end}
-use borrow.Author.Rules.{rules}
 use Rattle.steps.proofs.is_end.Goals as goal
 
 pub returns-in-End : goal.returns-in-End

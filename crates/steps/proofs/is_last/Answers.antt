@@ -3,7 +3,6 @@
 use mathlib.Core.Path.{ap}
 use Rattle.slots.specs.Plans.{frames_of}
 use Rattle.steps.proofs.Last.{last_from}
-use borrow.Author.Rules.{rules}
 use Rattle.steps.proofs.is_last.Goals as goal
 
 pub returns-in-Put : goal.returns-in-Put

@@ -5,7 +5,6 @@ use native.Mathlib.Omega.{arith}
 use mathlib.Core.Path.{◌≡◌, sym, ap, ◌∙◌}
 use Rattle.slots.specs.declared.Kind.{Kind}
 use Rattle.steps.specs.Places.{per_page}
-use borrow.Author.Rules.{rules}
 use Rattle.steps.proofs.page_of.Goals as goal
 
 pub returns-in-Put : goal.returns-in-Put

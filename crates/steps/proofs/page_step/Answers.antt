@@ -7,7 +7,6 @@ use Rattle.slots.specs.declared.Step.TheVariants.{Read}
 use Rattle.slots.specs.Plans.{put_page, page_steps}
 use Rattle.steps.specs.Places.{page_by}
 use Rattle.steps.proofs.ByIndex.{at_first, at_later, at_one, by_kind}
-use borrow.Author.Rules.{rules}
 use Rattle.steps.proofs.page_step.Goals as goal
 
 pub returns-then-j-eq0 : goal.returns-then-j-eq0

@@ -9,7 +9,6 @@ use Rattle.slots.specs.declared.Step.TheVariants.{Wait, Load, Send}
 use Rattle.slots.specs.Plans.{check_page}
 use Rattle.steps.specs.Places.{page_by}
 use Rattle.steps.proofs.ByIndex.{at_first, at_programmed, at_compared}
-use borrow.Author.Rules.{rules}
 use Rattle.steps.proofs.put_step.Goals as goal
 
 pub returns-then-j-eq0 : goal.returns-then-j-eq0

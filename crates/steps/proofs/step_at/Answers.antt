@@ -5,7 +5,6 @@ use mathlib.Core.Path.{◌∙◌}
 use Rattle.slots.specs.Plans.{is_asking}
 use Rattle.steps.specs.Places.{page_by}
 use Rattle.steps.proofs.ByIndex.{page_low, at_opening, at_page, at_end}
-use borrow.Author.Rules.{rules}
 use Rattle.steps.proofs.step_at.Goals as goal
 
 pub returns-then-i-n : goal.returns-then-i-n

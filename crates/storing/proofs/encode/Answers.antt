@@ -28,7 +28,7 @@ pub put-requires-2 : goal.put-requires-2
 put-requires-2 c = omega (arith, (long c.before.before.before.before.before.before.before.before.before.before.before.before.before.before.before).1)
 
 pub shape_of-block : goal.shape_of-block
-shape_of-block c = simp length-set (c.put-2.auto.0 ∙ c.put.auto.0 ∙ c.encode_registers.auto.0)
+shape_of-block c = simp length-set (c.put-2.auto.block ∙ c.put.auto.block ∙ c.encode_registers.auto.block)
 
 pub returns : goal.returns
 unfolding encode_chip
@@ -42,7 +42,7 @@ returns c =
     (record { long = length-encode_registers k.registers (arrays c.before.before.before.before.before.before.before.before.before.before.before.before.before.before.before.before.before.before.before); same = c.encode_registers.ensures })
     c.put.ensures)
     c.put-2.ensures)
-    (splice_one 764 x c.put-2.new.0)
+    (splice_one 764 x c.put-2.new.block)
     in
     z.same ∙ over-whole _ _ (z.long ∙ sym c.requires)
     ∙ four (encode_registers k.registers) k.buffer1 k.buffer2 (x ∷ [])

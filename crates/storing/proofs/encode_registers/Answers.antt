@@ -19,13 +19,13 @@ arrays : (s : Start) → Lengths s.args.r
 arrays s = record { protection = search rules; lockdown = search rules; user = search rules; factory = search rules }
 
 -- the block keeps its length
-long : (p : After-put-4) → length p.put-4.new.0 ≡ 765
+long : (p : After-put-4) → length p.put-4.new.block ≡ 765
 long p4 =
     let p3 = p4.before.before.before.before.before.before in
     let p2 = p3.before.before.before.before.before.before in
     let p1 = p2.before.before.before.before.before.before in
     let s = p1.before.before.before.before.before in
-    p4.put4.auto.0 ∙ p3.put3.auto.0 ∙ p2.put2.auto.0 ∙ p1.put.auto.0 ∙ s.requires
+    p4.put4.auto.0 ∙ p3.put3.auto.0 ∙ p2.put2.auto.0 ∙ p1.put.auto.block ∙ s.requires
 
 pub put-requires : goal.put-requires
 put-requires c = omega (arith, (arrays c.before.before.before.before).protection)
@@ -43,7 +43,7 @@ pub put_operation-requires : goal.put_operation-requires
 put_operation-requires c = long c.before.before.before
 
 pub shape_of-block : goal.shape_of-block
-shape_of-block c = c.put_operation.auto.0 ∙ long c.before.before.before.before.before.before ∙ sym c.requires
+shape_of-block c = c.put_operation.auto.block ∙ long c.before.before.before.before.before.before ∙ sym c.requires
 
 pub returns : goal.returns
 unfolding encode_registers head_bytes

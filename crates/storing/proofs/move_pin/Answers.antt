@@ -2,7 +2,6 @@
 -- Assumes nothing.
 use mathlib.Core.Path.{ap}
 use lib.ListN.{set}
-use borrow.Author.Rules.{rules}
 use Rattle.blocks.specs.Promises.{pin_moved}
 use Rattle.storing.proofs.move_pin.Goals as goal
 

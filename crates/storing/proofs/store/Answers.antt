@@ -3,7 +3,6 @@ use Rattle.state.specs.Answers.{number_of}
 use Rattle.blocks.specs.Promises.{stored_by}
 use borrow.Author.Tests.{eq-eqb, ne_eqb}
 use mathlib.Core.Path.{sym, ◌∙◌}
-use borrow.Author.Rules.{rules}
 use Rattle.storing.proofs.store.Goals as goal
 
 pub returns-then-n-eq0 : goal.returns-then-n-eq0

@@ -6,7 +6,6 @@ use Rattle.slots.proofs.Driven.{other}
 use Rattle.slots.specs.Calls.{count_by, count_of}
 use Rattle.tellings.proofs.Counts.{counted}
 use Rattle.worlds.proofs.Going.{none, some}
-use borrow.Author.Rules.{rules}
 use Rattle.tellings.proofs.count_of.Goals as goal
 
 pub returns-then-number-ne0 : goal.returns-then-number-ne0

@@ -3,7 +3,6 @@
 use mathlib.Core.Path.{ap}
 use Rattle.slots.specs.Driver.{told_by}
 use Rattle.slots.specs.declared.Told.TheVariants.{Answered}
-use borrow.Author.Rules.{rules}
 use Rattle.tellings.proofs.tell.Goals as goal
 
 pub returns-in-Going : goal.returns-in-Going

@@ -1,7 +1,6 @@
 -- `tellings::verdict_answer` meets its contract: each verdict has its answer.
 -- Assumes nothing.
 use Rattle.slots.specs.Driver.{verdict_answer}
-use borrow.Author.Rules.{rules}
 use Rattle.tellings.proofs.verdict_answer.Goals as goal
 
 pub returns-in-Good : goal.returns-in-Good

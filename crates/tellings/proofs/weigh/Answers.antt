@@ -5,7 +5,6 @@ use Rattle.slots.proofs.Driven.{other}
 use Rattle.slots.proofs.Accepted.{picked}
 use Rattle.slots.specs.Driver.{weighed}
 use Rattle.worlds.proofs.Going.{none, some}
-use borrow.Author.Rules.{rules}
 use Rattle.tellings.proofs.weigh.Goals as goal
 
 pub returns-then-number-eq0 : goal.returns-then-number-eq0

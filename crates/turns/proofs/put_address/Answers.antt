@@ -4,7 +4,6 @@ use Prim.Native.Nat.{◌/◌, ◌%◌}
 use native.Mathlib.Omega.{arith}
 use lib.ListN.{length-set}
 use Rattle.turns.proofs.Frames.{four_set}
-use borrow.Author.Rules.{rules}
 use Rattle.turns.proofs.put_address.Goals as goal
 
 pub bounds-frame-1 : goal.bounds-frame-1

@@ -4,7 +4,6 @@ use mathlib.Core.Path.{sym, ap, ◌∙◌}
 use mathlib.Core.Bool.{Bool, cond, ◌&&◌}
 use borrow.Author.Tests.{not-true, not-false}
 use Rattle.slots.specs.Driver.{compare_in, miscomparing}
-use borrow.Author.Rules.{rules}
 use Rattle.turns.proofs.take_compare.Goals as goal
 
 pub returns-then-not-checked : goal.returns-then-not-checked

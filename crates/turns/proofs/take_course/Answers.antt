@@ -6,7 +6,6 @@ use mathlib.Core.Path.{sym, ◌∙◌}
 use Rattle.slots.specs.Plans.{plan_by, step_at}
 use Rattle.slots.specs.Driver.{heard, course_by}
 use Rattle.turns.proofs.Turns.{sound-pages, sound_sized, sound_sector, sound-place}
-use borrow.Author.Rules.{rules}
 use Rattle.turns.proofs.take_course.Goals as goal
 
 pub overflow_mul-d : goal.overflow_mul-d

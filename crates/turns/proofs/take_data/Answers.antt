@@ -1,11 +1,10 @@
 -- `turns::take_data` meets its contract: a wait tells the verdict alone, a page read carries data, and nothing else does.
 -- Assumes nothing.
-use mathlib.Core.Path.{◌≡◌, sym, ap, ◌∙◌}
+use mathlib.Core.Path.{sym, ap, ◌∙◌}
 use Rattle.slots.specs.declared.Step.{Step}
 use Rattle.slots.specs.Driver.{Holding, taken_by}
 use Rattle.worlds.specs.Turns.{holding_of}
 use Rattle.turns.proofs.Turns.{sound-pages, taken_none, taken_wait}
-use borrow.Author.Rules.{rules}
 use Rattle.turns.proofs.take_data.Goals as goal
 
 pub read_page-requires : goal.read_page-requires

@@ -2,7 +2,6 @@
 -- Assumes nothing.
 use mathlib.Core.Path.{◌∙◌}
 use Rattle.worlds.specs.Turns.{with}
-use borrow.Author.Rules.{rules}
 use Rattle.turns.proofs.take_step.Goals as goal
 
 pub returns : goal.returns

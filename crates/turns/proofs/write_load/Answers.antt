@@ -12,7 +12,6 @@ use Rattle.slots.specs.Driver.{loaded}
 use Rattle.slots.proofs.Sent.{load_form}
 use Rattle.worlds.specs.Turns.{holding_of}
 use Rattle.turns.proofs.Frames.{behind}
-use borrow.Author.Rules.{rules}
 use Rattle.turns.proofs.write_load.Goals as goal
 
 pub returns : goal.returns

@@ -4,7 +4,6 @@ use Prim.Native.Nat.{ℕ, ◌-◌}
 use mathlib.Core.Path.{refl, ap, ◌∙◌}
 use lib.ListN.{replicate, length-replicate}
 use Rattle.turns.proofs.Frames.{behind, rest-length}
-use borrow.Author.Rules.{rules}
 use Rattle.turns.proofs.write_long.Goals as goal
 
 pub returns : goal.returns

@@ -2,7 +2,6 @@
 -- Assumes nothing.
 use mathlib.Core.Path.{refl}
 use Rattle.turns.proofs.Frames.{two_set}
-use borrow.Author.Rules.{rules}
 use Rattle.turns.proofs.write_poll.Goals as goal
 
 pub returns : goal.returns

@@ -4,7 +4,6 @@ use Prim.Native.Nat.{ℕ, ◌/◌, ◌%◌}
 use mathlib.Core.List.{[], ◌∷◌}
 use mathlib.Core.Path.{refl, ap, ◌∙◌}
 use Rattle.slices.specs.Lists.{over}
-use borrow.Author.Rules.{rules}
 use Rattle.turns.proofs.write_send.Goals as goal
 
 pub returns : goal.returns

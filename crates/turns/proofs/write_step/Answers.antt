@@ -7,7 +7,6 @@ use Rattle.steps.specs.Places.{page_by}
 use Rattle.worlds.specs.Turns.{holding_of}
 use Rattle.turns.proofs.Frames.{wait_form, protection_form, lockdown_form, read_form, send_form, end_form, address-fits, by_step, named-few}
 use native.Mathlib.Omega.{arith}
-use borrow.Author.Rules.{rules}
 use Rattle.turns.proofs.write_step.Goals as goal
 
 pub overflow_add-register : goal.overflow_add-register

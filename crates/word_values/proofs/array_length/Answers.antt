@@ -1,6 +1,5 @@
 -- `word_values::array_length` meets its contract: each call is one row of the table, from the last to the first.
 -- Assumes nothing.
-use borrow.Author.Rules.{rules}
 use Rattle.word_values.proofs.array_length.Goals as goal
 
 pub returns : goal.returns

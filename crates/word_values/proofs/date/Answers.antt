@@ -7,7 +7,6 @@ use Rattle.text.specs.Decimal.{number_of}
 use Rattle.text.specs.Hyphens.{before_hyphen, behind_hyphen}
 use Rattle.word_values.specs.Days.{date_part, joined, date_of}
 use Rattle.word_values.specs.declared.DatePart.{DatePart}
-use borrow.Author.Rules.{rules}
 use Rattle.word_values.proofs.date.Goals as goal
 
 pub returns : goal.returns

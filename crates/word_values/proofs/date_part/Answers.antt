@@ -6,22 +6,19 @@ use Rattle.faults.specs.declared.Fault.TheVariants as Fault
 use mathlib.Core.Bool.{Bool, cond}
 use mathlib.Core.Path.{sym, ap, ◌∙◌}
 use borrow.Author.Tests.{lt-ltb, le-ltb}
-use borrow.Author.Rules.{rules}
 use Rattle.word_values.proofs.date_part.Goals as goal
 
 pub returns-then-v-gt4294967295 : goal.returns-then-v-gt4294967295
 returns-then-v-gt4294967295 c =
-    let n = c.n-1 in
     let name = c.args.name in
-    ap (λ (b : Bool). cond b (DatePart.Fault (Fault.TooLarge name)) (DatePart.Value n.given.0.0)) (sym (lt-ltb _ _ c.if-v-gt4294967295.true))
-    ∙ ap (date_part name) (sym n.given.1 ∙ c.number-n.ensures)
+    ap (λ (b : Bool). cond b (DatePart.Fault (Fault.TooLarge name)) (DatePart.Value c.in-Value.v)) (sym (lt-ltb _ _ c.if-v-gt4294967295.true))
+    ∙ ap (date_part name) (sym c.in-Value.is ∙ c.number-n.ensures)
 
 pub returns-else-v-gt4294967295 : goal.returns-else-v-gt4294967295
 returns-else-v-gt4294967295 c =
-    let n = c.n-1 in
     let name = c.args.name in
-    ap (λ (b : Bool). cond b (DatePart.Fault (Fault.TooLarge name)) (DatePart.Value n.given.0.0)) (sym (le-ltb _ _ c.if-v-gt4294967295.false))
-    ∙ ap (date_part name) (sym n.given.1 ∙ c.number-n.ensures)
+    ap (λ (b : Bool). cond b (DatePart.Fault (Fault.TooLarge name)) (DatePart.Value c.in-Value.v)) (sym (le-ltb _ _ c.if-v-gt4294967295.false))
+    ∙ ap (date_part name) (sym c.in-Value.is ∙ c.number-n.ensures)
 
 pub returns-in-NotNumber : goal.returns-in-NotNumber
 returns-in-NotNumber c = ap (date_part c.args.name) (sym c.in-NotNumber.is ∙ c.number-n.ensures)

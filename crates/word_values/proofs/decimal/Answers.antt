@@ -3,7 +3,6 @@
 use Rattle.word_values.specs.Values.{numbered}
 use borrow.Author.Tests.{eq-eqb, ne_eqb}
 use mathlib.Core.Path.{sym, ap, ◌∙◌}
-use borrow.Author.Rules.{rules}
 use Rattle.word_values.proofs.decimal.Goals as goal
 
 pub returns-then-word-eq0 : goal.returns-then-word-eq0

@@ -1,7 +1,6 @@
 -- `word_values::if_given` meets its contract: the test is the definition's.
 -- Assumes nothing.
 use borrow.Author.Tests.{eq-eqb, ne_eqb}
-use borrow.Author.Rules.{rules}
 use Rattle.word_values.proofs.if_given.Goals as goal
 
 pub returns-then-word-eq0 : goal.returns-then-word-eq0

@@ -1,7 +1,6 @@
 -- `word_values::if_word` meets its contract: the test is the definition's.
 -- Assumes nothing.
 use mathlib.Core.Path.{sym, ◌∙◌}
-use borrow.Author.Rules.{rules}
 use Rattle.word_values.proofs.if_word.Goals as goal
 
 pub returns-then-is_same : goal.returns-then-is_same

@@ -2,7 +2,6 @@
 -- Assumes nothing.
 use Rattle.word_values.specs.Days.{joined}
 use mathlib.Core.Path.{sym}
-use borrow.Author.Rules.{rules}
 use Rattle.word_values.proofs.join.Goals as goal
 
 pub returns-in-Value-day : goal.returns-in-Value-day

@@ -1,6 +1,5 @@
 -- `word_values::level` meets its contract: each call is one row of the table, from the last to the first.
 -- Assumes nothing.
-use borrow.Author.Rules.{rules}
 use Rattle.word_values.proofs.level.Goals as goal
 
 pub returns : goal.returns

@@ -2,7 +2,6 @@
 -- Assumes nothing.
 use Rattle.word_values.specs.Values.{number_as}
 use mathlib.Core.Path.{refl}
-use borrow.Author.Rules.{rules}
 use Rattle.word_values.proofs.number_of.Goals as goal
 
 pub returns-in-Slot : goal.returns-in-Slot

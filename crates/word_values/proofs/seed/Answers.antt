@@ -2,7 +2,6 @@
 -- Assumes nothing.
 use Rattle.word_values.specs.Values.{reduced}
 use mathlib.Core.Path.{sym, ap, ◌∙◌}
-use borrow.Author.Rules.{rules}
 use Rattle.word_values.proofs.seed.Goals as goal
 
 pub returns-in-Value : goal.returns-in-Value

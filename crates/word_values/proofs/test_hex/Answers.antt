@@ -2,7 +2,6 @@
 -- Assumes nothing.
 use Rattle.word_values.specs.Values.{tested}
 use mathlib.Core.Path.{sym, ap, ◌∙◌}
-use borrow.Author.Rules.{rules}
 use Rattle.word_values.proofs.test_hex.Goals as goal
 
 pub returns-in-Bytes : goal.returns-in-Bytes

@@ -1,7 +1,6 @@
 -- `words::command_of` meets its contract: each call is one line of the definition, from the last to the first.
 -- Assumes nothing.
 use Rattle.words.specs.Words.{command_of}
-use borrow.Author.Rules.{rules}
 use Rattle.words.proofs.command_of.Goals as goal
 
 pub returns : goal.returns

@@ -4,7 +4,6 @@ use Rattle.words.specs.Words.{begins_with}
 use borrow.Author.Tests.{lt-leb, le-leb}
 use lib.Seq.{length-take-le}
 use mathlib.Core.Path.{sym, ◌∙◌}
-use borrow.Author.Rules.{rules}
 use Rattle.words.proofs.if_begun.Goals as goal
 
 pub returns-then-word-n : goal.returns-then-word-n

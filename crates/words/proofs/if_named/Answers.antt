@@ -1,7 +1,6 @@
 -- `words::if_named` meets its contract: the test is the definition's.
 -- Assumes nothing.
 use mathlib.Core.Path.{sym, ◌∙◌}
-use borrow.Author.Rules.{rules}
 use Rattle.words.proofs.if_named.Goals as goal
 
 pub returns-then-is_same : goal.returns-then-is_same

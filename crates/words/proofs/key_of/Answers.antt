@@ -1,7 +1,6 @@
 -- `words::key_of` meets its contract: each call is one line of the definition, from the last to the first.
 -- Assumes nothing.
 use Rattle.words.specs.Words.{key_of}
-use borrow.Author.Rules.{rules}
 use Rattle.words.proofs.key_of.Goals as goal
 
 pub returns : goal.returns

@@ -3,7 +3,6 @@
 use Rattle.text.specs.Words.{not_blank}
 use Rattle.text.specs.Lists.{scan}
 use mathlib.Core.Path.{ap, ◌∙◌}
-use borrow.Author.Rules.{rules}
 use Rattle.words.proofs.next_word.Goals as goal
 
 pub returns : goal.returns

@@ -2,9 +2,8 @@
 use Rattle.acting.proofs.Steps.{call_took, raw_took, send_took, end_took, pin_took, cut_took, by_command}
 use Rattle.acting.specs.Steps.{Spares}
 use Rattle.words.specs.declared.Command.{Command}
-use Rattle.words.specs.declared.Command.TheVariants.{Put, Patch, Get, Wipe, Raw, Send, End, Pin, Cut, Part, Sum}
+use Rattle.words.specs.declared.Command.TheVariants.{Put, Patch, Get, Wipe, Raw, Send, End, Pin, Cut}
 use mathlib.Core.Path.{refl, subst}
-use borrow.Author.Rules.{rules}
 use Rattle.acting.proofs.effects.act.Goals as goal
 
 pub returns-in-Put : goal.returns-in-Put

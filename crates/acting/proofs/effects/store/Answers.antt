@@ -1,6 +1,5 @@
 -- `acting::effects::store` meets its contract: each arm is the put of its term. Assumes nothing.
 use Rattle.acting.proofs.Steps.{put_alike}
-use borrow.Author.Rules.{rules}
 use Rattle.acting.proofs.effects.store.Goals as goal
 
 pub returns-in-Unlimited : goal.returns-in-Unlimited

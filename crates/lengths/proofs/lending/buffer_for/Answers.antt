@@ -1,7 +1,6 @@
 -- `lengths::lending::buffer_for` meets its contract: a known part has its page size, so eight pages less three bytes; an unknown one needs none. Assumes nothing.
 use Rattle.lengths.proofs.Needed.{buffer-small, page_some, buffer_known, buffer_unknown}
 use native.Mathlib.Omega.{arith}
-use borrow.Author.Rules.{rules}
 use Rattle.lengths.proofs.lending.buffer_for.Goals as goal
 
 pub overflow_mul-result : goal.overflow_mul-result

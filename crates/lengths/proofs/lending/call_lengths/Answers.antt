@@ -2,7 +2,6 @@
 use Rattle.lengths.specs.Lengths.{log_room, junk_room, lent_by, call_lengths}
 use Prim.Native.Nat.{ℕ}
 use mathlib.Core.Path.{refl, ap, ◌∙◌}
-use borrow.Author.Rules.{rules}
 use Rattle.lengths.proofs.lending.call_lengths.Goals as goal
 
 pub returns : goal.returns

@@ -1,10 +1,8 @@
 -- `lengths::lending::frames_for` meets its contract: a call's bound is that of crate steps, and an event sends no frame. Assumes nothing.
 use Rattle.lengths.specs.Lengths.{frames_for}
 use Rattle.words.specs.declared.Command.{Command}
-use Rattle.words.specs.declared.Command.TheVariants.{Put, Patch, Get, Wipe, Raw, Send, End, Pin, Cut, Part, Sum}
-use mathlib.Core.Path.{refl, sym, ap, ◌∙◌}
+use mathlib.Core.Path.{sym, ap, ◌∙◌}
 use native.Mathlib.Omega.{arith}
-use borrow.Author.Rules.{rules}
 use Rattle.lengths.proofs.lending.frames_for.Goals as goal
 
 pub returns-in-Put : goal.returns-in-Put

@@ -1,7 +1,6 @@
 -- `lengths::lending::junk_for` meets its contract: a known part has its page size and its array, and the room is for the largest; an unknown one needs none. Assumes nothing.
 use Rattle.lengths.proofs.Needed.{junk-small, junk_known, junk_unknown}
 use native.Mathlib.Omega.{arith}
-use borrow.Author.Rules.{rules}
 use Rattle.lengths.proofs.lending.junk_for.Goals as goal
 
 pub overflow_mul-result : goal.overflow_mul-result

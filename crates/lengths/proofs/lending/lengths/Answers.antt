@@ -5,7 +5,6 @@ use Rattle.words.specs.declared.Command.TheVariants as Command
 use Prim.Native.Nat.{ℕ}
 use mathlib.Core.Path.{ap, ◌∙◌}
 use native.Mathlib.Omega.{arith}
-use borrow.Author.Rules.{rules}
 use Rattle.lengths.proofs.lending.lengths.Goals as goal
 
 pub returns-in-Put : goal.returns-in-Put

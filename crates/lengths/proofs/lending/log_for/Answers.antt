@@ -2,7 +2,6 @@
 use Rattle.lengths.specs.Lengths.{frames_for, log_for}
 use Prim.Native.Nat.{ℕ, ◌*◌}
 use mathlib.Core.Path.{ap, ◌∙◌}
-use borrow.Author.Rules.{rules}
 use Rattle.lengths.proofs.lending.log_for.Goals as goal
 
 pub returns : goal.returns

@@ -3,7 +3,6 @@ use Rattle.orders.specs.declared.Lent.{Lent}
 use Rattle.lengths.specs.Lengths.{lent_by}
 use mathlib.Core.Path.{sym, ap, ◌∙◌}
 use native.Mathlib.Omega.{arith}
-use borrow.Author.Rules.{rules}
 use Rattle.lengths.proofs.room.lent.Goals as goal
 
 pub returns-in-Needed : goal.returns-in-Needed

@@ -1,6 +1,5 @@
 -- `text::decimal::number` meets its contract: the three cases are the definition's, and `value` has the value's. Assumes nothing.
 use mathlib.Core.Path.{sym, ◌∙◌}
-use borrow.Author.Rules.{rules}
 use Rattle.text.proofs.Digits.{none_empty, none_other, some_digits}
 use Rattle.text.proofs.decimal.number.Goals as goal
 

@@ -1,9 +1,9 @@
 -- `text::decimal::value` meets its contract: v is the value of the first i digits; a value that has reached 2^64 stays too large. Assumes nothing.
-use mathlib.Core.Path.{◌≡◌, refl, sym, ap, ◌∙◌}
-use Prim.Native.Nat.{ℕ, ◌+◌, ◌*◌, ◌-◌, ◌^◌, ◌≤◌, ◌<◌, zero-le}
+use mathlib.Core.Path.{refl, sym, ap, ◌∙◌}
+use Prim.Native.Nat.{ℕ, ◌+◌, ◌*◌, ◌-◌, zero-le}
 use native.Mathlib.Omega.{arith}
 use borrow.Author.Rules.{rules}
-use lib.ListN.{length, drop}
+use lib.ListN.{drop}
 use Rattle.text.specs.Decimal.{value_from, below_limit}
 use Rattle.text.proofs.Digits.{value_step, value_end, fits, too_large}
 use Rattle.text.proofs.decimal.value.Goals as goal

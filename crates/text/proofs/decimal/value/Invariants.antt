@@ -5,10 +5,8 @@ use lib.ListN.{length, drop}
 use Rattle.text.specs.Decimal.{value_from}
 use Rattle.text.proofs.decimal.value.Given as goal
 
-
 abbrev pub invariant-loop-i : goal.invariant-loop-i
 invariant-loop-i l = (l.i ≤ length l.word) × (l.v < 2 ^ 64) × (value_from l.v (drop l.i l.word) ≡ value_from 0 l.word)
-
 
 abbrev pub decreases-loop-i : goal.decreases-loop-i
 decreases-loop-i l = length l.word - l.i

@@ -1,7 +1,6 @@
 -- `text::hyphens::behind_hyphen` meets its contract: the scan ends at the first hyphen (`behind`), or nothing is left (`none_behind`).
 -- Assumes nothing.
 use Rattle.text.proofs.Halves.{behind, none_behind}
-use borrow.Author.Rules.{rules}
 use Rattle.text.proofs.hyphens.behind_hyphen.Goals as goal
 
 pub returns-then-at-word : goal.returns-then-at-word

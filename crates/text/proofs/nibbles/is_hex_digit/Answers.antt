@@ -1,7 +1,6 @@
 -- `text::nibbles::is_hex_digit` meets its contract: a digit is worth less than 16. Assumes nothing.
 use mathlib.Core.Path.{ap}
 use Prim.Native.Nat.{ℕ}
-use borrow.Author.Rules.{rules}
 use lib.Dec.{ltb}
 use Rattle.text.specs.Hexadecimal.{is_hex_digit}
 use Rattle.text.proofs.nibbles.is_hex_digit.Goals as goal

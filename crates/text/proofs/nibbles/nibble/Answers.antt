@@ -1,7 +1,6 @@
 -- `text::nibbles::nibble` meets its contract: the cases are the definition's, in its order. Assumes nothing.
 use native.Mathlib.Omega.{arith}
 use borrow.Author.Tests.{lt-ltb, le-ltb, le-leb, lt-leb}
-use borrow.Author.Rules.{rules}
 use Rattle.text.specs.Hexadecimal.{nibble_of}
 use Rattle.text.proofs.nibbles.nibble.Goals as goal
 

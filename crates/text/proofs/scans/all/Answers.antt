@@ -5,7 +5,6 @@ use lib.ListN.{length}
 use lib.Dec.{eqb}
 use Rattle.text.specs.Classes.{is_in}
 use Rattle.text.proofs.Tests.{scan-every}
-use borrow.Author.Rules.{rules}
 use Rattle.text.proofs.scans.all.Goals as goal
 
 pub returns : goal.returns

@@ -5,7 +5,6 @@ use Rattle.text.specs.declared.scans.Class.{Class}
 use Rattle.text.specs.Classes.{is_in}
 use Rattle.text.specs.Words.{not_blank}
 use Rattle.text.specs.Hyphens.{not_hyphen}
-use borrow.Author.Rules.{rules}
 use Rattle.text.proofs.scans.is_in.Goals as goal
 
 pub returns-in-Blank : goal.returns-in-Blank

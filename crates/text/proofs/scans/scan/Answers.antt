@@ -1,11 +1,9 @@
 -- `text::scans::scan` meets its contract: a scan from i on ends where the scan from `at` on does. Assumes nothing.
-use mathlib.Core.Path.{◌≡◌, refl, sym, ◌∙◌}
-use Prim.Native.Nat.{◌-◌, ◌≤◌}
+use mathlib.Core.Path.{refl, sym, ◌∙◌}
+use Prim.Native.Nat.{◌-◌}
 use native.Mathlib.Omega.{arith}
 use native.Mathlib.Nat.{le_refl}
-use lib.ListN.{length}
 use Rattle.text.specs.Classes.{is_in}
-use Rattle.text.specs.Lists.{scan}
 use Rattle.text.proofs.Tests.{scan_step, scan-not, scan-end}
 use borrow.Author.Rules.{rules}
 use Rattle.text.proofs.scans.scan.Goals as goal

@@ -1,7 +1,6 @@
 -- `text::spans::is_same` meets its contract: `differs` is the comparison, negated. Assumes nothing.
 use mathlib.Core.Bool.{not, not-not}
 use mathlib.Core.Path.{ap, ◌∙◌}
-use borrow.Author.Rules.{rules}
 use Rattle.slices.specs.Lists.{same}
 use Rattle.text.proofs.spans.is_same.Goals as goal
 

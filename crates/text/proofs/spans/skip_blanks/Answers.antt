@@ -1,5 +1,4 @@
 -- `text::spans::skip_blanks` meets its contract: the scan is that of blanks. Assumes nothing.
-use borrow.Author.Rules.{rules}
 use Rattle.text.proofs.spans.skip_blanks.Goals as goal
 
 pub returns : goal.returns

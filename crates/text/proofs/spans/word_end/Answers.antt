@@ -1,5 +1,4 @@
 -- `text::spans::word_end` meets its contract: the scan is that of what is no blank. Assumes nothing.
-use borrow.Author.Rules.{rules}
 use Rattle.text.proofs.spans.word_end.Goals as goal
 
 pub returns : goal.returns
