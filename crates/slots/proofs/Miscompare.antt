@@ -56,6 +56,17 @@ before_other Answers.Sealed P.Before16.shut e = let z : ◌≡◌ {A = ℕ} 0 1 
 before_other Answers.Cut P.Before16.lost e = let z : ◌≡◌ {A = ℕ} 0 1 = cc in absurd (omega arith)
 before_other Answers.Blank blank e = let z : ◌≡◌ {A = ℕ} 0 1 = cc in absurd (omega arith)
 before_other Answers.End beyond e = let z : ◌≡◌ {A = ℕ} 0 1 = cc in absurd (omega arith)
+before_other Answers.Done x e = elim x [ ]
+before_other Answers.Part x e = elim x [ ]
+before_other Answers.Frame x e = elim x [ ]
+before_other Answers.Slot x e = elim x [ ]
+before_other Answers.Limit x e = elim x [ ]
+before_other Answers.Size x e = elim x [ ]
+before_other Answers.Log x e = elim x [ ]
+before_other Answers.Script x e = elim x [ ]
+before_other Answers.Dates x e = elim x [ ]
+before_other Answers.Term x e = elim x [ ]
+before_other Answers.Miscompare x e = elim x [ ]
 
 -- with 8 to 11
 pub follows_before : {g : Geometry} {a : Asked} {b k : ℕ} {xs : List Step} {l d : Bool} {h : Holding} {es : List Exchange} {t : Result} → Follows g a b xs l d h es k t → BeforeResult t
