@@ -40,10 +40,6 @@ idle g page xs buffer bit Transfer h = absurd (miss others 3 tt h)
 idle g page xs buffer bit Compare h = absurd (miss others 4 tt h)
 idle g page xs buffer bit Erase h = (refl, refl, refl)
 
--- every work but an erase
-abbrev pub on_pages : List ℕ
-on_pages = 0 ∷ 1 ∷ 2 ∷ 3 ∷ 4 ∷ []
-
 module _ (g : Geometry) (o : Operation) (b : Buffer) (page : ℕ) (u : b ≡ buffer_used o) (p : page ≡ page_in o) (xs bs : List ℕ) (bit : Bool) where
   does : (w : Work) → (facts_of o).work ≡ w → worked g o (memory_in xs bs bit) w ≡ completed_memory g o (memory_in xs bs bit)
   unfolding completed_memory
@@ -56,7 +52,7 @@ module _ (g : Geometry) (o : Operation) (b : Buffer) (page : ℕ) (u : b ≡ buf
   erases e h = ap (λ (z : List ℕ). memory_in z bs bit) h ∙ does Erase e
 
   module _ (long : length bs ≡ 2 * page_room) where
-    made : (w : Work) → OneOf on_pages (tag_of the_type w)
+    made : (w : Work) → (w ≡ Erase → ⊥)
         → memory_in (array_by g page (lent b bs) xs w) (splice (buffer_start b) (buffer_by g page xs (lent b bs) w) bs) (bit_by g page xs (lent b bs) bit w) ≡ worked g o (memory_in xs bs bit) w
     made Rest h = ap (λ (l : List ℕ). memory_in xs l bit) (lent_same bs long b)
     made Program h = λ i. memory_in (programmed g (p i) (used i) xs) (lent_same bs long b i) bit
@@ -65,9 +61,9 @@ module _ (g : Geometry) (o : Operation) (b : Buffer) (page : ℕ) (u : b ≡ buf
         lent-put bs long b (transferred g page xs (lent b bs)) xs bit (length-transferred g page xs (lent b bs) ∙ lent_length bs long b)
         ∙ (λ i. put_buffer (u i) (transferred g (p i) xs (used i)) (memory_in xs bs bit))
     made Compare h = λ i. memory_in xs (lent_same bs long b i) (differing g (p i) xs (used i))
-    made Erase h = absurd (miss on_pages 5 tt h)
+    made Erase h = absurd (h refl)
 
-    pub works : {ys zs : List ℕ} {r : Bool} (w : Work) → OneOf on_pages (tag_of the_type w) → (facts_of o).work ≡ w
+    pub works : {ys zs : List ℕ} {r : Bool} (w : Work) → (w ≡ Erase → ⊥) → (facts_of o).work ≡ w
         → ys ≡ array_by g page (lent b bs) xs w → zs ≡ splice (buffer_start b) (buffer_by g page xs (lent b bs) w) bs → r ≡ bit_by g page xs (lent b bs) bit w
         → memory_in ys zs r ≡ completed_memory g o (memory_in xs bs bit)
     works w h e a l t = (λ i. memory_in (a i) (l i) (t i)) ∙ made w h ∙ does w e

@@ -42,8 +42,8 @@ told-few (Answered a) k staged = go (eqb (number_of a) 0)
 
 -- what is told of a record
 pub record_count : (g : Geometry) (d : Driver) (staged : List ℕ) {t : Told} {m : ℕ} → part_of d.array ≡ Known g → is_record g staged ≡ true → t ≡ told_in d
-    → m ≡ count_told t d.kind staged → (m ≡ step.countBy (Known g) d staged) × (m ≤ slot_room - 3)
-unfolding step.countBy length_in
+    → m ≡ count_told t d.kind staged → (m ≡ step.count_by (Known g) d staged) × (m ≤ slot_room - 3)
+unfolding step.count_by length_in
 record_count g d staged {t} {m} p r e h =
     let z = part-pages d.array g p in
     let l = fits (record_true g staged (omega (arith, z.some)) r) in (

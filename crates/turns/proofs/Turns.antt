@@ -1,12 +1,10 @@
 -- What a turn's code goes by: a sound state's place lies in the plan, and its slot's pages in the part.
 -- Assumes nothing.
-use Prim.Native.Nat.{ℕ, ◌*◌, ◌+◌, ◌/◌, ◌<◌, ◌≤◌}
+use Prim.Native.Nat.{ℕ, ◌*◌, ◌+◌, ◌<◌, ◌≤◌}
 use native.Mathlib.Omega.{arith}
 use mathlib.Core.Path.{◌≡◌, refl}
 use mathlib.Core.Bool.{Bool, true, false, cond, ◌&&◌}
-use mathlib.Core.List.{List, [], ◌∷◌}
-use types.Run.{OneOf, miss}
-use denote.Enum.Declared.{tag_of}
+use mathlib.Core.List.{List}
 use Rattle.geometry.specs.Parts.{register_room, Sized}
 use Rattle.geometry.specs.declared.Geometry.{Geometry}
 use Rattle.geometry.specs.Sectors.{sector_of}
@@ -16,7 +14,6 @@ use Rattle.slots.specs.declared.Driver.{Driver}
 use Rattle.slots.specs.declared.Kind.{Kind}
 use Rattle.slots.specs.declared.Step.{Step}
 use Rattle.slots.specs.declared.Step.TheVariants.{Wait, Protection, Lockdown, Read, Load, Send, End}
-use Rattle.slots.specs.contracts.Step.{the_type}
 use Rattle.slots.specs.Plans.{is_wait}
 use Rattle.slots.specs.Driver.{Holding, compare_in, miscomparing, marred, taken_by}
 use Rattle.slots.proofs.Counts.{place-few}
@@ -44,15 +41,15 @@ module _ {g : Geometry} {d : Driver} (s : Sound g d) where
 -- ---- steps by their form
 
 -- a reply to any other step than a wait or a read carries no data
-pub taken_none : (x : Step) (g : Geometry) (k : Kind) (h : Holding) (reply : List ℕ) → OneOf (1 ∷ 2 ∷ 4 ∷ 5 ∷ 6 ∷ []) (tag_of the_type x) → h ≡ taken_by x g k h reply
+pub taken_none : (x : Step) (g : Geometry) (k : Kind) (h : Holding) (reply : List ℕ) → ((c : Bool) → x ≡ Wait c → ⊥) → ((p : ℕ) → x ≡ Read p → ⊥) → h ≡ taken_by x g k h reply
 unfolding taken_by
-taken_none (Wait c) g k h reply e = absurd (miss (1 ∷ 2 ∷ 4 ∷ 5 ∷ 6 ∷ []) 0 tt e)
-taken_none Protection g k h reply e = refl
-taken_none Lockdown g k h reply e = refl
-taken_none (Read p) g k h reply e = absurd (miss (1 ∷ 2 ∷ 4 ∷ 5 ∷ 6 ∷ []) 3 tt e)
-taken_none (Load p) g k h reply e = refl
-taken_none (Send c p) g k h reply e = refl
-taken_none End g k h reply e = refl
+taken_none (Wait c) g k h reply w r = absurd (w c refl)
+taken_none Protection g k h reply w r = refl
+taken_none Lockdown g k h reply w r = refl
+taken_none (Read p) g k h reply w r = absurd (r p refl)
+taken_none (Load p) g k h reply w r = refl
+taken_none (Send c p) g k h reply w r = refl
+taken_none End g k h reply w r = refl
 
 -- a wait's the verdict alone
 pub taken_wait : (c : Bool) (g : Geometry) (k : Kind) (h : Holding) (reply : List ℕ)
@@ -64,12 +61,12 @@ taken_wait c g k h reply = go (c && compare_in reply)
     go true = (refl, refl)
     go false = (refl, refl)
 
-pub no_wait : (x : Step) → OneOf (1 ∷ 2 ∷ 3 ∷ 4 ∷ 5 ∷ 6 ∷ []) (tag_of the_type x) → (◌≡◌ {A = ℕ} 0 (cond (is_wait x) 1 0)) × (0 ≤ 1)
+pub no_wait : (x : Step) → ((c : Bool) → x ≡ Wait c → ⊥) → (◌≡◌ {A = ℕ} 0 (cond (is_wait x) 1 0)) × (0 ≤ 1)
 unfolding is_wait
-no_wait (Wait c) e = absurd (miss (1 ∷ 2 ∷ 3 ∷ 4 ∷ 5 ∷ 6 ∷ []) 0 tt e)
-no_wait Protection e = (refl, omega arith)
-no_wait Lockdown e = (refl, omega arith)
-no_wait (Read p) e = (refl, omega arith)
-no_wait (Load p) e = (refl, omega arith)
-no_wait (Send c p) e = (refl, omega arith)
-no_wait End e = (refl, omega arith)
+no_wait (Wait c) w = absurd (w c refl)
+no_wait Protection w = (refl, omega arith)
+no_wait Lockdown w = (refl, omega arith)
+no_wait (Read p) w = (refl, omega arith)
+no_wait (Load p) w = (refl, omega arith)
+no_wait (Send c p) w = (refl, omega arith)
+no_wait End w = (refl, omega arith)

@@ -1,22 +1,22 @@
 -- `frames::act` meets its contract: each arm is a clause of `written`.
 -- Assumes nothing.
 use borrow.Author.Rules.{rules}
-use mathlib.Core.List.{List, [], ◌∷◌, ◌++◌, append_assoc}
-use mathlib.Core.Path.{◌≡◌, sym, ap, ◌∙◌}
+use mathlib.Core.List.{List, ◌++◌, append_assoc}
+use mathlib.Core.Path.{◌≡◌, refl, sym, ap, ◌∙◌}
 use Prim.Native.Nat.{ℕ, ◌*◌, ◌≤◌}
 use native.Mathlib.Omega.{arith}
 use lib.ListN.{length, take, drop, take-append-drop}
 use lib.Seq.{length-take-le, drop-append-le}
 use Rattle.slices.specs.Lists.{over, splice}
 use Rattle.slices.proofs.Laws.{over_append, length_over, splice-zero}
-use types.Run.{OneOf, miss}
-use denote.Enum.Declared.{tag_of}
 use Rattle.geometry.specs.declared.Geometry.{Geometry}
 use Rattle.geometry.specs.Parts.{page_room}
+use Rattle.commands.specs.declared.Buffer.{Buffer}
 use Rattle.commands.specs.declared.Buffer.TheVariants.{One}
 use Rattle.control.specs.declared.Action.{Action}
 use Rattle.control.specs.declared.Action.TheVariants.{Silent, ReadPage, ReadArray, ReadBuffer, WriteBuffer, LoadProtection, LoadSecurity, ReadProtection, ReadLockdown, ReadSecurity, ReadStatus, ReadId}
-use Rattle.control.specs.contracts.Action.{the_type}
+use Rattle.registers.specs.declared.Data16.{Data16}
+use Rattle.registers.specs.declared.Data64.{Data64}
 use Rattle.registers.specs.Data.{bytes16, bytes64}
 use Rattle.registers.proofs.Data.{length-bytes16, length-bytes64}
 use Rattle.state.specs.Lent.{acted_on}
@@ -39,24 +39,22 @@ lent-begun d bs h long =
     ∙ (λ i. sym e i ++ drop (sym l i) bs)
     ∙ sym (over_append x bs (omega arith)) ∙ sym (splice-zero x bs)
 
--- the tags of the actions that write no buffer
-abbrev others : List ℕ
-others = 0 ∷ 1 ∷ 2 ∷ 3 ∷ 7 ∷ 8 ∷ 9 ∷ 10 ∷ 11 ∷ []
-
-untouched : (g : Geometry) (a : Action) (bytes bs : List ℕ) → OneOf others (tag_of the_type a) → length bs ≡ 2 * page_room → bs ≡ acted_on g a bytes bs
+-- an action that writes no buffer
+untouched : (g : Geometry) (a : Action) (bytes bs : List ℕ) → ((b : Buffer) (s : ℕ) → a ≡ WriteBuffer b s → ⊥) → ((d : Data16) → a ≡ LoadProtection d → ⊥)
+    → ((d : Data64) → a ≡ LoadSecurity d → ⊥) → length bs ≡ 2 * page_room → bs ≡ acted_on g a bytes bs
 unfolding acted_on buffer_written written
-untouched g Silent bytes bs h long = sym (lent_same bs long One)
-untouched g (ReadPage p s) bytes bs h long = sym (lent_same bs long One)
-untouched g (ReadArray s) bytes bs h long = sym (lent_same bs long One)
-untouched g (ReadBuffer b s) bytes bs h long = sym (lent_same bs long One)
-untouched g (WriteBuffer b s) bytes bs h long = absurd (miss others 4 tt h)
-untouched g (LoadProtection d) bytes bs h long = absurd (miss others 5 tt h)
-untouched g (LoadSecurity d) bytes bs h long = absurd (miss others 6 tt h)
-untouched g ReadProtection bytes bs h long = sym (lent_same bs long One)
-untouched g ReadLockdown bytes bs h long = sym (lent_same bs long One)
-untouched g ReadSecurity bytes bs h long = sym (lent_same bs long One)
-untouched g ReadStatus bytes bs h long = sym (lent_same bs long One)
-untouched g ReadId bytes bs h long = sym (lent_same bs long One)
+untouched g Silent bytes bs wb lp ls long = sym (lent_same bs long One)
+untouched g (ReadPage p s) bytes bs wb lp ls long = sym (lent_same bs long One)
+untouched g (ReadArray s) bytes bs wb lp ls long = sym (lent_same bs long One)
+untouched g (ReadBuffer b s) bytes bs wb lp ls long = sym (lent_same bs long One)
+untouched g (WriteBuffer b s) bytes bs wb lp ls long = absurd (wb b s refl)
+untouched g (LoadProtection d) bytes bs wb lp ls long = absurd (lp d refl)
+untouched g (LoadSecurity d) bytes bs wb lp ls long = absurd (ls d refl)
+untouched g ReadProtection bytes bs wb lp ls long = sym (lent_same bs long One)
+untouched g ReadLockdown bytes bs wb lp ls long = sym (lent_same bs long One)
+untouched g ReadSecurity bytes bs wb lp ls long = sym (lent_same bs long One)
+untouched g ReadStatus bytes bs wb lp ls long = sym (lent_same bs long One)
+untouched g ReadId bytes bs wb lp ls long = sym (lent_same bs long One)
 
 pub write_buffer-requires : goal.write_buffer-requires
 write_buffer-requires c = (c.requires.0, names_write c.args.g c.args.a _ _ c.in-WriteBuffer.is c.requires.1, c.requires.2)
@@ -92,4 +90,4 @@ returns-in-LoadSecurity c =
     ∙ lent-begun (bytes64 d) c.args.buffers.now (omega (arith, length-bytes64 d)) c.requires.2)
 
 pub returns-in_default : goal.returns-in_default
-returns-in_default c = untouched c.args.g c.args.a c.args.bytes.now c.args.buffers.now c.in_default.in_default-own.keys4 c.requires.2
+returns-in_default c = untouched c.args.g c.args.a c.args.bytes.now c.args.buffers.now c.in_default.not-WriteBuffer c.in_default.not-LoadProtection c.in_default.not-LoadSecurity c.requires.2

@@ -5,7 +5,6 @@ use mathlib.Core.List.{List}
 use Prim.Native.Nat.{ℕ, ◌*◌}
 use mathlib.Core.Path.{◌≡◌, refl, sym, ap, ◌∙◌}
 use lib.ListN.{length}
-use borrow.Author.Tests.{not-true, not-false}
 use Rattle.geometry.specs.Parts.{page_room}
 use Rattle.memory.specs.Replies.{replied}
 use Rattle.state.specs.Lent.{memory_in}
@@ -17,29 +16,21 @@ use Rattle.state.proofs.Arms.{decided_names, decided-lead, decided-reply, decide
 use Rattle.state.proofs.Lent.{memory-joined}
 use Rattle.state.proofs.Accepted.{framed_in, leaves_as, leaves-refused, known_frame, known_sent}
 use Rattle.state.proofs.Lengths.{sent-array}
-use Rattle.frames.proofs.send_to.Goals.{After-buffers_of-buffers, Start}
 use Rattle.frames.proofs.send_to.Goals as goal
-
--- the lengths of the chip's buffers, and of both together
-long : (s : Start) → (length s.args.c.buffer1 ≡ page_room) × (length s.args.c.buffer2 ≡ page_room)
-long s = (search rules, search rules)
-
-both : (p : After-buffers_of-buffers) → length p.buffers_of-buffers.result ≡ 2 * page_room
-both p = search rules
 
 pub returns-then-not-is_framed : goal.returns-then-not-is_framed
 returns-then-not-is_framed c =
     let a = c.args in
-    let t = sym c.is_framed.ensures ∙ not-true _ c.if-not-is_framed.true-raw in
+    let t = sym c.is_framed.ensures ∙ c.if-not-is_framed.true in
     leaves-refused Answers.Frame a.c a.array.now a.reply.now (known_frame (state_of a.c a.array.now) a.frame.now a.reply.now a.g t)
 
 pub respond-requires : goal.respond-requires
 respond-requires c =
     let a = c.args in
     let r = a.c.registers in
-    let l = framed_in _ _ (sym c.is_framed.ensures ∙ not-false _ c.if-not-is_framed.false-raw) in
+    let l = framed_in _ _ (sym c.is_framed.ensures ∙ c.if-not-is_framed.false) in
     let e = c.control_frame-d.ensures r (sym c.marks_of-m.ensures) in
-    let n = both c.before.before.before in (
+    let n : length c.buffers_of-buffers.result ≡ 2 * page_room = search rules in (
       c.requires,
       decided_names a.g r a.frame.now _ e _ c.requires,
       decided-lead a.g r a.frame.now _ e _ l.2,
@@ -62,7 +53,7 @@ pub act-requires : goal.act-requires
 act-requires c =
     let a = c.args in
     let r = a.c.registers in
-    let n = both c.before.before.before.before.before.before.before.before in
+    let n : length c.buffers_of-buffers.result ≡ 2 * page_room = search rules in
     (c.requires.most, decided_names a.g r a.frame.now _ (c.control_frame-d.ensures r (sym c.marks_of-m.ensures)) _ c.requires, n)
 
 pub returns : goal.returns
@@ -70,13 +61,14 @@ unfolding sent_state
 returns c =
     let a = c.args in
     let r = a.c.registers in
-    let t = sym c.is_framed.ensures ∙ not-false _ c.if-not-is_framed.false-raw in
+    let t = sym c.is_framed.ensures ∙ c.if-not-is_framed.false in
     let l = framed_in _ _ t in
     let m = sym c.marks_of-m.ensures in
     let e = c.control_frame-d.ensures r m in
-    let w = long c.before.before.before.before.before.before.before.before.before.before.before.before.before.before.before.before.before.before.before.before.before.before in
-    let n = both c.before.before.before.before.before.before.before.before.before.before.before.before in
-    let j = ap (λ (bs : List ℕ). memory_in a.array.now bs a.c.compare) c.buffers_of-buffers.ensures ∙ memory-joined a.c a.array.now w.0 w.1 in
+    let w1 : length a.c.buffer1 ≡ page_room = search rules in
+    let w2 : length a.c.buffer2 ≡ page_room = search rules in
+    let n : length c.buffers_of-buffers.result ≡ 2 * page_room = search rules in
+    let j = ap (λ (bs : List ℕ). memory_in a.array.now bs a.c.compare) c.buffers_of-buffers.ensures ∙ memory-joined a.c a.array.now w1 w2 in
     leaves_as (known_sent (state_of a.c a.array.now) a.frame.now a.reply.now a.g t)
     (record {
       answer = refl;

@@ -42,7 +42,7 @@ returns-else-not-is_framed c =
     let g = c.in-Known.g in
     met-done a.block.now (sent_state g a.frame.now (held_in a.block.now a.array.now))
     (sent-done (held_in a.block.now a.array.now) a.frame.now a.reply.now g e t) (sent-holds (held_in a.block.now a.array.now) o.1 g a.frame.now
-    (λ k. omega (arith, c.shared_slice_known-2-1.given k)) e)
+    (λ k. omega (arith, c.type_inv.frame k)) e)
     c.send_in.ensures.0 (sym (sent-array g (decode_registers a.block.now) a.frame.now (memory_of (decode_chip a.block.now) a.array.now))) c.send_in.ensures.1
 
 pub returns-in-Unknown : goal.returns-in-Unknown

@@ -1,51 +1,45 @@
 -- `obedience::class_of` meets its contract: the five rows that are named have a class of their own, and every other one the last.
 -- Assumes nothing.
 use mathlib.Core.Path.{◌≡◌, refl}
-use mathlib.Core.List.{List, [], ◌∷◌}
-use Prim.Native.Nat.{ℕ}
-use types.Run.{OneOf, miss}
-use denote.Enum.Declared.{tag_of}
 use Rattle.commands.specs.declared.Effect.{Effect}
 use Rattle.commands.specs.declared.Effect.TheVariants as E
-use Rattle.commands.specs.contracts.Effect.{the_type}
+use Rattle.commands.specs.declared.Buffer.{Buffer}
 use Rattle.control.specs.declared.Class.TheVariants.{Other}
 use Rattle.control.specs.Obeyed.{class_of}
 use Rattle.obedience.proofs.class_of.Goals as goal
 
--- the tags of the others
-abbrev others : List ℕ
-others = 0 ∷ 1 ∷ 4 ∷ 5 ∷ 6 ∷ 7 ∷ 8 ∷ 9 ∷ 10 ∷ 11 ∷ 12 ∷ 13 ∷ 14 ∷ 15 ∷ 16 ∷ 17 ∷ 18 ∷ 19 ∷ 20 ∷ 21 ∷ 22 ∷ 25 ∷ 27 ∷ []
-
-other : (e : Effect) → OneOf others (tag_of the_type e) → Other ≡ class_of e
+-- every row that is none of the five
+other : (e : Effect) → ((b : Buffer) → e ≡ E.ReadBuffer b → ⊥) → ((b : Buffer) → e ≡ E.WriteBuffer b → ⊥) → (e ≡ E.ReadStatus → ⊥)
+    → (e ≡ E.ReadId → ⊥) → (e ≡ E.Resume → ⊥) → Other ≡ class_of e
 unfolding class_of
-other E.ReadPage h = refl
-other E.ReadArray h = refl
-other (E.ReadBuffer b) h = absurd (miss others 2 tt h)
-other (E.WriteBuffer b) h = absurd (miss others 3 tt h)
-other (E.Program b) h = refl
-other (E.ProgramOver b) h = refl
-other (E.ProgramThrough b) h = refl
-other E.ErasePage h = refl
-other E.EraseBlock h = refl
-other E.EraseSector h = refl
-other E.EraseChip h = refl
-other (E.Transfer b) h = refl
-other (E.Compare b) h = refl
-other (E.Rewrite b) h = refl
-other E.ProtectOn h = refl
-other E.ProtectOff h = refl
-other E.EraseProtection h = refl
-other E.ProgramProtection h = refl
-other E.LockSector h = refl
-other E.ProgramSecurity h = refl
-other E.ReadProtection h = refl
-other E.ReadLockdown h = refl
-other E.ReadSecurity h = refl
-other E.ReadStatus h = absurd (miss others 23 tt h)
-other E.ReadId h = absurd (miss others 24 tt h)
-other E.PowerDown h = refl
-other E.Resume h = absurd (miss others 26 tt h)
-other E.Unlisted h = refl
+other E.ReadPage rb wb rs ri re = refl
+other E.ReadArray rb wb rs ri re = refl
+other (E.ReadBuffer b) rb wb rs ri re = absurd (rb b refl)
+other (E.WriteBuffer b) rb wb rs ri re = absurd (wb b refl)
+other (E.Program b) rb wb rs ri re = refl
+other (E.ProgramOver b) rb wb rs ri re = refl
+other (E.ProgramThrough b) rb wb rs ri re = refl
+other E.ErasePage rb wb rs ri re = refl
+other E.EraseBlock rb wb rs ri re = refl
+other E.EraseSector rb wb rs ri re = refl
+other E.EraseChip rb wb rs ri re = refl
+other (E.Transfer b) rb wb rs ri re = refl
+other (E.Compare b) rb wb rs ri re = refl
+other (E.Rewrite b) rb wb rs ri re = refl
+other E.ProtectOn rb wb rs ri re = refl
+other E.ProtectOff rb wb rs ri re = refl
+other E.EraseProtection rb wb rs ri re = refl
+other E.ProgramProtection rb wb rs ri re = refl
+other E.LockSector rb wb rs ri re = refl
+other E.ProgramSecurity rb wb rs ri re = refl
+other E.ReadProtection rb wb rs ri re = refl
+other E.ReadLockdown rb wb rs ri re = refl
+other E.ReadSecurity rb wb rs ri re = refl
+other E.ReadStatus rb wb rs ri re = absurd (rs refl)
+other E.ReadId rb wb rs ri re = absurd (ri refl)
+other E.PowerDown rb wb rs ri re = refl
+other E.Resume rb wb rs ri re = absurd (re refl)
+other E.Unlisted rb wb rs ri re = refl
 
 pub returns-in-ReadBuffer : goal.returns-in-ReadBuffer
 unfolding class_of
@@ -68,4 +62,6 @@ unfolding class_of
 returns-in-Resume c = rw c.in-Resume.is
 
 pub returns-in_default : goal.returns-in_default
-returns-in_default c = other c.args.e c.in_default.in_default-own.keys6
+returns-in_default c =
+    other c.args.e c.in_default.not-ReadBuffer c.in_default.not-WriteBuffer c.in_default.not-ReadStatus c.in_default.not-ReadId
+    c.in_default.not-Resume

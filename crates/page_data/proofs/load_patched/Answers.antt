@@ -2,7 +2,6 @@
 -- Assumes nothing.
 use native.Mathlib.Omega.{arith}
 use lib.ListN.{length}
-use borrow.Author.Tests.{not-true, not-false}
 use Rattle.page_data.proofs.Pages.{patch-kept, patch-laid}
 use Rattle.page_data.proofs.load_patched.Goals as goal
 
@@ -12,7 +11,7 @@ returns-then-not-is_changing c =
     let r = c.copy in
     let h = c.is_changing in
     patch-kept a.verdict a.aim a.payload.now a.staged.now a.start (length a.part.now) (omega (arith, c.requires.0, c.requires.1)) r.new.part r.ensures
-    h.ensures (not-true h.result c.if-not-is_changing.true-raw)
+    h.ensures c.if-not-is_changing.true
 
 pub returns : goal.returns
 returns c =
@@ -22,4 +21,4 @@ returns c =
     let l = c.lay_patch in
     let h = c.is_changing in
     patch-laid a.verdict a.aim a.payload.now a.staged.now a.start (length a.part.now) (omega (arith, c.requires.0, c.requires.1)) r.new.part r.ensures
-    b.result l.new.part h.ensures (not-false h.result c.if-not-is_changing.false-raw) b.ensures.0 l.ensures
+    b.result l.new.part h.ensures c.if-not-is_changing.false b.ensures.0 l.ensures

@@ -13,4 +13,4 @@ returns c =
     let a = c.args in
     c.first_failed.ensures
     ∙ (λ i. cond (c.is_record-record.ensures i)
-    (cond ((c.is_within.ensures ∙ ap (λ (p : Period). is_within p a.today) c.period_in.ensures) i) Good Outside) Blank)
+    (cond ((c.is_within-inside.ensures ∙ ap (λ (p : Period). is_within p a.today) c.period_in.ensures) i) Good Outside) Blank)

@@ -11,21 +11,13 @@ use native.Mathlib.Omega.{arith}
 use Prim.Native.Nat.{ℕ}
 use mathlib.Core.Path.{◌≡◌, refl, sym, ap, ◌∙◌}
 use borrow.Author.Rules.{rules}
-use Rattle.storing.proofs.encode.Goals.{Start}
 use Rattle.storing.proofs.encode.Goals as goal
 
--- the lengths of the buffers
-long : (s : Start) → (length s.args.c.buffer1 ≡ page_room) × (length s.args.c.buffer2 ≡ page_room)
-long s = (search rules, search rules)
-
-arrays : (s : Start) → Lengths s.args.c.registers
-arrays s = record { protection = search rules; lockdown = search rules; user = search rules; factory = search rules }
-
 pub put-requires : goal.put-requires
-put-requires c = omega (arith, (long c.before.before.before.before.before.before.before.before.before).0)
+put-requires c = let l : length c.args.c.buffer1 ≡ page_room = search rules in omega arith
 
 pub put-requires-2 : goal.put-requires-2
-put-requires-2 c = omega (arith, (long c.before.before.before.before.before.before.before.before.before.before.before.before.before.before.before).1)
+put-requires-2 c = let l : length c.args.c.buffer2 ≡ page_room = search rules in omega arith
 
 pub shape_of-block : goal.shape_of-block
 shape_of-block c = simp length-set (c.put-2.auto.block ∙ c.put.auto.block ∙ c.encode_registers.auto.block)
@@ -35,11 +27,14 @@ unfolding encode_chip
 returns c =
     let k = c.args.c in
     let x = c.flag_byte.result in
+    let l1 : length k.buffer1 ≡ page_room = search rules in
+    let l2 : length k.buffer2 ≡ page_room = search rules in
+    let a : Lengths k.registers = record { protection = search rules; lockdown = search rules; user = search rules; factory = search rules } in
     let z =
     stored_more (x ∷ []) 1 refl
-    (stored_more k.buffer2 page_room (long c.before.before.before.before.before.before.before.before.before.before.before.before.before.before.before.before.before.before.before).1
-    (stored_more k.buffer1 page_room (long c.before.before.before.before.before.before.before.before.before.before.before.before.before.before.before.before.before.before.before).0
-    (record { long = length-encode_registers k.registers (arrays c.before.before.before.before.before.before.before.before.before.before.before.before.before.before.before.before.before.before.before); same = c.encode_registers.ensures })
+    (stored_more k.buffer2 page_room l2
+    (stored_more k.buffer1 page_room l1
+    (record { long = length-encode_registers k.registers a; same = c.encode_registers.ensures })
     c.put.ensures)
     c.put-2.ensures)
     (splice_one 764 x c.put-2.new.block)

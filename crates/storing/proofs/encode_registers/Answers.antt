@@ -11,45 +11,31 @@ use Rattle.blocks.specs.Block.{head_of, head_bytes, flagged, data_bytes, encode_
 use Rattle.control.specs.Starts.{Lengths}
 use Rattle.blocks.proofs.Lengths.{length-head_bytes, length-data_bytes}
 use Rattle.blocks.proofs.Stored.{stored-none, stored_more, five}
-use Rattle.storing.proofs.encode_registers.Goals.{After-put-4, Start}
 use Rattle.storing.proofs.encode_registers.Goals as goal
 
--- the lengths of the arrays
-arrays : (s : Start) → Lengths s.args.r
-arrays s = record { protection = search rules; lockdown = search rules; user = search rules; factory = search rules }
-
--- the block keeps its length
-long : (p : After-put-4) → length p.put-4.new.block ≡ 765
-long p4 =
-    let p3 = p4.before.before.before.before.before.before in
-    let p2 = p3.before.before.before.before.before.before in
-    let p1 = p2.before.before.before.before.before.before in
-    let s = p1.before.before.before.before.before in
-    p4.put4.auto.0 ∙ p3.put3.auto.0 ∙ p2.put2.auto.0 ∙ p1.put.auto.block ∙ s.requires
-
 pub put-requires : goal.put-requires
-put-requires c = omega (arith, (arrays c.before.before.before.before).protection)
+put-requires c = let l : length c.args.r.protection ≡ 16 = search rules in omega arith
 
 pub put-requires-2 : goal.put-requires-2
-put-requires-2 c = omega (arith, (arrays c.before.before.before.before.before.before.before.before.before.before).lockdown)
+put-requires-2 c = let l : length c.args.r.lockdown ≡ 16 = search rules in omega arith
 
 pub put-requires-3 : goal.put-requires-3
-put-requires-3 c = omega (arith, (arrays c.before.before.before.before.before.before.before.before.before.before.before.before.before.before.before.before).user)
+put-requires-3 c = let l : length c.args.r.user ≡ 64 = search rules in omega arith
 
 pub put-requires-4 : goal.put-requires-4
-put-requires-4 c = omega (arith, (arrays c.before.before.before.before.before.before.before.before.before.before.before.before.before.before.before.before.before.before.before.before.before.before).factory)
+put-requires-4 c = let l : length c.args.r.factory ≡ 64 = search rules in omega arith
 
 pub put_operation-requires : goal.put_operation-requires
-put_operation-requires c = long c.before.before.before
+put_operation-requires c = c.put-4.auto.block ∙ c.put-3.auto.block ∙ c.put-2.auto.block ∙ c.put.auto.block ∙ c.requires
 
 pub shape_of-block : goal.shape_of-block
-shape_of-block c = c.put_operation.auto.block ∙ long c.before.before.before.before.before.before ∙ sym c.requires
+shape_of-block c = c.put_operation.auto.block ∙ c.put-4.auto.block ∙ c.put-3.auto.block ∙ c.put-2.auto.block ∙ c.put.auto.block
 
 pub returns : goal.returns
 unfolding encode_registers head_bytes
 returns c =
     let r = c.args.r in
-    let a = arrays c.before.before.before.before.before.before.before.before.before.before.before.before.before.before.before.before.before.before.before.before.before.before.before.before.before.before.before.before.before in
+    let a : Lengths r = record { protection = search rules; lockdown = search rules; user = search rules; factory = search rules } in
     let f = flagged r.used r.protect r.wp r.deep in
     let middle = head_bytes f (head_of r.operation) ++ data_bytes r.operation in
     let m : length middle ≡ 76 = length-append (head_bytes f (head_of r.operation)) (data_bytes r.operation) ∙ omega (arith, length-head_bytes f (head_of r.operation), length-data_bytes r.operation) in

@@ -10,4 +10,4 @@ unfolding is_wait
 returns-in-Wait c = rw c.in-Wait.is (search rules)
 
 pub returns : goal.returns
-returns c = no_wait c.args.x c.in_default.in_default-own.keys2
+returns c = no_wait c.args.x c.in_default.not-Wait

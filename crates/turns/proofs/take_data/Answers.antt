@@ -14,9 +14,8 @@ pub returns-in-Wait : goal.returns-in-Wait
 returns-in-Wait c =
     let a = c.args in
     let h = holding_of a.d a.payload.now a.staged.now in
-    let x = c.x-1.given in
-    let took = taken_wait x.0.0 a.g a.d.kind h a.reply.now in
-    let e = ap (λ (x : Step). taken_by x a.g a.d.kind h a.reply.now) (sym x.1 ∙ c.requires.1) in
+    let took = taken_wait c.in-Wait.c a.g a.d.kind h a.reply.now in
+    let e = ap (λ (x : Step). taken_by x a.g a.d.kind h a.reply.now) (sym c.in-Wait.is ∙ c.requires.1) in
     (c.take_compare.ensures ∙ took.0 ∙ ap (λ (k : Holding). k.verdict) e, took.1 ∙ ap (λ (k : Holding). k.staged) e)
 
 pub returns-in-Read : goal.returns-in-Read
@@ -32,6 +31,6 @@ pub returns-in_default : goal.returns-in_default
 returns-in_default c =
     let a = c.args in
     let h = holding_of a.d a.payload.now a.staged.now in
-    let took = taken_none a.x a.g a.d.kind h a.reply.now c.in_default.in_default-own.keys3
+    let took = taken_none a.x a.g a.d.kind h a.reply.now c.in_default.not-Wait c.in_default.not-Read
     ∙ ap (λ (x : Step). taken_by x a.g a.d.kind h a.reply.now) c.requires.1 in
     (ap (λ (k : Holding). k.verdict) took, ap (λ (k : Holding). k.staged) took)
