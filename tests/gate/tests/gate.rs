@@ -5,6 +5,7 @@ use std::fs;
 use std::os::unix::fs::PermissionsExt;
 use std::path::PathBuf;
 use std::process::Command;
+use std::thread;
 
 use gate_tests::files::{names, root};
 
@@ -170,6 +171,22 @@ impl Drop for Sham {
     }
 }
 
+/// That the gate fails at each fault, side by side; where `ci` is given, rt ci
+/// says that.
+fn all_fail(name: &str, ci: Option<&str>, faults: &[Fault]) {
+    thread::scope(|scope| {
+        for (at, fault) in faults.iter().enumerate() {
+            scope.spawn(move || {
+                let sham = Sham::new(&format!("{name}-{at}"));
+                if let Some(ci) = ci {
+                    sham.write("said.ci", ci);
+                }
+                sham.fails(*fault);
+            });
+        }
+    });
+}
+
 /// A file, a text in another's place, and the gate's last line then.
 type Fault = (&'static str, &'static str, &'static str, &'static str);
 
@@ -302,9 +319,7 @@ const FAULTS: [Fault; 24] = [
 
 #[test]
 fn fails_wherever_a_part_does() {
-    for (at, fault) in FAULTS.into_iter().enumerate() {
-        Sham::new(&format!("fails-{at}")).fails(fault);
-    }
+    all_fail("part", None, &FAULTS);
 }
 
 /// What the files have is looked at before anything is proved.
@@ -315,9 +330,7 @@ fn fails_where_the_files_have_changed() {
         ("crates.txt", "outline: one\n", "", "counts"),
         ("crates/one/src/lib.rt", "pub fn f() {}\n", "", "counts"),
     ];
-    for (at, fault) in faults.into_iter().enumerate() {
-        Sham::new(&format!("files-{at}")).fails(fault);
-    }
+    all_fail("files", None, &faults);
 }
 
 /// The same where an earlier run had done it all, so that rt ci says little.
@@ -358,9 +371,5 @@ fn fails_where_all_is_kept() {
             "a count has moved",
         ),
     ];
-    for (at, fault) in faults.into_iter().enumerate() {
-        let sham = Sham::new(&format!("kept-{at}"));
-        sham.write("said.ci", KEPT);
-        sham.fails(fault);
-    }
+    all_fail("kept", Some(KEPT), &faults);
 }
