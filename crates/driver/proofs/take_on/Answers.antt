@@ -1,19 +1,20 @@
 -- `driver::take_on` meets its contract: a state that counts as ended takes nothing in, any other goes by its step.
 -- Assumes nothing.
-use mathlib.Core.Bool.{false}
+use mathlib.Core.Bool.{Bool, false}
 use mathlib.Core.Path.{◌≡◌, sym, ap, ◌∙◌}
-use Rattle.geometry.specs.declared.Part.TheVariants.{Known}
+use Rattle.geometry.specs.declared.Part.{Part}
+use Rattle.slots.specs.declared.Driver.{Driver}
+use Rattle.slots.specs.declared.Stage.{Stage}
 use Rattle.slots.specs.Driver.{is_ended}
 use Rattle.turns.proofs.Turns.{sound-slot}
 use Rattle.worlds.specs.Step.{stage_by}
 use Rattle.worlds.proofs.Going.{going-sound}
 use Rattle.driver.proofs.States.{ended_took, going_took}
-use Rattle.driver.proofs.take_on.Goals.{Else-has_ended}
 use Rattle.driver.proofs.take_on.Goals as goal
 
 -- behind the test the state counts as going
-going : (e : Else-has_ended) → is_ended (stage_by (Known e.args.g) e.args.d) ≡ false
-going e = ap is_ended (sym e.stage-s.ensures) ∙ sym e.has_ended.ensures ∙ e.if-has_ended.false
+going : (p : Part) (d : Driver) {s : Stage} {b : Bool} → s ≡ stage_by p d → b ≡ is_ended s → b ≡ false → is_ended (stage_by p d) ≡ false
+going p d s b e = ap is_ended (sym s) ∙ sym b ∙ e
 
 pub stage-s-requires : goal.stage-s-requires
 stage-s-requires c = sym c.requires.0
@@ -24,12 +25,12 @@ returns-then-has_ended c =
     ended_took a.g a.d a.payload.now a.staged.now a.reply.now c.stage-s.ensures (sym c.has_ended.ensures ∙ c.if-has_ended.true) c.with_stage.ensures
 
 pub step_at-requires : goal.step_at-requires
-step_at-requires c = sound-slot (going-sound c.args.g c.args.d c.requires.0 (going c.before))
+step_at-requires c = sound-slot (going-sound c.args.g c.args.d c.requires.0 (going _ _ c.stage-s.ensures c.has_ended.ensures c.if-has_ended.false))
 
 pub take_step-requires : goal.take_step-requires
-take_step-requires c = (going-sound c.args.g c.args.d c.requires.0 (going c.before.before.before), c.step_at.ensures.0 c.args.g, c.requires.1)
+take_step-requires c = (going-sound c.args.g c.args.d c.requires.0 (going _ _ c.stage-s.ensures c.has_ended.ensures c.if-has_ended.false), c.step_at.ensures.0 c.args.g, c.requires.1)
 
 pub returns : goal.returns
 returns c =
     let a = c.args in
-    going_took a.g a.d a.payload.now a.staged.now a.reply.now (going c.before.before.before.before.before.before) c.take_step.ensures
+    going_took a.g a.d a.payload.now a.staged.now a.reply.now (going _ _ c.stage-s.ensures c.has_ended.ensures c.if-has_ended.false) c.take_step.ensures
