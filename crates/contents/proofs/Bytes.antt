@@ -1,13 +1,13 @@
 -- The bytes of a word that is a part of the line: two digits make one, so a buffer half as long as the line holds them all.
 -- Assumes nothing.
-use mathlib.Core.Path.{◌≡◌, sym, ap, ◌∙◌}
+use mathlib.Core.Path.{◌≡◌, ap, ◌∙◌}
 use mathlib.Core.List.{List}
 use Prim.Native.Nat.{ℕ, ◌-◌, ◌*◌, ◌/◌, ◌≤◌, min}
 use native.Mathlib.Omega.{arith}
 use lib.ListN.{length, take, drop, length-take, length-drop}
 use Rattle.slices.specs.Lists.{over}
 use Rattle.slices.proofs.Laws.{over_front}
-use Rattle.text.specs.Hexadecimal.{pairs, hex_of, count_of, bytes_of}
+use Rattle.text.specs.Hexadecimal.{bytes_of}
 use Rattle.hexadecimal.proofs.Pairs.{length_pairs}
 use Rattle.words.specs.declared.Span.{Span}
 use Rattle.words.specs.Words.{part_of}

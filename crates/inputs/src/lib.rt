@@ -9,6 +9,7 @@ ghost use Rattle.printing.specs.Held.{Flushed};
 
 use lines::count;
 use obeying::Session;
+use std::io::Stdout;
 
 #[derive(Clone, Copy)]
 pub struct Reader {
@@ -31,6 +32,7 @@ fn keep(filled: usize, byte: u8, line: &mut [u8]) -> usize
 
 // The line is whole: what it says is done.
 fn end_line(
+    stdout: Stdout,
     r: Reader,
     block: &mut [u8; 765],
     array: &mut [u8],
@@ -44,7 +46,17 @@ fn end_line(
     ensures { Ends (place r block.old array.old log.old out.old text.old line.now) (place result block.new array.new log.new out.new text.new line.now) }
 {
     let n = count(r.filled, line);
-    let s = obeying::act_on(r.session, &line[..n], block, array, junk, log, out, text);
+    let s = obeying::act_on(
+        stdout,
+        r.session,
+        &line[..n],
+        block,
+        array,
+        junk,
+        log,
+        out,
+        text,
+    );
     Reader {
         session: s,
         filled: 0,
@@ -53,6 +65,7 @@ fn end_line(
 
 // One byte of the input: LF ends a line.
 fn feed(
+    stdout: Stdout,
     r: Reader,
     byte: u8,
     block: &mut [u8; 765],
@@ -67,7 +80,7 @@ fn feed(
     ensures { Reads (byte ∷ []) (place r block.old array.old log.old out.old text.old line.old) (place result block.new array.new log.new out.new text.new line.new) }
 {
     if byte == b'\n' {
-        return end_line(r, block, array, junk, log, out, text, line);
+        return end_line(stdout, r, block, array, junk, log, out, text, line);
     }
     let n = keep(r.filled, byte, line);
     let mut t = r;
@@ -85,6 +98,7 @@ fn behind(piece: &[u8], at: usize) -> usize
 
 // A piece of the input.
 pub fn take_piece(
+    stdout: Stdout,
     start: Reader,
     piece: &[u8],
     block: &mut [u8; 765],
@@ -101,7 +115,9 @@ pub fn take_piece(
     let mut r = start;
     let mut i = 0;
     while i < piece.len() {
-        r = feed(r, piece[i], block, array, junk, log, out, text, line);
+        r = feed(
+            stdout, r, piece[i], block, array, junk, log, out, text, line,
+        );
         i = behind(piece, i);
     }
     r
@@ -109,6 +125,7 @@ pub fn take_piece(
 
 // The end of the input: a line that no LF ends.
 pub fn finish(
+    stdout: Stdout,
     r: Reader,
     block: &mut [u8; 765],
     array: &mut [u8],
@@ -124,14 +141,14 @@ pub fn finish(
     if r.filled == 0 {
         return r;
     }
-    end_line(r, block, array, junk, log, out, text, line)
+    end_line(stdout, r, block, array, junk, log, out, text, line)
 }
 
 // What waits to be written is written.
-pub fn write_out(r: Reader, text: &[u8]) -> Reader
+pub fn write_out(stdout: Stdout, r: Reader, text: &[u8]) -> Reader
     ensures { Flushed r.session.output text.now result.session.output × (result ≡ reader_with r result.session.output) }
 {
-    let o = printing::flush(r.session.output, text);
+    let o = printing::flush(stdout, r.session.output, text);
     Reader {
         session: obeying::with_output(r.session, o),
         filled: r.filled,

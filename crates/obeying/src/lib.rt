@@ -21,6 +21,7 @@ use acting::Totals;
 use lines::count;
 use orders::{Command, Fault, Order, Reading};
 use printing::Output;
+use std::io::Stdout;
 
 // The length of the array of the part that the program starts with.
 const FIRST_LENGTH: usize = 33792;
@@ -84,7 +85,7 @@ fn next_line(s: Session) -> Session
 // ---- a step
 
 // What it shows is printed: a call's frames and totals, or the answer alone.
-fn show(c: Command, o: Output, text: &mut [u8], log: &[u8], t: Totals) -> Output
+fn show(stdout: Stdout, c: Command, o: Output, text: &mut [u8], log: &[u8], t: Totals) -> Output
     requires { 128 ≤ length text.old }
     ensures { Printed (shown_by (is_call c) log.now t.frames t.polls t.answer) o text.old result text.new }
 {
@@ -92,13 +93,14 @@ fn show(c: Command, o: Output, text: &mut [u8], log: &[u8], t: Totals) -> Output
     let polls = t.polls;
     let answer = t.answer;
     if orders::is_call(c) {
-        return printing::print_call(o, text, log, frames, polls, answer);
+        return printing::print_call(stdout, o, text, log, frames, polls, answer);
     }
-    printing::print_answer(o, text, answer)
+    printing::print_answer(stdout, o, text, answer)
 }
 
 // The order is carried out on what is lent, and what it shows is printed.
 fn run(
+    stdout: Stdout,
     o: Order,
     s: Session,
     block: &mut [u8; 765],
@@ -116,12 +118,13 @@ fn run(
     let t = acting::take_step(o, block, array, bytes, script, junk, log, out);
     let c = o.command;
     let given = t.given;
-    let p = show(c, s.output, text, log, t);
+    let p = show(stdout, c, s.output, text, log, t);
     after_step(s, array.len(), log.len(), out.len(), given, p)
 }
 
 // The array and the buffers are lent at their lengths.
 fn lend(
+    stdout: Stdout,
     o: Order,
     s: Session,
     block: &mut [u8; 765],
@@ -142,6 +145,7 @@ fn lend(
     let g = count(l.log, log);
     let u = count(l.out, out);
     run(
+        stdout,
         o,
         s,
         block,
@@ -157,6 +161,7 @@ fn lend(
 
 // A call, or an event on the chip.
 fn step(
+    stdout: Stdout,
     o: Order,
     s: Session,
     line: &[u8],
@@ -177,6 +182,7 @@ fn step(
     let m = contents::bytes_of(line, w, &mut bytes);
     let k = contents::bytes_of(line, v, &mut script);
     lend(
+        stdout,
         o,
         s,
         block,
@@ -228,6 +234,7 @@ pub fn start(block: &mut [u8; 765], array: &mut [u8]) -> Session
 
 // The checksums of the last step.
 fn sum(
+    stdout: Stdout,
     s: Session,
     block: &[u8; 765],
     array: &[u8],
@@ -242,6 +249,7 @@ fn sum(
     let l = count(s.log, log);
     let o = count(s.out, out);
     let p = printing::print_sum(
+        stdout,
         s.output,
         text,
         block,
@@ -254,13 +262,13 @@ fn sum(
 }
 
 // What is wrong with the line.
-fn tell(s: Session, f: Fault, text: &mut [u8]) -> Session
+fn tell(stdout: Stdout, s: Session, f: Fault, text: &mut [u8]) -> Session
     requires { 128 ≤ length text.old }
     ensures { (result ≡ with_output s result.output) × Printed (fault_text s.lines (text_of f)) s.output text.old result.output text.new }
 {
     let mut message = [0u8; 64];
     let k = orders::message(f, &mut message);
-    let p = printing::print_fault(s.output, text, s.lines, &message[..k]);
+    let p = printing::print_fault(stdout, s.output, text, s.lines, &message[..k]);
     with_output(s, p)
 }
 
@@ -304,6 +312,7 @@ fn is_sum(c: Command) -> bool
 
 // The order `o` of a line.
 fn obey(
+    stdout: Stdout,
     o: Order,
     s: Session,
     line: &[u8],
@@ -319,16 +328,17 @@ fn obey(
 {
     let command = o.command;
     if is_step(command) {
-        return step(o, s, line, block, array, junk, log, out, text);
+        return step(stdout, o, s, line, block, array, junk, log, out, text);
     }
     if is_sum(command) {
-        return sum(s, block, array, log, out, text);
+        return sum(stdout, s, block, array, log, out, text);
     }
     part(s, o.number, block, array)
 }
 
 // A line is whole: it is acted on, or what is wrong with it is printed.
 pub fn act_on(
+    stdout: Stdout,
     s: Session,
     line: &[u8],
     block: &mut [u8; 765],
@@ -344,7 +354,7 @@ pub fn act_on(
     let t = next_line(s);
     let r = orders::read(line);
     match r {
-        Reading::Order(o) => obey(o, t, line, block, array, junk, log, out, text),
-        Reading::Fault(f) => tell(t, f, text),
+        Reading::Order(o) => obey(stdout, o, t, line, block, array, junk, log, out, text),
+        Reading::Fault(f) => tell(stdout, t, f, text),
     }
 }

@@ -10,10 +10,10 @@ ghost use Rattle.inputs.specs.Places.{line_room, place, Closes};
 ghost use Rattle.outline.specs.Run.{Went, Said};
 
 use inputs::Reader;
-use libc::STDIN_FILENO;
+use std::io::{Read, Stderr, Stdin, Stdout};
 
-// How often a read that fails is tried again: the kit does not say why it failed, so one that was interrupted or came too soon is not told
-// from one that fails for good.
+// How often a read that fails is tried again, whatever the system says of it: one that was interrupted or came too soon is not told from one
+// that fails for good.
 const TRIES: u32 = 33_554_432;
 
 // How many bytes of the input are read, whether to read on, and whether the input cannot be read.
@@ -59,7 +59,7 @@ fn line_room() -> [u8; 8193]
     [0; 8193]
 }
 
-fn main() {
+fn main(rt: HostRuntime) {
     let mut block = [0u8; 765];
     let mut array = full_array();
     let mut junk = full_junk();
@@ -68,23 +68,39 @@ fn main() {
     let mut text = io::large_buffer();
     let mut line = line_room();
     let e = run(
-        &mut block, &mut array, &mut junk, &mut log, &mut out, &mut text, &mut line,
+        rt.stdin(),
+        rt.stdout(),
+        &mut block,
+        &mut array,
+        &mut junk,
+        &mut log,
+        &mut out,
+        &mut text,
+        &mut line,
     );
-    report(e);
+    report(rt.stderr(), e);
 }
 
 // What failed is said on standard error.
-fn report(e: Ended) {
+fn report(stderr: Stderr, e: Ended) {
     if e.unread {
-        printing::complain(b"outline: the input cannot be read; what was read is outlined\n");
+        printing::complain(
+            stderr,
+            b"outline: the input cannot be read; what was read is outlined\n",
+        );
     }
     if e.unwritten {
-        printing::complain(b"outline: the output cannot be written; it is not whole\n");
+        printing::complain(
+            stderr,
+            b"outline: the output cannot be written; it is not whole\n",
+        );
     }
 }
 
 // The whole run, with all that the program holds lent.
 fn run(
+    stdin: Stdin,
+    stdout: Stdout,
     block: &mut [u8; 765],
     array: &mut [u8],
     junk: &mut [u8],
@@ -101,9 +117,9 @@ fn run(
         session: s,
         filled: 0,
     };
-    let i = read_all(r, block, array, junk, log, out, text, line);
-    let t = end_input(i, block, array, junk, log, out, text, line);
-    let w = inputs::write_out(t, text);
+    let i = read_all(stdin, stdout, r, block, array, junk, log, out, text, line);
+    let t = end_input(stdout, i, block, array, junk, log, out, text, line);
+    let w = inputs::write_out(stdout, t, text);
     let o = w.session.output;
     Ended {
         unread: i.failed,
@@ -123,15 +139,15 @@ pub struct Got {
 }
 
 // One read, tried again while it fails.
-fn read_some(piece: &mut [u8]) -> Got
+fn read_some(stdin: Stdin, piece: &mut [u8]) -> Got
     ensures { IsPrefixLen result.count piece.new }
 {
+    let mut from = stdin;
     let mut tries = TRIES;
     while tries > 0 {
-        let got = libc::read(STDIN_FILENO, piece);
-        if got >= 0 {
+        if let Ok(n) = from.read(piece) {
             return Got {
-                count: io::count(got, piece),
+                count: n,
                 failed: false,
             };
         }
@@ -156,6 +172,8 @@ fn stopped(i: Input, failed: bool) -> Input
 // One piece of the input is read and acted on; what waits to be written is written. The end of the input closes it, and so does a read that
 // fails for good, or a count that has no room for the piece. Where writing has failed nothing more is read.
 fn read_piece(
+    stdin: Stdin,
+    stdout: Stdout,
     i: Input,
     block: &mut [u8; 765],
     array: &mut [u8],
@@ -169,7 +187,7 @@ fn read_piece(
     ensures { Went i.read (place i.reader block.old array.old log.old out.old text.old line.old) result.read (place result.reader block.new array.new log.new out.new text.new line.new) }
 {
     let mut piece = io::large_buffer();
-    let got = read_some(&mut piece);
+    let got = read_some(stdin, &mut piece);
     let n = got.count;
     if n == 0 {
         return stopped(i, got.failed);
@@ -180,8 +198,10 @@ fn read_piece(
     }
     let read = i.read + n as u64;
     let bytes = &piece[..n];
-    let t = inputs::take_piece(i.reader, bytes, block, array, junk, log, out, text, line);
-    let w = inputs::write_out(t, text);
+    let t = inputs::take_piece(
+        stdout, i.reader, bytes, block, array, junk, log, out, text, line,
+    );
+    let w = inputs::write_out(stdout, t, text);
     let o = w.session.output;
     Input {
         reader: w,
@@ -194,6 +214,8 @@ fn read_piece(
 // Every piece of the input. A proved loop has to end, and nothing says that the input does: the loop counts its turns down from a number
 // that no run uses up.
 fn read_all(
+    stdin: Stdin,
+    stdout: Stdout,
     start: Reader,
     block: &mut [u8; 765],
     array: &mut [u8],
@@ -214,7 +236,7 @@ fn read_all(
     };
     let mut turns = u64::MAX;
     while turns > 0 && i.more {
-        i = read_piece(i, block, array, junk, log, out, text, line);
+        i = read_piece(stdin, stdout, i, block, array, junk, log, out, text, line);
         turns -= 1;
     }
     i
@@ -222,6 +244,7 @@ fn read_all(
 
 // The input has ended: the last line too, unless the input could not be read to its end.
 fn end_input(
+    stdout: Stdout,
     i: Input,
     block: &mut [u8; 765],
     array: &mut [u8],
@@ -237,5 +260,5 @@ fn end_input(
     if i.failed {
         return i.reader;
     }
-    inputs::finish(i.reader, block, array, junk, log, out, text, line)
+    inputs::finish(stdout, i.reader, block, array, junk, log, out, text, line)
 }

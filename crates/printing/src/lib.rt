@@ -7,11 +7,11 @@ ghost use Rattle.lines.specs.Texts.{frame_text, answer_text, totals_text, fault_
 ghost use Rattle.printing.specs.Held.{Printed, Flushed};
 ghost use Rattle.printing.specs.Texts.{frames_text, call_text, checksum, sum_line};
 
-use libc::{STDERR_FILENO, STDOUT_FILENO};
 use lines::{count, put};
+use std::io::{Print, Stderr, Stdout};
 
-// How often a write that takes nothing is tried again: the kit does not say why it took nothing, so one that was interrupted or came too soon
-// is not told from one that fails for good.
+// How often a write that takes nothing is tried again, whatever the system says of it: one that was interrupted or came too soon is not told
+// from one that fails for good.
 const TRIES: u32 = 33_554_432;
 
 #[derive(Clone, Copy)]
@@ -38,20 +38,22 @@ pub fn nothing() -> Output
 // ---- writing
 
 // One write of the bytes to standard output; how many of them the system took.
-fn write_once(bytes: &[u8]) -> usize
+fn write_once(stdout: Stdout, bytes: &[u8]) -> usize
     ensures { result ≤ length bytes.now }
 {
-    let got = libc::write(STDOUT_FILENO, bytes);
-    io::count(got, bytes)
+    match stdout.write_some(bytes) {
+        Ok(n) => n,
+        Err(_) => 0,
+    }
 }
 
 // The same, tried again while it takes nothing; 0 where it fails for good.
-fn write_some(bytes: &[u8]) -> usize
+fn write_some(stdout: Stdout, bytes: &[u8]) -> usize
     ensures { result ≤ length bytes.now }
 {
     let mut tries = TRIES;
     while tries > 0 {
-        let k = write_once(bytes);
+        let k = write_once(stdout, bytes);
         if k > 0 {
             return k;
         }
@@ -61,13 +63,13 @@ fn write_some(bytes: &[u8]) -> usize
 }
 
 // All of the text, each write going on where the one before it stopped; how many bytes were taken: all, unless writing fails for good.
-fn write_all(text: &[u8]) -> usize
+fn write_all(stdout: Stdout, text: &[u8]) -> usize
     ensures { result ≤ length text.now }
 {
     let mut done = 0;
     while done < text.len() {
         let n = text.len();
-        let k = write_some(&text[done..n]);
+        let k = write_some(stdout, &text[done..n]);
         if k == 0 {
             return done;
         }
@@ -77,7 +79,7 @@ fn write_all(text: &[u8]) -> usize
 }
 
 // Everything that waits is written. A count that has no room for it is a failure too.
-pub fn flush(o: Output, text: &[u8]) -> Output
+pub fn flush(stdout: Stdout, o: Output, text: &[u8]) -> Output
     ensures { Flushed o text.now result }
 {
     if o.failed {
@@ -88,7 +90,7 @@ pub fn flush(o: Output, text: &[u8]) -> Output
     if room < n as u64 {
         return stopped(o);
     }
-    let k = write_all(&text[..n]);
+    let k = write_all(stdout, &text[..n]);
     Output {
         waiting: n - k,
         written: o.written + k as u64,
@@ -115,7 +117,7 @@ fn with_waiting(o: Output, waiting: usize) -> Output
 }
 
 // A line is put behind the text that waits; where it has no room there, what waits is written first.
-fn emit(o: Output, text: &mut [u8], line: &[u8]) -> Output
+fn emit(stdout: Stdout, o: Output, text: &mut [u8], line: &[u8]) -> Output
     requires { length line.now ≤ length text.old }
     ensures { Printed line.now o text.old result text.new }
 {
@@ -124,7 +126,7 @@ fn emit(o: Output, text: &mut [u8], line: &[u8]) -> Output
         let end = put(text, at, line);
         return with_waiting(o, end);
     }
-    let p = flush(o, text);
+    let p = flush(stdout, o, text);
     if p.failed {
         return p;
     }
@@ -133,11 +135,13 @@ fn emit(o: Output, text: &mut [u8], line: &[u8]) -> Output
 }
 
 // A message on standard error; how many of its bytes the system took.
-pub fn complain(message: &[u8]) -> usize
+pub fn complain(stderr: Stderr, message: &[u8]) -> usize
     ensures { result ≤ length message.now }
 {
-    let got = libc::write(STDERR_FILENO, message);
-    io::count(got, message)
+    match stderr.write_some(message) {
+        Ok(n) => n,
+        Err(_) => 0,
+    }
 }
 
 // ---- lines
@@ -149,17 +153,17 @@ fn blank() -> [u8; 128]
     [0; 128]
 }
 
-fn print_frame(o: Output, text: &mut [u8], entry: &[u8]) -> Output
+fn print_frame(stdout: Stdout, o: Output, text: &mut [u8], entry: &[u8]) -> Output
     requires { 128 ≤ length text.old }
     ensures { Printed (frame_text entry.now) o text.old result text.new }
 {
     let mut out = blank();
     let k = lines::write_frame(&mut out, entry);
-    emit(o, text, &out[..k])
+    emit(stdout, o, text, &out[..k])
 }
 
 // A line for each of the frames that the log has whole.
-fn print_frames(start: Output, text: &mut [u8], log: &[u8], frames: usize) -> Output
+fn print_frames(stdout: Stdout, start: Output, text: &mut [u8], log: &[u8], frames: usize) -> Output
     requires { 128 ≤ length text.old }
     ensures { Printed (frames_text (min frames (length log.now / 6)) log.now) start text.old result text.new }
 {
@@ -169,23 +173,31 @@ fn print_frames(start: Output, text: &mut [u8], log: &[u8], frames: usize) -> Ou
     while i < n {
         let at = 6 * i;
         let end = at + 6;
-        o = print_frame(o, text, &log[at..end]);
+        o = print_frame(stdout, o, text, &log[at..end]);
         i += 1;
     }
     o
 }
 
-fn print_totals(o: Output, text: &mut [u8], frames: u64, polls: u64, answer: u8) -> Output
+fn print_totals(
+    stdout: Stdout,
+    o: Output,
+    text: &mut [u8],
+    frames: u64,
+    polls: u64,
+    answer: u8,
+) -> Output
     requires { 128 ≤ length text.old }
     ensures { Printed (totals_text frames polls answer) o text.old result text.new }
 {
     let mut out = blank();
     let k = lines::write_totals(&mut out, frames, polls, answer);
-    emit(o, text, &out[..k])
+    emit(stdout, o, text, &out[..k])
 }
 
 // What a call has sent, and its totals.
 pub fn print_call(
+    stdout: Stdout,
     o: Output,
     text: &mut [u8],
     log: &[u8],
@@ -196,17 +208,17 @@ pub fn print_call(
     requires { 128 ≤ length text.old }
     ensures { Printed (call_text log.now frames polls answer) o text.old result text.new }
 {
-    let p = print_frames(o, text, log, frames as usize);
-    print_totals(p, text, frames, polls, answer)
+    let p = print_frames(stdout, o, text, log, frames as usize);
+    print_totals(stdout, p, text, frames, polls, answer)
 }
 
-pub fn print_answer(o: Output, text: &mut [u8], answer: u8) -> Output
+pub fn print_answer(stdout: Stdout, o: Output, text: &mut [u8], answer: u8) -> Output
     requires { 128 ≤ length text.old }
     ensures { Printed (answer_text answer) o text.old result text.new }
 {
     let mut out = blank();
     let k = lines::write_answer(&mut out, answer);
-    emit(o, text, &out[..k])
+    emit(stdout, o, text, &out[..k])
 }
 
 // The CRC-32 of `bytes`.
@@ -225,6 +237,7 @@ fn check_of_chip(block: &[u8; 765], array: &[u8]) -> u32
 
 // The checksums of the record block and the array, of the lent log, and of the lent get buffer or reply; and what a get gave.
 pub fn print_sum(
+    stdout: Stdout,
     o: Output,
     text: &mut [u8],
     block: &[u8; 765],
@@ -241,15 +254,21 @@ pub fn print_sum(
     let g = check_of(lent);
     let mut out = blank();
     let k = lines::write_sum(&mut out, state, l, g, given);
-    emit(o, text, &out[..k])
+    emit(stdout, o, text, &out[..k])
 }
 
 // A line that cannot be read: its number, and what is wrong.
-pub fn print_fault(o: Output, text: &mut [u8], number: u64, message: &[u8]) -> Output
+pub fn print_fault(
+    stdout: Stdout,
+    o: Output,
+    text: &mut [u8],
+    number: u64,
+    message: &[u8],
+) -> Output
     requires { (length message.now ≤ 64) × (128 ≤ length text.old) }
     ensures { Printed (fault_text number message.now) o text.old result text.new }
 {
     let mut out = blank();
     let k = lines::write_fault(&mut out, number, message);
-    emit(o, text, &out[..k])
+    emit(stdout, o, text, &out[..k])
 }

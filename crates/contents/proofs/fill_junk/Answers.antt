@@ -1,7 +1,5 @@
 -- `contents::fill_junk` meets its contract: after i turns the first i bytes are the junk of the seed. Assumes nothing.
-use Rattle.contents.specs.Junk.{junk_byte}
 use Rattle.slices.proofs.Loops.{stored-none, stored_more, stored-all}
-use Prim.Native.Nat.{◌-◌}
 use Rattle.contents.proofs.fill_junk.Goals as goal
 
 pub loop-i-init : goal.loop-i-init

@@ -12,10 +12,10 @@ use Rattle.lines.proofs.put_decimal.Goals as goal
 pub put-requires : goal.put-requires
 put-requires c =
     let h : Fits w64 c.args.n = search rules in
-    omega (arith, few_digits c.args.n c.decimal-k.result (omega arith) c.decimal-k.ensures.1.0, c.decimal-k.ensures.0.1)
+    omega (arith, few_digits c.args.n c.decimal-k.result (omega arith) c.decimal-k.ensures.len, c.decimal-k.ensures.in_bounds.1)
 
 pub returns : goal.returns
 returns c =
     let h : Fits w64 c.args.n = search rules in
-    let k : c.decimal-k.result ≤ 20 = few_digits c.args.n c.decimal-k.result (omega arith) c.decimal-k.ensures.1.0 in
-    (stands_as c.put.ensures (c.decimal-k.ensures.1.1 ∙ digits_all c.args.n c.decimal-k.result c.decimal-k.ensures.1.0 k), omega (arith, c.put.ensures.end, c.decimal-k.ensures.0.1))
+    let k : c.decimal-k.result ≤ 20 = few_digits c.args.n c.decimal-k.result (omega arith) c.decimal-k.ensures.len in
+    (stands_as c.put.ensures (c.decimal-k.ensures.digits ∙ digits_all c.args.n c.decimal-k.result c.decimal-k.ensures.len k), omega (arith, c.put.ensures.end, c.decimal-k.ensures.in_bounds.1))

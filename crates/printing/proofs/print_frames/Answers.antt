@@ -2,7 +2,7 @@
 use native.Mathlib.Omega.{arith}
 use borrow.Author.Rules.{rules}
 use mathlib.Core.Path.{◌≡◌, refl, ap, ◌∙◌}
-use Prim.Native.Nat.{ℕ, ◌-◌, zero-le}
+use Prim.Native.Nat.{ℕ, zero-le}
 use Rattle.printing.specs.Texts.{frames_text}
 use Rattle.printing.proofs.Laws.{printed_none, printed_more, printed_as, frames_more}
 use Rattle.printing.proofs.print_frames.Goals as goal
