@@ -11,7 +11,7 @@ fn main() {
     println!("cargo:rerun-if-changed=build.rs");
     if !archive.is_file() {
         eprintln!(
-            "{} is missing: run `rt staticlib slipknoll` first",
+            "{} is missing: run `scripts/library` first",
             archive.display()
         );
         std::process::exit(1);

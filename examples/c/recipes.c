@@ -4,7 +4,7 @@
  * function, behind which any AT45DB081D may stand. Here it is the same chip,
  * with pages of 264 bytes and then with pages of 256.
  *
- * From the root of the repository, after `rt staticlib slipknoll`:
+ * From the root of the repository, after `scripts/library`:
  *
  *     cc -std=c99 -Wall -Wextra -pedantic -I include -o recipes examples/c/recipes.c \
  *         target/staticlib/libslipknoll.a

@@ -21,45 +21,35 @@ use dates::{Date, Term};
 use slots::Kind;
 
 // A fresh chip with these factory bytes; the array becomes FFh. Answers 0, 1.
-#[unsafe(no_mangle)]
-pub extern "C" fn slipknoll_fresh(block: &mut [u8; 765], factory: &[u8; 64], array: &mut [u8]) -> u8
+pub fn slipknoll_fresh(block: &mut [u8; 765], factory: &[u8; 64], array: &mut [u8]) -> u8
     ensures { MetFresh block.old (fresh_outcome factory.now array.old) result block.new array.new }
 {
     inplace::fresh(block, factory, array)
 }
 
 // A frame sent straight to the chip; the reply is as long. Answers 0, 1, 2.
-#[unsafe(no_mangle)]
-pub extern "C" fn slipknoll_send(
-    block: &mut [u8; 765],
-    array: &[u8],
-    frame: &[u8],
-    reply: &mut [u8],
-) -> u8
+pub fn slipknoll_send(block: &mut [u8; 765], array: &[u8], frame: &[u8], reply: &mut [u8]) -> u8
     ensures { Met block.old (send_outcome (held_in block.old array.now) frame.now reply.old) result block.new array.now reply.new }
 {
     inplace::send(block, array, frame, reply)
 }
 
 // The operation under way ends and takes effect. Answers 0, 1.
-#[unsafe(no_mangle)]
-pub extern "C" fn slipknoll_end_busy(block: &mut [u8; 765], array: &mut [u8]) -> u8
+pub fn slipknoll_end_busy(block: &mut [u8; 765], array: &mut [u8]) -> u8
     ensures { Met block.old (end_outcome (held_in block.old array.old)) result block.new array.new [] }
 {
     inplace::end_busy(block, array)
 }
 
 // The WP pin is moved. Answer 0.
-#[unsafe(no_mangle)]
-pub extern "C" fn slipknoll_move_pin(block: &mut [u8; 765], high: bool) -> u8
+pub fn slipknoll_move_pin(block: &mut [u8; 765], high: bool) -> u8
     ensures { MetPin block.old high result block.new }
 {
     inplace::move_pin(block, high)
 }
 
 // The supply is cut, with junk. Answers 0, 1, 7.
-#[unsafe(no_mangle)]
-pub extern "C" fn slipknoll_cut(block: &mut [u8; 765], array: &mut [u8], junk: &[u8]) -> u8
+pub fn slipknoll_cut(block: &mut [u8; 765], array: &mut [u8], junk: &[u8]) -> u8
     ensures { Met block.old (cut_outcome junk.now (held_in block.old array.old)) result block.new array.new [] }
 {
     inplace::cut(block, array, junk)
@@ -68,8 +58,7 @@ pub extern "C" fn slipknoll_cut(block: &mut [u8; 765], array: &mut [u8], junk: &
 // ---- the calls. `counts` gets frames, polls and n. Answers 0 to 16.
 
 // A recipe stored in a slot.
-#[unsafe(no_mangle)]
-pub extern "C" fn slipknoll_put(
+pub fn slipknoll_put(
     block: &mut [u8; 765],
     array: &mut [u8],
     slot: usize,
@@ -97,8 +86,7 @@ pub extern "C" fn slipknoll_put(
 }
 
 // A recipe stored in a slot with a term: its first and its last day, both inside.
-#[unsafe(no_mangle)]
-pub extern "C" fn slipknoll_put_term(
+pub fn slipknoll_put_term(
     block: &mut [u8; 765],
     array: &mut [u8],
     slot: usize,
@@ -136,8 +124,7 @@ pub extern "C" fn slipknoll_put_term(
 }
 
 // Bytes put at a place of the stored recipe.
-#[unsafe(no_mangle)]
-pub extern "C" fn slipknoll_patch(
+pub fn slipknoll_patch(
     block: &mut [u8; 765],
     array: &mut [u8],
     slot: usize,
@@ -156,8 +143,7 @@ pub extern "C" fn slipknoll_patch(
 }
 
 // The stored recipe read into the lent buffer, under answer 0 only; year, month and day are today's date.
-#[unsafe(no_mangle)]
-pub extern "C" fn slipknoll_get(
+pub fn slipknoll_get(
     block: &mut [u8; 765],
     array: &mut [u8],
     slot: usize,
@@ -183,8 +169,7 @@ pub extern "C" fn slipknoll_get(
 }
 
 // A slot erased.
-#[unsafe(no_mangle)]
-pub extern "C" fn slipknoll_wipe(
+pub fn slipknoll_wipe(
     block: &mut [u8; 765],
     array: &mut [u8],
     slot: usize,
@@ -201,8 +186,7 @@ pub extern "C" fn slipknoll_wipe(
 }
 
 // One frame of the caller's, its reply in the lent buffer.
-#[unsafe(no_mangle)]
-pub extern "C" fn slipknoll_raw(
+pub fn slipknoll_raw(
     block: &mut [u8; 765],
     array: &mut [u8],
     frame: &[u8],
@@ -221,8 +205,7 @@ pub extern "C" fn slipknoll_raw(
 // ---- the driver by itself: its state in a block of 72 bytes, for a chip whose array has `array` bytes. A refused call starts at its end.
 
 // A put of a recipe.
-#[unsafe(no_mangle)]
-pub extern "C" fn slipknoll_driver_start_put(
+pub fn slipknoll_driver_start_put(
     state: &mut [u8; 72],
     array: usize,
     slot: usize,
@@ -236,8 +219,7 @@ pub extern "C" fn slipknoll_driver_start_put(
 }
 
 // A put of a recipe with a term.
-#[unsafe(no_mangle)]
-pub extern "C" fn slipknoll_driver_start_put_term(
+pub fn slipknoll_driver_start_put_term(
     state: &mut [u8; 72],
     array: usize,
     slot: usize,
@@ -271,8 +253,7 @@ pub extern "C" fn slipknoll_driver_start_put_term(
 }
 
 // A patch of bytes at a place of the recipe.
-#[unsafe(no_mangle)]
-pub extern "C" fn slipknoll_driver_start_patch(
+pub fn slipknoll_driver_start_patch(
     state: &mut [u8; 72],
     array: usize,
     slot: usize,
@@ -287,8 +268,7 @@ pub extern "C" fn slipknoll_driver_start_patch(
 }
 
 // A get on this date into a buffer of `buffer` bytes.
-#[unsafe(no_mangle)]
-pub extern "C" fn slipknoll_driver_start_get(
+pub fn slipknoll_driver_start_get(
     state: &mut [u8; 72],
     array: usize,
     slot: usize,
@@ -310,13 +290,7 @@ pub extern "C" fn slipknoll_driver_start_get(
 }
 
 // A wipe of a slot.
-#[unsafe(no_mangle)]
-pub extern "C" fn slipknoll_driver_start_wipe(
-    state: &mut [u8; 72],
-    array: usize,
-    slot: usize,
-    limit: usize,
-)
+pub fn slipknoll_driver_start_wipe(state: &mut [u8; 72], array: usize, slot: usize, limit: usize)
     ensures { state.new ≡ encode_driver (start_driver array (asking Kind.Wipe slot limit) untold 0 0) }
 {
     let d = openings::start_wipe(array, slot, limit);
@@ -325,8 +299,7 @@ pub extern "C" fn slipknoll_driver_start_wipe(
 
 // The frame to send, at the beginning of the lent buffer, which keeps its other bytes; its length is the result, 0 at the end. `payload`
 // is the recipe or the patch, `staged` the bytes of the slot read so far.
-#[unsafe(no_mangle)]
-pub extern "C" fn slipknoll_driver_frame(
+pub fn slipknoll_driver_frame(
     state: &[u8; 72],
     payload: &[u8],
     staged: &[u8; 2112],
@@ -340,8 +313,7 @@ pub extern "C" fn slipknoll_driver_frame(
 
 // Given the last reply, the next state and the next frame; the bytes that a reply to D2 carries go among those read so far. The frame's
 // length is the result, 0 at the end.
-#[unsafe(no_mangle)]
-pub extern "C" fn slipknoll_driver_next(
+pub fn slipknoll_driver_next(
     state: &mut [u8; 72],
     payload: &[u8],
     reply: &[u8],
@@ -358,8 +330,7 @@ pub extern "C" fn slipknoll_driver_next(
 }
 
 // The answer's number; 255 while the call is running.
-#[unsafe(no_mangle)]
-pub extern "C" fn slipknoll_driver_answer(state: &[u8; 72]) -> u8
+pub fn slipknoll_driver_answer(state: &[u8; 72]) -> u8
     ensures { result ≡ told_number (told_in (decode_driver state.now)) }
 {
     let d = driver_blocks::decode(state);
@@ -368,8 +339,7 @@ pub extern "C" fn slipknoll_driver_answer(state: &[u8; 72]) -> u8
 }
 
 // Of a get that has ended with 0 the recipe's length, else 0; the recipe stands in `staged` behind the head.
-#[unsafe(no_mangle)]
-pub extern "C" fn slipknoll_driver_count(state: &[u8; 72], staged: &[u8; 2112]) -> usize
+pub fn slipknoll_driver_count(state: &[u8; 72], staged: &[u8; 2112]) -> usize
     ensures { (result ≡ count_in (decode_driver state.now) staged.now) × (result ≤ slot_room - 3) }
 {
     let d = driver_blocks::decode(state);

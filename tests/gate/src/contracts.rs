@@ -5,7 +5,7 @@ use std::collections::{BTreeMap, BTreeSet};
 
 /// The crates that others may use. Their open functions promise something of
 /// their results, and require nothing: no caller need check first.
-pub const OPEN: [&str; 23] = [
+pub const OPEN: [&str; 24] = [
     "callings",
     "calls",
     "checksum",
@@ -25,17 +25,20 @@ pub const OPEN: [&str; 23] = [
     "raws",
     "results",
     "slipknoll",
+    "slipknoll_c",
     "state",
     "text",
     "word_values",
     "words",
 ];
 
-/// A public function: its name, and the words that begin its clauses.
+/// A public function: its name, the words that begin its clauses, and its
+/// parameters, result and clauses without what layout alone decides.
 #[derive(Clone, Debug, PartialEq, Eq)]
 pub struct Function {
     pub name: String,
     pub clauses: Vec<String>,
+    pub contract: String,
 }
 
 /// The open functions of a crate, by the texts of its modules; `lib` is its
@@ -104,9 +107,11 @@ pub fn public_functions(text: &str) -> Vec<Function> {
         for (at, _) in text.match_indices(begin) {
             let item = &text[at + begin.len()..];
             let name = item.split(|it: char| !it.is_alphanumeric() && it != '_');
+            let (clauses, body) = clauses(item);
             found.push(Function {
                 name: name.take(1).collect(),
-                clauses: clauses(item),
+                clauses,
+                contract: plain(&item[..item.len() - body.len()]),
             });
         }
     }
@@ -118,19 +123,29 @@ fn without_comment(line: &str) -> String {
     format!("{}\n", line.split("//").next().unwrap_or(""))
 }
 
-/// The words in front of the braces that come before a function's body.
-fn clauses(item: &str) -> Vec<String> {
+/// The words that begin the clauses before a function's body, and the body. A
+/// clause's name may stand between its word and its brace.
+fn clauses(item: &str) -> (Vec<String>, &str) {
     let mut found = Vec::new();
     let mut rest = item;
     while let Some(open) = rest.find('{') {
-        let word = rest[..open].split_whitespace().last().unwrap_or("");
-        if word != "ensures" && word != "requires" {
-            break;
-        }
-        found.push(word.to_string());
+        let words = rest[..open].split_whitespace().rev().take(2);
+        let mut words = words.map(|it| it.trim_end_matches('*'));
+        let word = match words.find(|it| ["ensures", "requires"].contains(it)) {
+            Some(word) => word.to_string(),
+            None => return (found, &rest[open..]),
+        };
+        found.push(word);
         rest = behind_braces(&rest[open..]);
     }
-    found
+    (found, "")
+}
+
+/// A text without white space, and without the comma at the end of a list that
+/// has a line for each item.
+fn plain(text: &str) -> String {
+    let text: String = text.split_whitespace().collect();
+    text.replace(",)", ")")
 }
 
 /// What follows the closing brace that belongs to the first one.

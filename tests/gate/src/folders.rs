@@ -6,7 +6,9 @@ use std::collections::BTreeSet;
 pub fn listed(text: &str) -> Vec<String> {
     text.lines()
         .filter(|it| !it.starts_with('#'))
-        .filter_map(|it| Some(it.split_once(':')?.0.trim().to_string()))
+        .filter_map(|it| it.split_once(':'))
+        // A static library has that word behind its name.
+        .filter_map(|it| Some(it.0.split_whitespace().next()?.to_string()))
         .collect()
 }
 

@@ -2,7 +2,7 @@
 
 use std::collections::BTreeMap;
 
-use gate_tests::contracts::{lacks, open_functions};
+use gate_tests::contracts::{lacks, open_functions, public_functions};
 use gate_tests::folders::{listed, strays};
 use gate_tests::variables::{cleared, read_in};
 
@@ -86,8 +86,30 @@ fn a_function_that_requires() {
 }
 
 #[test]
+fn clauses_may_have_names() {
+    let promise = "    ensures { \u{3bb} r. \u{231c} r \u{2261} f { x } \u{231d} }\n";
+    let named = "    ensures low { x }\n    ensures* held { x }\n";
+    assert_eq!(found(promise, named).1, [""; 0]);
+    let named = "    requires few { x }\n    ensures low { x }\n    ensures high { x }\n";
+    let lacking = found(promise, named).1;
+    assert_eq!(lacking, ["good requires something of its callers"]);
+}
+
+/// Layout is no part of a promise, and all else is.
+#[test]
+fn promises_are_compared() {
+    let of = |text: &str| public_functions(text).remove(0).contract;
+    let one = of("pub fn f(a: u8, b: &[u8]) -> u8\n    ensures { x }\n{\n    a\n}\n");
+    let same = "pub extern \"C\" fn f(\n    a: u8,\n    b: &[u8],\n) -> u8\n    ensures { x }\n{\n    b\n}\n";
+    assert_eq!(of(same), one);
+    for (old, new) in [("-> u8", "-> u16"), ("{ x }", "{ y }"), ("a: u8", "a: u16")] {
+        assert_ne!(of(&same.replacen(old, new, 1)), one);
+    }
+}
+
+#[test]
 fn folders_and_lines_without_each_other() {
-    let listed = listed("# a: line\none:\ntwo: one\n");
+    let listed = listed("# a: line\none:\ntwo staticlib: one\n");
     let folders = |names: &[&str]| names.iter().map(|it| it.to_string()).collect::<Vec<_>>();
     assert_eq!(strays(&listed, &folders(&["one", "two"])), [""; 0]);
     assert_eq!(

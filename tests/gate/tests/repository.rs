@@ -36,6 +36,22 @@ fn the_interface_is_seen() {
     }
 }
 
+/// The static library has each of these functions, with the same promise.
+#[test]
+fn exports_promise_the_same() {
+    let functions = open_functions_of("slipknoll");
+    assert!(functions.len() >= 20);
+    assert_eq!(open_functions_of("slipknoll_c"), functions);
+    let exports = text("crates/slipknoll_c/src/lib.rt");
+    let marked = "#[unsafe(no_mangle)]\npub extern \"C\" fn ";
+    assert_eq!(exports.matches(marked).count(), functions.len());
+    for function in functions {
+        let name = &function.name;
+        let call = format!("    slipknoll::{name}(");
+        assert_eq!(exports.matches(&call).count(), 1, "{name}");
+    }
+}
+
 #[test]
 fn crates_and_folders_go_together() {
     let found = strays(&listed(&text("crates.txt")), &names("crates"));

@@ -51,6 +51,7 @@ fn variables_are_refused_where_ci_is_set() {
         "OUTLINE_PROGRAM",
         "RUSTFLAGS",
         "RATTLE_HOME",
+        "RT_ALLOW_C",
         "CARGO_PROFILE_TEST_OPT_LEVEL",
         "RUST_TEST_THREADS",
     ] {
@@ -79,29 +80,43 @@ fn variables_are_cleared_elsewhere() {
     assert!(said.contains("CARGO_HOME=here"), "{said}");
 }
 
-/// What rt ci would print of so many crates, functions and edits.
-fn proofs(crates: usize, functions: usize, edits: usize, axioms: &str) -> String {
-    let mut text =
-        format!("{axioms}logic=proved functions={functions} axioms=3 target=x86_64 sum=0\n");
-    text.push_str(&"rt: one proved (2 s)\n".repeat(crates));
-    text.push_str(
-        &"rt: must-fail one/slip: refused, as it must be (first at a; 3 s)\n".repeat(edits),
-    );
+/// What rt ci would print of so many crates, kept crates and edits.
+fn proofs(crates: usize, kept: usize, edits: usize, bad: &str) -> String {
+    let mut text = String::new();
+    for at in 0..crates {
+        text.push_str(&format!("rt: proved_{at} proved\n"));
+        text.push_str(&format!("rt: proved_{at}: its tests are proved\n"));
+    }
+    for at in 0..kept {
+        text.push_str(&format!(
+            "rt: kept_{at} is kept: an earlier run on this machine proved the same files over the same libraries\n"
+        ));
+    }
+    for at in 0..edits {
+        text.push_str(&format!(
+            "rt: must-fail one/slip_{at}.edit: refused, as it must be: note: src/lib.rt:1:1: no\n"
+        ));
+    }
+    text.push_str("rt: must-fail one/other.edit: BAD EDIT: it changes nothing\n");
+    text.push_str(&format!(
+        "rt: ok; handles allowed: none; must-fail edits: {edits} refused{bad}; every proof was done in this run\n"
+    ));
     text
 }
 
 #[test]
 fn what_rt_ci_counts() {
     let number = |name: &str| pinned(name).parse::<usize>().expect("a number");
-    let (crates, functions, edits) = (number("crates"), number("functions"), number("edits"));
-    let axioms = "axioms libc: libc::read, libc::write (2 of the 50 declared)\naxioms os: os::c::rattle_errno (1 of the 10 declared)\naxioms std: none reached of the 2 declared\n";
+    let (crates, edits) = (number("crates"), number("edits"));
     let count = |text: String| counts("rt", "rt-log", &text);
-    assert_eq!(
-        count(proofs(crates, functions, edits, axioms)),
-        (true, String::new())
-    );
+    for (proved, kept) in [(crates, 0), (0, crates), (crates - 1, 1)] {
+        let found = count(proofs(proved, kept, edits, ""));
+        assert_eq!(found, (true, String::new()));
+    }
+    let limit = proofs(crates, 0, edits, ", 2 of them only by a limit");
+    assert_eq!(count(limit), (true, String::new()));
 
-    let (passed, said) = count(proofs(crates - 1, functions, edits + 1, axioms));
+    let (passed, said) = count(proofs(crates - 1, 0, edits + 1, ""));
     assert!(!passed);
     assert!(
         said.starts_with(&format!("crates: found {},", crates - 1)),
@@ -111,18 +126,61 @@ fn what_rt_ci_counts() {
         said.contains(&format!("\nedits: found {},", edits + 1)),
         "{said}"
     );
-    let (passed, said) = count(proofs(crates, functions - 1, edits, axioms));
-    assert!(!passed && said.starts_with("functions: found "), "{said}");
+    // Two numbers of one run: the lines, and the sum at the end.
+    let odd = format!("edits: {edits} refused");
+    let text = proofs(crates, 0, edits, "").replace(&odd, "edits: 1 refused");
+    let (passed, said) = count(text);
+    assert!(!passed && said.starts_with("edits: found 1,"), "{said}");
 
-    for other in [
-        "",
-        "axioms libc: libc::read, libc::write, libc::close (3 of the 50 declared)\n",
-        "axioms libc: libc::read, libc::write (2 of the 50 declared)\n",
-        "axioms libc: libc::read, libc::write (2 of the 50 declared)\naxioms os: os::c::open (1 of the 10 declared)\n",
-    ] {
-        let (passed, said) = count(proofs(crates, functions, edits, other));
-        assert!(!passed && said.starts_with("axioms_of_outline: found 3"), "{said}");
+    for bad in [", 1 bad", ", 3 of them only by a limit, 12 bad"] {
+        let (passed, said) = count(proofs(crates, 0, edits, bad));
+        assert_eq!(
+            (passed, said.as_str()),
+            (false, "failed: rt ci met bad must-fail edits\n")
+        );
     }
+    let silent = proofs(crates, 0, edits, "").replace("rt: ok;", "rt: FAILED:");
+    let (passed, said) = count(silent);
+    assert!(!passed && said.starts_with("failed: rt ci has not said"));
+}
+
+/// What rt check would print of a program behind which these functions stand.
+fn assumed(names: &[&str]) -> String {
+    let mut text = "logic=proved functions=9 sum=0\n".to_string();
+    text.push_str(&format!(
+        "axioms libc: {} reached of the 50 declared\n  libc::other\n",
+        names.len()
+    ));
+    for name in names {
+        text.push_str(&format!("  {name}   reached\n"));
+    }
+    let number = names.len();
+    text.push_str(&format!(
+        "logic=proved functions=3 axioms={number} target=x86_64 sum=0\n"
+    ));
+    text
+}
+
+#[test]
+fn what_the_program_assumes() {
+    let pinned = pinned("axioms_of_outline");
+    let names: Vec<&str> = pinned
+        .split(": ")
+        .nth(1)
+        .expect("names")
+        .split(", ")
+        .collect();
+    let count = |text: String| counts("outline", "outline-log", &text);
+    assert_eq!(count(assumed(&names)), (true, String::new()));
+
+    let more: Vec<&str> = names.iter().copied().chain(["libc::more"]).collect();
+    for other in [&names[1..], &more] {
+        let (passed, said) = count(assumed(other));
+        let due = format!("axioms_of_outline: found {}: ", other.len());
+        assert!(!passed && said.starts_with(&due), "{said}");
+    }
+    assert!(!count(assumed(&names).replace(" axioms=", " others=")).0);
+    assert!(!count("nothing\n".to_string()).0);
 }
 
 #[test]
@@ -135,7 +193,7 @@ fn what_the_library_assumes() {
     for text in [
         "logic=proved functions=3 axioms=1 target=x86_64 sum=0\n",
         "logic=proved functions=3 foreign=magic sum=0\n",
-        "axioms libc: libc::read (1 of the 50 declared)\nlogic=proved functions=3 axioms=1 sum=0\n",
+        "axioms libc: 1 reached of the 50 declared\n  libc::read   reached\nlogic=proved functions=3 axioms=1 sum=0\n",
         "nothing\n",
     ] {
         assert!(!count(text).0, "{text}");

@@ -15,14 +15,14 @@ use crate::system::{unread, Pipe};
 /// seconds.
 const LIMIT: Duration = Duration::from_secs(120);
 
-/// The proved program: `rt check outline` builds it; `OUTLINE_PROGRAM` names
-/// another to be tried.
+/// The proved program: `make run` builds it, and so does the gate;
+/// `OUTLINE_PROGRAM` names another to be tried.
 pub fn program() -> PathBuf {
     let named = env::var_os("OUTLINE_PROGRAM").map(PathBuf::from);
     let program = named.unwrap_or(in_repository("target/bin/outline"));
     assert!(
         program.is_file(),
-        "{} is not there: `rt check outline` proves and builds it",
+        "{} is not there: `make run` proves and builds it",
         program.display()
     );
     program

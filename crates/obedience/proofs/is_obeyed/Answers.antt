@@ -24,6 +24,7 @@ returns c =
     λ r h.
     let e : obeyed r s.e ≡ allowed (usage_of r.operation) (class_of s.e) =
     elim c.if-m.branch [
-        then-m+else-not-is_wake w ↦ woken_allows r s.e (ap is_wake (sym k) ∙ sym w.is_wake.ensures ∙ w.if-not-is_wake.false)
-      | else-m w ↦ awake_allows r s.e (deep_of r s.m h w.if-m.false) ] in
+      | then-m+else-not-is_wake w ↦ woken_allows r s.e (ap is_wake (sym k) ∙ sym w.is_wake.ensures ∙ w.if-not-is_wake.false)
+      | else-m w ↦ awake_allows r s.e (deep_of r s.m h w.if-m.false)
+    ] in
     c.is_allowed.ensures ∙ (λ i. allowed (ap (λ (x : Marks). x.usage) (sym h) i) (k i)) ∙ sym e
