@@ -8,8 +8,8 @@ use Prim.Native.Nat.{ℕ, zero, suc, ◌+◌, ◌<◌, ◌≤◌, zero-le}
 use native.Mathlib.Nat.{not-suc-le-zero, le_of_suc-le-suc}
 use native.Mathlib.Numerals.{add-one}
 use native.Mathlib.Omega.{arith}
-use lib.ListN.{length, set, take, drop, get_or, length-set, length-append, length-drop, drop_of_length-le}
-use lib.Seq.{drop-nil, drop-length, drop-cons, drop-drop, take_at, drop_at}
+use lib.ListN.{length, set, take, drop, get_or, length-set, length-append, length-drop}
+use lib.Seq.{drop-nil, drop-length, drop-drop, take_at, drop_at}
 use borrow.Author.Tests.{eq-eqb, ne_eqb}
 use Rattle.slices.specs.Lists.{tabulate, same}
 use Rattle.slices.proofs.Laws.{length-tabulate, tabulate_append}
@@ -69,15 +69,17 @@ rest (suc i) f (x ∷ xs) d = rest i (λ k. f (suc k)) xs d
 pub stored-rest : {f : ℕ → ℕ} {xs ys : List ℕ} {i : ℕ} (d : ℕ) → Stored f xs i ys → get_or ys i d ≡ get_or xs i d
 stored-rest {f} {xs} {i = i} d s = rw s.made (rest i f xs d)
 
--- ---- a loop that compares
-pub same_step : (xs ys : List ℕ) (i : ℕ) → i < length xs → i < length ys → get_or xs i 0 ≡ get_or ys i 0 → same (drop i xs) (drop i ys) ≡ same (drop (i + 1) xs) (drop (i + 1) ys)
+-- ---- a loop that compares the first bytes of what is left of two lists
+pub same_cons : {xs ys us vs : List ℕ} {a b : ℕ} → xs ≡ a ∷ us → ys ≡ b ∷ vs → a ≡ b → same xs ys ≡ same us vs
 unfolding same
-same_step xs ys i h k e = rw (add-one, drop-cons xs i 0 h, drop-cons ys i 0 k) (rw (eq-eqb _ _ e) refl)
+same_cons e f h = rw (e, f, eq-eqb _ _ h) refl
 
-pub same_not : (xs ys : List ℕ) (i : ℕ) → i < length xs → i < length ys → (get_or xs i 0 ≡ get_or ys i 0 → ⊥) → same (drop i xs) (drop i ys) ≡ false
+pub same_not : {xs ys us vs : List ℕ} {a b : ℕ} → xs ≡ a ∷ us → ys ≡ b ∷ vs → (a ≡ b → ⊥) → same xs ys ≡ false
 unfolding same
-same_not xs ys i h k e = rw (drop-cons xs i 0 h, drop-cons ys i 0 k) (rw (ne_eqb _ _ e) refl)
+same_not e f h = rw (e, f, ne_eqb _ _ h) refl
 
-pub same_end : (xs ys : List ℕ) (i : ℕ) → length xs ≤ i → length ys ≤ i → same (drop i xs) (drop i ys) ≡ true
+pub same_nil : (xs ys : List ℕ) → length xs ≡ 0 → length ys ≡ 0 → same xs ys ≡ true
 unfolding same
-same_end xs ys i h k = rw (drop_of_length-le xs h, drop_of_length-le ys k)
+same_nil [] [] e f = refl
+same_nil [] (y ∷ ys) e f = absurd (omega (arith, f))
+same_nil (x ∷ xs) ys e f = absurd (omega (arith, e))

@@ -6,7 +6,7 @@ ghost use Rattle.std.specs.Prelude.{◌≡◌, ℕ, ◌+◌, ◌≤◌, ◌<◌,
 ghost use Rattle.slices.specs.Lists.{and_over, same, ring_read, ring_write, splice};
 ghost use Rattle.slices.specs.Words.{word_at, word_bytes};
 
-// Every byte becomes `value`. A single one needs no loop, of which the compiler makes a call.
+// Every byte becomes `value`. A single one is stored as such: of `fill` the compiler makes a call.
 pub fn fill(part: &mut [u8], value: u8)
     ensures { part.new ≡ replicate (length part.old) value }
 {
@@ -14,11 +14,7 @@ pub fn fill(part: &mut [u8], value: u8)
         part[0] = value;
         return;
     }
-    let mut i = 0;
-    while i < part.len() {
-        part[i] = value;
-        i += 1;
-    }
+    part.fill(value);
 }
 
 // `part` becomes `source`, which is as long.
@@ -26,22 +22,16 @@ pub fn copy(part: &mut [u8], source: &[u8])
     requires { length part.old ≡ length source.now }
     ensures { part.new ≡ source.now }
 {
-    let mut i = 0;
-    while i < part.len() {
-        part[i] = source[i];
-        i += 1;
-    }
+    part.copy_from_slice(source);
 }
 
-// `part` becomes `part AND mask`, which is as long.
+// `part` becomes `part AND mask`, which is as long. By an index: of what is written through a `zip` of `iter_mut` the check knows nothing.
 pub fn and_into(part: &mut [u8], mask: &[u8])
     requires { length part.old ≡ length mask.now }
     ensures { part.new ≡ and_over part.old mask.now }
 {
-    let mut i = 0;
-    while i < part.len() {
-        part[i] = part[i] & mask[i];
-        i += 1;
+    for (i, x) in part.iter_mut().enumerate() {
+        *x &= mask[i];
     }
 }
 
@@ -49,13 +39,11 @@ pub fn and_into(part: &mut [u8], mask: &[u8])
 pub fn byte_or(bytes: &[u8], i: usize, other: u8) -> u8
     ensures { result ≡ get_or bytes.now i other }
 {
-    if bytes.len() <= i {
-        return other;
-    }
-    bytes[i]
+    bytes.get(i).copied().unwrap_or(other)
 }
 
 // Whether the two differ, in length or in a byte. Every byte is looked at, whatever the others are: quicker, and the time tells nothing of them.
+// So no `a != b`, which ends at the first that differs.
 pub fn differs(a: &[u8], b: &[u8]) -> bool
     ensures { result ≡ not (same a.now b.now) }
 {
@@ -63,17 +51,16 @@ pub fn differs(a: &[u8], b: &[u8]) -> bool
         return true;
     }
     let mut found = false;
-    let mut i = 0;
-    while i < a.len() {
-        if a[i] != b[i] {
+    for (x, y) in a.iter().zip(b) {
+        if *x != *y {
             found = true;
         }
-        i += 1;
     }
     found
 }
 
-// `part` is filled from the first `size` bytes of `ring`, from `start` on, wrapping.
+// `part` is filled from the first `size` bytes of `ring`, from `start` on, wrapping. A turn copies a run, no single byte; of what is written through
+// `chunks_mut` the check knows nothing.
 pub fn ring_read(part: &mut [u8], ring: &[u8], size: usize, start: usize)
     requires { (start < size) × (size ≤ length ring.now) }
     ensures { part.new ≡ ring_read (length part.old) size start ring.now }
@@ -81,7 +68,7 @@ pub fn ring_read(part: &mut [u8], ring: &[u8], size: usize, start: usize)
     let mut done = 0;
     let mut from = start;
     while done < part.len() {
-        let n = numbers::lesser(size - from, part.len() - done);
+        let n = (size - from).min(part.len() - done);
         let next = done + n;
         let end = from + n;
         copy(&mut part[done..next], &ring[from..end]);
@@ -98,7 +85,7 @@ pub fn ring_write(ring: &mut [u8], size: usize, start: usize, bytes: &[u8])
     let mut done = 0;
     let mut at = start;
     while done < bytes.len() {
-        let n = numbers::lesser(size - at, bytes.len() - done);
+        let n = (size - at).min(bytes.len() - done);
         let next = done + n;
         let end = at + n;
         copy(&mut ring[at..end], &bytes[done..next]);
@@ -112,14 +99,10 @@ pub fn word_at(bytes: &[u8], at: usize) -> u64
     requires { at + 8 ≤ length bytes.now }
     ensures { result ≡ word_at bytes.now at }
 {
-    byte_at(bytes, at) * 0x100_0000_0000_0000
-        + byte_at(bytes, at + 1) * 0x1_0000_0000_0000
-        + byte_at(bytes, at + 2) * 0x100_0000_0000
-        + byte_at(bytes, at + 3) * 0x1_0000_0000
-        + byte_at(bytes, at + 4) * 0x100_0000
-        + byte_at(bytes, at + 5) * 0x1_0000
-        + byte_at(bytes, at + 6) * 0x100
-        + byte_at(bytes, at + 7)
+    let mut word = [0u8; 8];
+    let end = at + 8;
+    word.copy_from_slice(&bytes[at..end]);
+    u64::from_be_bytes(word)
 }
 
 // The eight bytes of `word` stored from index `at` on.
@@ -127,19 +110,6 @@ pub fn put_word(bytes: &mut [u8], at: usize, word: u64)
     requires { at + 8 ≤ length bytes.old }
     ensures { bytes.new ≡ splice at (word_bytes word) bytes.old }
 {
-    bytes[at] = (word / 0x100_0000_0000_0000 % 256) as u8;
-    bytes[at + 1] = (word / 0x1_0000_0000_0000 % 256) as u8;
-    bytes[at + 2] = (word / 0x100_0000_0000 % 256) as u8;
-    bytes[at + 3] = (word / 0x1_0000_0000 % 256) as u8;
-    bytes[at + 4] = (word / 0x100_0000 % 256) as u8;
-    bytes[at + 5] = (word / 0x1_0000 % 256) as u8;
-    bytes[at + 6] = (word / 0x100 % 256) as u8;
-    bytes[at + 7] = (word % 256) as u8;
-}
-
-fn byte_at(bytes: &[u8], at: usize) -> u64
-    requires { at < length bytes.now }
-    ensures { (result ≡ get_or bytes.now at 0) × (result < 256) }
-{
-    bytes[at] as u64
+    let end = at + 8;
+    bytes[at..end].copy_from_slice(&word.to_be_bytes());
 }

@@ -1,13 +1,12 @@
--- `slices::differs` meets its contract: the two are the same if none was found before i to differ and what lies from i on is the same. Assumes nothing.
+-- `slices::differs` meets its contract: the two are the same if no bytes were found that differ and what the iterator has left of them is the same.
+-- Assumes nothing.
 use mathlib.Core.Path.{◌≡◌}
 use mathlib.Core.Bool.{not, ◌&&◌}
-use Prim.Native.Nat.{◌-◌, ◌≤◌}
-use lib.ListN.{length, drop}
+use lib.ListN.{length}
 use Rattle.slices.specs.Lists.{same}
 use Rattle.slices.proofs.differs.Given as goal
 
-abbrev pub invariant-loop-i : goal.invariant-loop-i
-invariant-loop-i l = (l.i ≤ length l.a) × (length l.a ≡ length l.b) × (same l.a l.b ≡ (not l.found && same (drop l.i l.a) (drop l.i l.b)))
-
-abbrev pub decreases-loop-i : goal.decreases-loop-i
-decreases-loop-i l = length l.a - l.i
+abbrev pub invariant-loop-x : goal.invariant-loop-x
+invariant-loop-x l =
+    (length l.x-iterator.a.rest.now ≡ length l.x-iterator.b.rest.now)
+    × (same l.a l.b ≡ (not l.found && same l.x-iterator.a.rest.now l.x-iterator.b.rest.now))

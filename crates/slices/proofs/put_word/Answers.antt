@@ -1,35 +1,10 @@
--- `slices::put_word` meets its contract: eight stores, one behind the other, are a part laid over the list. Assumes nothing.
-use native.Mathlib.Omega.{arith}
-use lib.ListN.{length-set}
+-- `slices::put_word` meets its contract: eight bytes stored at once are a part laid over the list, and std's bytes of a number are its digits to
+-- the base 256, first byte highest. Assumes nothing.
+use Rattle.std.proofs.Common.{◌∙◌, arith}
 use Rattle.slices.specs.Words.{word_bytes}
-use Rattle.slices.proofs.Laws.{splice_cons, splice_nil}
-use native.Mathlib.Nat.{add_assoc}
+use Rattle.slices.proofs.Laws.{spliced}
 use Rattle.slices.proofs.put_word.Goals as goal
-
-pub bounds-bytes-at-2 : goal.bounds-bytes-at-2
-bounds-bytes-at-2 c = simp length-set (omega arith)
-
-pub bounds-bytes-at-3 : goal.bounds-bytes-at-3
-bounds-bytes-at-3 c = simp length-set (omega arith)
-
-pub bounds-bytes-at-4 : goal.bounds-bytes-at-4
-bounds-bytes-at-4 c = simp length-set (omega arith)
-
-pub bounds-bytes-at-5 : goal.bounds-bytes-at-5
-bounds-bytes-at-5 c = simp length-set (omega arith)
-
-pub bounds-bytes-at-6 : goal.bounds-bytes-at-6
-bounds-bytes-at-6 c = simp length-set (omega arith)
-
-pub bounds-bytes-at-7 : goal.bounds-bytes-at-7
-bounds-bytes-at-7 c = simp length-set (omega arith)
-
-pub bounds-bytes-at-8 : goal.bounds-bytes-at-8
-bounds-bytes-at-8 c = simp length-set (omega arith)
-
-pub shape_of-bytes : goal.shape_of-bytes
-shape_of-bytes c = simp length-set
 
 pub returns : goal.returns
 unfolding word_bytes
-returns c = simp (splice_cons, splice_nil, add_assoc)
+returns c = spliced c.args.at c.args.bytes.now (omega arith) (omega arith) (c.copy_from_slice.ensures.after ∙ c.to_be_bytes.ensures)

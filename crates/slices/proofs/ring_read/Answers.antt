@@ -12,17 +12,17 @@ loop-done-init c = reading-none c.args.ring.now c.args.size c.args.start c.args.
 
 pub copy-requires : goal.copy-requires
 copy-requires c =
-    let n = c.lesser-n.result in
+    let n = c.min-n.result in
     run_length c.loop-done.done n c.loop-done.part (omega arith)
     ∙ sym (run_length c.loop-done.from n c.args.ring.now (omega arith))
 
 pub loop-done-smaller : goal.loop-done-smaller
-loop-done-smaller c = omega (arith, c.lesser-n.ensures, c.loop-done-test.true, c.loop-done.invariant)
+loop-done-smaller c = omega (arith, c.min-n.ensures, c.loop-done-test.true, c.loop-done.invariant)
 
 pub loop-done-preserved : goal.loop-done-preserved
 loop-done-preserved c =
     reading_more c.requires.1 c.loop-done-test.true
-    c.lesser-n.ensures
+    c.min-n.ensures
     c.copy.ensures
     c.loop-done.invariant
 

@@ -10,17 +10,17 @@ loop-done-init c = writing_none c.args.size c.args.start c.args.bytes.now c.args
 
 pub copy-requires : goal.copy-requires
 copy-requires c =
-    let n = c.lesser-n.result in
+    let n = c.min-n.result in
     run_length c.loop-done.at n c.loop-done.ring (omega arith)
     ∙ sym (run_length c.loop-done.done n c.args.bytes.now (omega arith))
 
 pub loop-done-smaller : goal.loop-done-smaller
-loop-done-smaller c = omega (arith, c.lesser-n.ensures, c.loop-done-test.true, c.loop-done.invariant)
+loop-done-smaller c = omega (arith, c.min-n.ensures, c.loop-done-test.true, c.loop-done.invariant)
 
 pub loop-done-preserved : goal.loop-done-preserved
 loop-done-preserved c =
     writing_more (omega (arith, c.loop-done.invariant, c.requires)) c.loop-done-test.true
-    c.lesser-n.ensures
+    c.min-n.ensures
     c.copy.ensures
     c.loop-done.invariant
 
