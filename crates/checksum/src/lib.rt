@@ -288,10 +288,8 @@ fn crc_with(state: u32, bytes: &[u8], entries: &[u32; 256]) -> u32
     ensures { result ≡ crc_of state bytes.now }
 {
     let mut s = state;
-    let mut i = 0;
-    while i < bytes.len() {
-        s = crc_byte(s, bytes[i], entries);
-        i += 1;
+    for byte in bytes {
+        s = crc_byte(s, *byte, entries);
     }
     s
 }
@@ -301,7 +299,7 @@ fn crc_byte(state: u32, byte: u8, entries: &[u32; 256]) -> u32
     requires { Tabled entries.now }
     ensures { result ≡ crc_bits 8 (bit_xor state byte) }
 {
-    let s = state ^ byte as u32;
+    let s = state ^ u32::from(byte);
     s / 256 ^ entries[(s % 256) as usize]
 }
 

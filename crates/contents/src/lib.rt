@@ -21,10 +21,8 @@ fn junk_byte(seed: usize, i: usize) -> u8
 pub fn fill_junk(part: &mut [u8], seed: usize)
     ensures { part.new ≡ junk_of seed (length part.old) }
 {
-    let mut i = 0;
-    while i < part.len() {
-        part[i] = junk_byte(seed, i);
-        i += 1;
+    for (i, x) in part.iter_mut().enumerate() {
+        *x = junk_byte(seed, i);
     }
 }
 
@@ -32,10 +30,11 @@ pub fn fill_junk(part: &mut [u8], seed: usize)
 pub fn bytes_of(line: &[u8], word: Span, out: &mut [u8]) -> usize
     ensures { IsPrefixLen result out.new × (Within (length line.now) word → length line.now ≤ 2 * length out.old → take result out.new ≡ bytes_of (part_of line.now word)) }
 {
-    let start = numbers::lesser(word.start, line.len());
-    let end = numbers::lesser(word.end, line.len());
+    let start = word.start.min(line.len());
+    let end = word.end.min(line.len());
     if start <= end {
-        return hexadecimal::unhex(&line[start..end], out);
+        hexadecimal::unhex(&line[start..end], out)
+    } else {
+        0
     }
-    0
 }

@@ -11,6 +11,16 @@ use geometry::{Geometry, Run};
 
 // ---- pages
 
+// The bytes of a page.
+fn page_bytes(g: Geometry, array: &[u8], page: usize) -> &[u8]
+    requires { (Sized g (length array.now)) × (page < g.pages) }
+    ensures { result.now ≡ page_of g page array.now }
+{
+    let a = geometry::page_start(g, page);
+    let e = a + g.size;
+    &array[a..e]
+}
+
 // The page becomes the buffer's first bytes.
 pub fn program(g: Geometry, array: &mut [u8], page: usize, buffer: &[u8])
     requires { (Sized g (length array.old)) × (page < g.pages) × (g.size ≤ length buffer.now) }
@@ -39,9 +49,7 @@ pub fn transfer(g: Geometry, array: &[u8], page: usize, buffer: &mut [u8])
     ensures { buffer.new ≡ transferred g page array.now buffer.old }
 {
     let size = g.size;
-    let a = geometry::page_start(g, page);
-    let e = a + size;
-    slices::copy(&mut buffer[..size], &array[a..e]);
+    slices::copy(&mut buffer[..size], page_bytes(g, array, page));
 }
 
 // Whether buffer and page differ.
@@ -50,9 +58,7 @@ pub fn page_differs(g: Geometry, array: &[u8], page: usize, buffer: &[u8]) -> bo
     ensures { result ≡ differing g page array.now buffer.now }
 {
     let size = g.size;
-    let a = geometry::page_start(g, page);
-    let e = a + size;
-    slices::differs(&buffer[..size], &array[a..e])
+    slices::differs(&buffer[..size], page_bytes(g, array, page))
 }
 
 // The pages of the run become FFh: lent on as one part from the array's middle.
@@ -86,14 +92,12 @@ pub fn erase_sectors(g: Geometry, array: &mut [u8], sectors: u32)
     ensures { array.new ≡ in_sectors (erased g) g sectors array.old }
 {
     let count = geometry::sector_count(g);
-    let mut s: usize = 0;
-    let mut m = sectors;
-    while s < count {
-        if m % 2 == 1 {
+    let mut left = sectors;
+    for s in 0..count {
+        if left % 2 == 1 {
             erase(g, array, geometry::sector_run(g, s));
         }
-        m = m / 2;
-        s += 1;
+        left /= 2;
     }
 }
 
@@ -103,14 +107,12 @@ pub fn spoil_sectors(g: Geometry, array: &mut [u8], junk: &[u8], sectors: u32)
     ensures { array.new ≡ in_sectors (junked g junk.now) g sectors array.old }
 {
     let count = geometry::sector_count(g);
-    let mut s: usize = 0;
     let mut left = sectors;
-    while s < count {
+    for s in 0..count {
         if left % 2 == 1 {
             spoil(g, array, junk, geometry::sector_run(g, s));
         }
-        left = left / 2;
-        s += 1;
+        left /= 2;
     }
 }
 
@@ -139,7 +141,7 @@ pub fn reply_once(reply: &mut [u8], lead: usize, bytes: &[u8])
     ensures { reply.new ≡ replied (length reply.old) lead (once_data bytes.now) }
 {
     slices::fill(reply, 255);
-    let n = numbers::lesser(reply.len() - lead, bytes.len());
+    let n = (reply.len() - lead).min(bytes.len());
     let e = lead + n;
     slices::copy(&mut reply[lead..e], &bytes[..n]);
 }
@@ -174,8 +176,5 @@ pub fn reply_page(
     requires { (Sized g (length array.now)) × (page < g.pages) × (start < g.size) × (lead ≤ length reply.old) }
     ensures { reply.new ≡ replied (length reply.old) lead (ring_data g.size start (page_of g page array.now)) }
 {
-    let size = g.size;
-    let a = geometry::page_start(g, page);
-    let e = a + size;
-    reply_ring(reply, lead, &array[a..e], size, start);
+    reply_ring(reply, lead, page_bytes(g, array, page), g.size, start);
 }

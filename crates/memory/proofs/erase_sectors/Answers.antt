@@ -8,7 +8,7 @@ use Rattle.geometry.proofs.Pages.{sized_own}
 use Rattle.geometry.proofs.Sectors.{sectors_few}
 use Rattle.memory.proofs.Lent.{passed_none, passed_done, passed_by, passed_all}
 use Rattle.memory.proofs.erase_sectors.Goals as goal
-use Rattle.memory.proofs.erase_sectors.Goals.{then-m-eq1, else-m-eq1}
+use Rattle.memory.proofs.erase_sectors.Goals.{then-left-eq1, else-left-eq1}
 
 pub sector_count-count-requires : goal.sector_count-count-requires
 sector_count-count-requires c = sized_own c.args.g _ c.requires
@@ -28,9 +28,9 @@ pub loop-s-preserved : goal.loop-s-preserved
 loop-s-preserved c =
     let p = c.loop-s.invariant in
     let t = subst (λ (n : ℕ). c.loop-s.s < n) c.sector_count-count.ensures c.loop-s-test.true in
-    elim c.if-m-eq1.branch [
-      | then-m-eq1 w ↦ passed_done p t w.if-m-eq1.true w.sector_run.ensures.0 (ap length w.array-is ∙ w.erase.auto.array) (w.array-is ∙ w.erase.ensures)
-      | else-m-eq1 w ↦ passed_by p t w.if-m-eq1.false w.array-is
+    elim c.if-left-eq1.branch [
+      | then-left-eq1 w ↦ passed_done p t w.if-left-eq1.true w.sector_run.ensures.0 (ap length w.array-is ∙ w.erase.auto.array) (w.array-is ∙ w.erase.ensures)
+      | else-left-eq1 w ↦ passed_by p t w.if-left-eq1.false w.array-is
     ]
 
 pub returns : goal.returns

@@ -8,18 +8,14 @@ use lib.ListN.{take}
 use lib.Seq.{length-take-le}
 use Rattle.slices.specs.Lists.{same}
 use Rattle.memory.specs.Pages.{differing}
-use Rattle.memory.proofs.Lent.{page_end, page_part}
 use Rattle.memory.proofs.page_differs.Goals as goal
 
 pub slice_bounds-differs-end : goal.slice_bounds-differs-end
 slice_bounds-differs-end c = sym (length-take-le c.args.g.size c.args.buffer.now c.requires.2)
-
-pub slice_bounds-differs-end-2 : goal.slice_bounds-differs-end-2
-slice_bounds-differs-end-2 c = page_end c.args.array.now c.requires.0 c.requires.1 c.page_start-a.ensures.0
 
 pub returns : goal.returns
 unfolding differing
 returns c =
     let a = c.args in
     c.differs.ensures
-    ∙ ap (λ (l : List ℕ). not (same (take a.g.size a.buffer.now) l)) (page_part a.g a.page a.array.now c.page_start-a.ensures.0)
+    ∙ ap (λ (l : List ℕ). not (same (take a.g.size a.buffer.now) l)) c.page_bytes.ensures
