@@ -10,6 +10,7 @@ use native.Mathlib.Numerals.{one-add}
 use native.Mathlib.Omega.{arith}
 use lib.Dec.{eqb}
 use lib.Pow.{pow_mono, shr-shr}
+use Rattle.std.specs.Int.{from_bool}
 use Rattle.geometry.specs.declared.Geometry.{Geometry}
 use Rattle.geometry.specs.Parts.{register_room}
 use Rattle.geometry.specs.Sectors.{sector_count}
@@ -82,13 +83,13 @@ pub from_none : (g : Geometry) (r : Registers) (n : ℕ) → 0 ≡ unsealed_from
 unfolding unsealed_from
 from_none g r n = let e : 0 ≡ n - n = omega arith in ap (λ (k : ℕ). unsealed_from g r k n) e
 
-pub from_free : (g : Geometry) (r : Registers) (n s m : ℕ) → 0 < s → s ≤ n → sealed g r (s - 1) ≡ false → m ≡ unsealed_from g r (n - s) s
-    → 2 * m + 1 ≡ unsealed_from g r (n - (s - 1)) (s - 1)
-from_free g r n s m l h p e = omega (arith, from_more g r n s l h, ap (λ (b : Bool). cond {A = ℕ} b 0 1) p)
+from_test : (b : Bool) → from_bool (not b) ≡ cond {A = ℕ} b 0 1
+from_test true = refl
+from_test false = refl
 
-pub from_sealed : (g : Geometry) (r : Registers) (n s m : ℕ) → 0 < s → s ≤ n → sealed g r (s - 1) ≡ true → m ≡ unsealed_from g r (n - s) s
-    → 2 * m ≡ unsealed_from g r (n - (s - 1)) (s - 1)
-from_sealed g r n s m l h p e = omega (arith, from_more g r n s l h, ap (λ (b : Bool). cond {A = ℕ} b 0 1) p)
+pub from_next : (g : Geometry) (r : Registers) (n s m : ℕ) {b : Bool} {v : ℕ} → 0 < s → s ≤ n → b ≡ sealed g r (s - 1) → v ≡ from_bool (not b)
+    → m ≡ unsealed_from g r (n - s) s → 2 * m + v ≡ unsealed_from g r (n - (s - 1)) (s - 1)
+from_next g r n s m {b = b} l h p t e = omega (arith, from_more g r n s l h, t ∙ from_test b ∙ ap (λ (k : Bool). cond {A = ℕ} k 0 1) p)
 
 pub from_all : (g : Geometry) (r : Registers) (n s m : ℕ) → n ≡ sector_count g → s ≤ 0 → m ≡ unsealed_from g r (n - s) s → m ≡ unsealed_set g r
 unfolding unsealed_set

@@ -212,80 +212,65 @@ pub fn unpacked64(data: Data64) -> [u8; 64]
 pub fn with_protection(r: Registers, bytes: [u8; 16]) -> Registers
     ensures { result ≡ with_protection r bytes }
 {
-    let mut n = r;
-    n.protection = bytes;
-    n
+    Registers {
+        protection: bytes,
+        ..r
+    }
 }
 
 pub fn with_lockdown(r: Registers, bytes: [u8; 16]) -> Registers
     ensures { result ≡ with_lockdown r bytes }
 {
-    let mut n = r;
-    n.lockdown = bytes;
-    n
+    Registers {
+        lockdown: bytes,
+        ..r
+    }
 }
 
 pub fn with_user(r: Registers, bytes: [u8; 64]) -> Registers
     ensures { result ≡ with_user r bytes }
 {
-    let mut n = r;
-    n.user = bytes;
-    n.used = true;
-    n
+    Registers {
+        user: bytes,
+        used: true,
+        ..r
+    }
 }
 
 pub fn with_protect(r: Registers, on: bool) -> Registers
     ensures { result ≡ with_protect r on }
 {
-    let mut n = r;
-    n.protect = on;
-    n
+    Registers { protect: on, ..r }
 }
 
 pub fn with_wp(r: Registers, high: bool) -> Registers
     ensures { result ≡ with_wp r high }
 {
-    let mut n = r;
-    n.wp = high;
-    n
+    Registers { wp: high, ..r }
 }
 
 pub fn with_deep(r: Registers, on: bool) -> Registers
     ensures { result ≡ with_deep r on }
 {
-    let mut n = r;
-    n.deep = on;
-    n
+    Registers { deep: on, ..r }
 }
 
 pub fn with_operation(r: Registers, o: Operation) -> Registers
     ensures { result ≡ with_operation r o }
 {
-    let protection = r.protection;
-    let lockdown = r.lockdown;
-    let user = r.user;
-    let factory = r.factory;
-    Registers {
-        protection: protection,
-        lockdown: lockdown,
-        user: user,
-        factory: factory,
-        used: r.used,
-        protect: r.protect,
-        wp: r.wp,
-        deep: r.deep,
-        operation: o,
-    }
+    Registers { operation: o, ..r }
 }
 
 // What a cut does to every chip: both marks off, idle.
 pub fn restart(r: Registers) -> Registers
     ensures { result ≡ restarted r }
 {
-    with_deep(
-        with_protect(with_operation(r, Operation::Idle), false),
-        false,
-    )
+    Registers {
+        protect: false,
+        deep: false,
+        operation: Operation::Idle,
+        ..r
+    }
 }
 
 // ---- protection
@@ -312,10 +297,7 @@ fn has_bits(bytes: [u8; 16], sector: usize) -> bool
 pub fn is_guarded(s: Seals) -> bool
     ensures { WithSeals s (λ r. result ≡ guarded r) }
 {
-    if s.protect {
-        return true;
-    }
-    !s.wp
+    s.protect || !s.wp
 }
 
 // Sealed: locked, or listed and guarded.
@@ -323,15 +305,7 @@ pub fn is_sealed(s: Seals, sector: usize) -> bool
     requires { sector < register_room + 1 }
     ensures { (g : Geometry) → Roomed g → WithSeals s (λ r. result ≡ sealed g r sector) }
 {
-    let lockdown = s.lockdown;
-    if has_bits(lockdown, sector) {
-        return true;
-    }
-    let protection = s.protection;
-    if has_bits(protection, sector) {
-        return is_guarded(s);
-    }
-    false
+    has_bits(s.lockdown, sector) || has_bits(s.protection, sector) && is_guarded(s)
 }
 
 // The sectors of the part that are not sealed: bit i is sector i.
@@ -339,14 +313,10 @@ pub fn unsealed_set(g: Geometry, seals: Seals) -> u32
     requires { Sized g (g.pages * g.size) }
     ensures { WithSeals seals (λ r. result ≡ unsealed_set g r) }
 {
-    let mut s = geometry::sector_count(g);
+    let count = geometry::sector_count(g);
     let mut m: u32 = 0;
-    while 0 < s {
-        s -= 1;
-        m = 2 * m;
-        if !is_sealed(seals, s) {
-            m += 1;
-        }
+    for s in (0..count).rev() {
+        m = 2 * m + u32::from(!is_sealed(seals, s));
     }
     m
 }
@@ -367,8 +337,7 @@ pub fn locked_bytes(bytes: [u8; 16], sector: usize) -> [u8; 16]
     ensures { (g : Geometry) → Roomed g → result ≡ locked_bytes g bytes sector }
 {
     let mut l = bytes;
-    let i = if sector == 0 { 0 } else { sector - 1 };
-    l[i] = l[i] | mask(sector);
+    l[sector.saturating_sub(1)] |= mask(sector);
     l
 }
 
@@ -379,10 +348,10 @@ fn paging(buffer: Buffer, page: usize, writes: bool, work: Work) -> Facts
     ensures { result ≡ paging buffer page writes work }
 {
     Facts {
-        names: Named::Page { page: page },
-        writes: writes,
-        usage: Usage::Uses { buffer: buffer },
-        work: work,
+        names: Named::Page { page },
+        writes,
+        usage: Usage::Uses { buffer },
+        work,
     }
 }
 
@@ -391,7 +360,7 @@ fn erasing(names: Named) -> Facts
     ensures { result ≡ erasing names }
 {
     Facts {
-        names: names,
+        names,
         writes: true,
         usage: Usage::NoBuffer,
         work: Work::Erase,
@@ -403,7 +372,7 @@ fn updating(names: Named) -> Facts
     ensures { result ≡ updating names }
 {
     Facts {
-        names: names,
+        names,
         writes: false,
         usage: Usage::Exclusive,
         work: Work::Rest,
@@ -431,13 +400,13 @@ pub fn facts_of(o: Operation) -> Facts
         Operation::Transfer { buffer, page } => paging(buffer, page, false, Work::Transfer),
         Operation::Compare { buffer, page } => paging(buffer, page, false, Work::Compare),
         Operation::Rewrite { buffer, page } => paging(buffer, page, true, Work::Transfer),
-        Operation::ErasePage { page } => erasing(Named::Page { page: page }),
-        Operation::EraseBlock { block } => erasing(Named::Block { block: block }),
-        Operation::EraseSector { sector } => erasing(Named::Sector { sector: sector }),
-        Operation::EraseChip { sectors } => erasing(Named::Sectors { sectors: sectors }),
+        Operation::ErasePage { page } => erasing(Named::Page { page }),
+        Operation::EraseBlock { block } => erasing(Named::Block { block }),
+        Operation::EraseSector { sector } => erasing(Named::Sector { sector }),
+        Operation::EraseChip { sectors } => erasing(Named::Sectors { sectors }),
         Operation::EraseProtection => updating(Named::Nothing),
         Operation::ProgramProtection { data: _ } => updating(Named::Nothing),
-        Operation::LockSector { sector } => updating(Named::Sector { sector: sector }),
+        Operation::LockSector { sector } => updating(Named::Sector { sector }),
         Operation::ProgramSecurity { data: _ } => updating(Named::Nothing),
     }
 }
@@ -446,38 +415,15 @@ pub fn update_of(o: Operation) -> Update
     ensures { result ≡ update_of o }
 {
     match o {
-        Operation::Idle => Update::Keep,
-        Operation::Program { buffer: _, page: _ } => Update::Keep,
-        Operation::ProgramOver { buffer: _, page: _ } => Update::Keep,
-        Operation::Transfer { buffer: _, page: _ } => Update::Keep,
-        Operation::Compare { buffer: _, page: _ } => Update::Keep,
-        Operation::Rewrite { buffer: _, page: _ } => Update::Keep,
-        Operation::ErasePage { page: _ } => Update::Keep,
-        Operation::EraseBlock { block: _ } => Update::Keep,
-        Operation::EraseSector { sector: _ } => Update::Keep,
-        Operation::EraseChip { sectors: _ } => Update::Keep,
         Operation::EraseProtection => Update::FillProtection,
-        Operation::ProgramProtection { data } => Update::MaskProtection { data: data },
-        Operation::LockSector { sector } => Update::Lock { sector: sector },
-        Operation::ProgramSecurity { data } => Update::WriteUser { data: data },
+        Operation::ProgramProtection { data } => Update::MaskProtection { data },
+        Operation::LockSector { sector } => Update::Lock { sector },
+        Operation::ProgramSecurity { data } => Update::WriteUser { data },
+        _ => Update::Keep,
     }
 }
 
 // ---- what follows from them
-
-// 2 to the n.
-fn power(n: usize) -> u32
-    requires { n ≤ 17 }
-    ensures { result ≡ 2 ^ n }
-{
-    let mut p: u32 = 1;
-    let mut i = 0;
-    while i < n {
-        p = 2 * p;
-        i += 1;
-    }
-    p
-}
 
 fn is_within(g: Geometry, n: Named) -> bool
     requires { Sized g (g.pages * g.size) }
@@ -488,7 +434,7 @@ fn is_within(g: Geometry, n: Named) -> bool
         Named::Page { page } => page < g.pages,
         Named::Block { block } => block < g.pages / 8,
         Named::Sector { sector } => sector < geometry::sector_count(g),
-        Named::Sectors { sectors } => sectors < power(geometry::sector_count(g)),
+        Named::Sectors { sectors } => sectors < 1 << geometry::sector_count(g),
     }
 }
 
@@ -516,8 +462,7 @@ pub fn target_of(o: Operation) -> Named
     ensures { result ≡ target_of o }
 {
     let f = facts_of(o);
-    let n = f.names;
-    if f.writes { n } else { Named::Nothing }
+    if f.writes { f.names } else { Named::Nothing }
 }
 
 // The page that is named; 0 where none is.
@@ -525,11 +470,8 @@ pub fn page_named(n: Named) -> usize
     ensures { result ≡ page_named n }
 {
     match n {
-        Named::Nothing => 0,
         Named::Page { page } => page,
-        Named::Block { block: _ } => 0,
-        Named::Sector { sector: _ } => 0,
-        Named::Sectors { sectors: _ } => 0,
+        _ => 0,
     }
 }
 
@@ -539,7 +481,6 @@ pub fn run_named(g: Geometry, n: Named) -> Run
     ensures { (result ≡ run_named g n) × (result.first + result.count ≤ g.pages) }
 {
     match n {
-        Named::Nothing => Run { first: 0, count: 0 },
         Named::Page { page } => Run {
             first: page,
             count: 1,
@@ -549,7 +490,7 @@ pub fn run_named(g: Geometry, n: Named) -> Run
             count: 8,
         },
         Named::Sector { sector } => geometry::sector_run(g, sector),
-        Named::Sectors { sectors: _ } => Run { first: 0, count: 0 },
+        Named::Nothing | Named::Sectors { sectors: _ } => Run { first: 0, count: 0 },
     }
 }
 
@@ -558,11 +499,8 @@ pub fn set_named(n: Named) -> u32
     ensures { result ≡ set_named n }
 {
     match n {
-        Named::Nothing => 0,
-        Named::Page { page: _ } => 0,
-        Named::Block { block: _ } => 0,
-        Named::Sector { sector: _ } => 0,
         Named::Sectors { sectors } => sectors,
+        _ => 0,
     }
 }
 
@@ -571,9 +509,7 @@ pub fn buffer_of(u: Usage) -> Buffer
     ensures { result ≡ buffer_of u }
 {
     match u {
-        Usage::Free => Buffer::One,
         Usage::Uses { buffer } => buffer,
-        Usage::NoBuffer => Buffer::One,
-        Usage::Exclusive => Buffer::One,
+        _ => Buffer::One,
     }
 }

@@ -20,7 +20,7 @@ listed g r s n e h k = ap (λ (x : Seals). has_bits g x.protection n) e ∙ sym 
 pub returns-then-has_bits : goal.returns-then-has_bits
 returns-then-has_bits c =
     let s = c.args in
-    λ g q r e. sym (protected_locked g r s.sector (locked g r s.s s.sector e (c.has_bits.ensures g q) c.if-has_bits.true))
+    λ g q r e. c.if-has_bits.true ∙ sym (protected_locked g r s.sector (locked g r s.s s.sector e (c.has_bits.ensures g q) c.if-has_bits.true))
 
 pub returns-then-has_bits-2 : goal.returns-then-has_bits-2
 returns-then-has_bits-2 c =
@@ -29,12 +29,13 @@ returns-then-has_bits-2 c =
     c.is_guarded.ensures r e
     ∙ sym (protected_listed g r s.sector
     (locked g r s.s s.sector e (c.has_bits.ensures g q) c.if-has_bits.false)
-    (listed g r s.s s.sector e (c.has_bits-2.ensures g q) c.if-has_bits-2.true))
+    (listed g r s.s s.sector e (c.has_bits-else-has_bits.ensures g q) c.if-has_bits-2.true))
 
-pub returns : goal.returns
-returns c =
+pub returns-else-has_bits-2 : goal.returns-else-has_bits-2
+returns-else-has_bits-2 c =
     let s = c.args in
     λ g q r e.
-    sym (protected_free g r s.sector
+    c.if-has_bits-2.false
+    ∙ sym (protected_free g r s.sector
     (locked g r s.s s.sector e (c.has_bits.ensures g q) c.if-has_bits.false)
-    (listed g r s.s s.sector e (c.has_bits-2.ensures g q) c.if-has_bits-2.false))
+    (listed g r s.s s.sector e (c.has_bits-else-has_bits.ensures g q) c.if-has_bits-2.false))
