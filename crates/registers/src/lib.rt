@@ -163,24 +163,30 @@ pub fn packed64(bytes: &[u8; 64]) -> Data64
     }
 }
 
-// An FC's data: the frame's bytes after the first four, wrapping at 16, FFh where none was sent.
+// The frame's bytes after the first four, wrapping at N, FFh where none was sent.
+fn data_bytes<const N: usize>(frame: &[u8]) -> [u8; N]
+    requires { (0 < N) × (4 ≤ length frame.now) }
+    ensures { result ≡ padded N (drop 4 frame.now) }
+{
+    let mut bytes = [255; N];
+    slices::ring_write(&mut bytes, N, 0, &frame[4..]);
+    bytes
+}
+
+// An FC's data: 16 bytes.
 pub fn protection_data(frame: &[u8]) -> Data16
     requires { 4 ≤ length frame.now }
     ensures { result ≡ pack16 (padded 16 (drop 4 frame.now)) }
 {
-    let mut bytes = [255u8; 16];
-    slices::ring_write(&mut bytes, 16, 0, &frame[4..]);
-    packed16(&bytes)
+    packed16(&data_bytes(frame))
 }
 
-// A 9B's data likewise, wrapping at 64.
+// A 9B's data: 64 bytes.
 pub fn security_data(frame: &[u8]) -> Data64
     requires { 4 ≤ length frame.now }
     ensures { result ≡ pack64 (padded 64 (drop 4 frame.now)) }
 {
-    let mut bytes = [255u8; 64];
-    slices::ring_write(&mut bytes, 64, 0, &frame[4..]);
-    packed64(&bytes)
+    packed64(&data_bytes(frame))
 }
 
 pub fn unpacked16(data: Data16) -> [u8; 16]
@@ -447,11 +453,7 @@ pub fn place(length: usize, o: Operation) -> Option<Geometry>
         Some(g) => {
             let f = facts_of(o);
             let n = f.names;
-            if is_within(g, n) {
-                Some(g)
-            } else {
-                None
-            }
+            if is_within(g, n) { Some(g) } else { None }
         }
         None => None,
     }
