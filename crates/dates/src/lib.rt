@@ -26,26 +26,16 @@ pub enum Term {
 fn is_leap(year: u32) -> bool
     ensures { result ≡ is_leap year }
 {
-    if year % 4 != 0 {
-        return false;
-    }
-    if year % 100 != 0 {
-        return true;
-    }
-    year % 400 == 0
+    year % 4 == 0 && (year % 100 != 0 || year % 400 == 0)
 }
 
 // The days of a month.
 fn days_in_month(leap: bool, month: u32) -> u32
     ensures { result ≡ days_in_month leap month }
 {
-    if month == 2 {
-        if leap {
-            return 29;
-        }
-        return 28;
-    }
     match month {
+        2 if leap => 29,
+        2 => 28,
         4 | 6 | 9 | 11 => 30,
         _ => 31,
     }
@@ -55,22 +45,9 @@ fn days_in_month(leap: bool, month: u32) -> u32
 pub fn is_date(d: Date) -> bool
     ensures { result ≡ is_date d }
 {
-    if d.year < 2000 {
-        return false;
-    }
-    if 2199 < d.year {
-        return false;
-    }
-    if d.month < 1 {
-        return false;
-    }
-    if 12 < d.month {
-        return false;
-    }
-    if d.day < 1 {
-        return false;
-    }
-    d.day <= days_in_month(is_leap(d.year), d.month)
+    (2000..=2199).contains(&d.year)
+        && (1..=12).contains(&d.month)
+        && (1..=days_in_month(is_leap(d.year), d.month)).contains(&d.day)
 }
 
 // The days of the first n years from 2000 on: 365 each, and one for each leap year among them. 2000 is itself a fourth, a hundredth and a four
@@ -109,12 +86,7 @@ fn months_days(leap: bool, month: u32) -> usize
     ensures { (result ≡ days_of_months leap (month - 1)) × (result ≤ 335) }
 {
     let days = common_days(month);
-    if leap {
-        if 2 < month {
-            return days + 1;
-        }
-    }
-    days
+    if leap && 2 < month { days + 1 } else { days }
 }
 
 // The date's day number, 1 January 2000 being 0; 0 also where there is no such date.
@@ -133,13 +105,7 @@ pub fn day_number(d: Date) -> usize
 fn is_span(first: Date, last: Date) -> bool
     ensures { result ≡ is_term (Between first last) }
 {
-    if !is_date(first) {
-        return false;
-    }
-    if !is_date(last) {
-        return false;
-    }
-    day_number(first) <= day_number(last)
+    is_date(first) && is_date(last) && day_number(first) <= day_number(last)
 }
 
 // Unlimited, or dates of which the first is not after the last.

@@ -1,19 +1,17 @@
 -- `dates::is_leap` meets its contract: the code's tests are the definition's.
 -- Assumes nothing.
-use Prim.Native.Nat.{◌%◌}
-use native.Mathlib.Omega.{arith}
-use borrow.Author.Tests.{eq-eqb, ne_eqb}
+use Rattle.std.proofs.Common.{rules}
 use Rattle.dates.specs.Calendar.{is_leap}
 use Rattle.dates.proofs.is_leap.Goals as goal
 
 pub returns-then-year-ne0 : goal.returns-then-year-ne0
 unfolding is_leap
-returns-then-year-ne0 c = let year = c.args.year in rw (ne_eqb (year % 4) 0 (λ e. omega arith))
+returns-then-year-ne0 c = search rules
 
-pub returns-then-year-ne0-2 : goal.returns-then-year-ne0-2
+pub returns-else-year-ne0 : goal.returns-else-year-ne0
 unfolding is_leap
-returns-then-year-ne0-2 c = let year = c.args.year in rw (eq-eqb (year % 4) 0 (omega arith), ne_eqb (year % 100) 0 (λ e. omega arith))
+returns-else-year-ne0 c = search rules
 
-pub returns : goal.returns
+pub returns-else-year-eq0 : goal.returns-else-year-eq0
 unfolding is_leap
-returns c = let year = c.args.year in rw (eq-eqb (year % 4) 0 (omega arith), eq-eqb (year % 100) 0 (omega arith))
+returns-else-year-eq0 c = search rules
