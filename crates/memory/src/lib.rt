@@ -2,7 +2,7 @@
 // Internal to this repository: a caller here meets each `requires`; no entry point is in this crate.
 #![tactic(auto)]
 
-ghost use Rattle.std.specs.Prelude.{◌≡◌, ℕ, ◌+◌, ◌*◌, ◌≤◌, ◌<◌, length};
+ghost use Rattle.std.specs.Prelude.{◌≡◌, ℕ, ◌+◌, ◌*◌, ◌≤◌, ◌<◌, List, length};
 ghost use Rattle.geometry.specs.Parts.{Sized, page_of};
 ghost use Rattle.memory.specs.Pages.{programmed, programmed_over, transferred, differing, erased, junked, in_sectors, junk_buffer};
 ghost use Rattle.memory.specs.Replies.{replied, no_data, once_data, ring_data};
@@ -86,19 +86,27 @@ pub fn spoil(g: Geometry, array: &mut [u8], junk: &[u8], r: Run)
     slices::copy(&mut array[a..e], &junk[from..to]);
 }
 
-// Each sector of the set becomes FFh: bit i is sector i.
+// Each sector of the set, as a run, is given to `act`, lowest first: bit i is sector i.
+fn each_sector<F: Fn(&mut [u8], Run)>(g: Geometry, array: &mut [u8], sectors: u32, act: F)
+    requires sized { Sized g (length array.old) }
+    requires callable { (part : _) (r : Run) → length part.now ≡ length array.old → r.first + r.count ≤ g.pages → F.pre act part r }
+    ensures { (f : Run → List ℕ → List ℕ) → ((part : _) (r : Run) (left : _) → F.post act part r tt left → left.now ≡ f r part.now) → array.new ≡ in_sectors f g sectors array.old }
+{
+    let mut left = sectors;
+    for s in 0..geometry::sector_count(g) {
+        if left % 2 == 1 {
+            act(array, geometry::sector_run(g, s));
+        }
+        left /= 2;
+    }
+}
+
+// Each sector of the set becomes FFh.
 pub fn erase_sectors(g: Geometry, array: &mut [u8], sectors: u32)
     requires { Sized g (length array.old) }
     ensures { array.new ≡ in_sectors (erased g) g sectors array.old }
 {
-    let count = geometry::sector_count(g);
-    let mut left = sectors;
-    for s in 0..count {
-        if left % 2 == 1 {
-            erase(g, array, geometry::sector_run(g, s));
-        }
-        left /= 2;
-    }
+    each_sector(g, array, sectors, |part, r| erase(g, part, r));
 }
 
 // Each sector of the set becomes junk.
@@ -106,14 +114,7 @@ pub fn spoil_sectors(g: Geometry, array: &mut [u8], junk: &[u8], sectors: u32)
     requires { (Sized g (length array.old)) × (length junk.now ≡ 2 * g.size + length array.old) }
     ensures { array.new ≡ in_sectors (junked g junk.now) g sectors array.old }
 {
-    let count = geometry::sector_count(g);
-    let mut left = sectors;
-    for s in 0..count {
-        if left % 2 == 1 {
-            spoil(g, array, junk, geometry::sector_run(g, s));
-        }
-        left /= 2;
-    }
+    each_sector(g, array, sectors, |part, r| spoil(g, part, junk, r));
 }
 
 // The buffer becomes the junk from index `at` on.
