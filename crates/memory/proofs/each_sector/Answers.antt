@@ -1,10 +1,8 @@
 -- `memory::each_sector` meets its contract: before sector s the sectors below it are done, and what is left of the set is that set divided by 2 s times.
 -- Assumes nothing.
-use mathlib.Core.Path.{◌≡◌, refl, ap, subst, ◌∙◌}
-use mathlib.Core.List.{List}
-use Prim.Native.Nat.{ℕ, ◌-◌, ◌≤◌, ◌<◌}
+use mathlib.Core.Path.{refl, subst, ◌∙◌}
+use Prim.Native.Nat.{ℕ, ◌<◌}
 use native.Mathlib.Omega.{arith}
-use lib.ListN.{length}
 use Rattle.geometry.proofs.Pages.{sized_own}
 use Rattle.geometry.proofs.Sectors.{sectors_few}
 use Rattle.memory.proofs.Lent.{passed_none, passed_done, passed_by, passed_all}

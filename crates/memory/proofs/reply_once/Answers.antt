@@ -1,7 +1,6 @@
 -- `memory::reply_once` meets its contract: over FFh throughout, the part behind the lead comes back as the bytes, as far as there are any and the reply reaches.
 -- Assumes nothing.
 use mathlib.Core.Path.{sym}
-use Prim.Native.Nat.{◌-◌}
 use native.Mathlib.Omega.{arith}
 use lib.ListN.{length, length-take, length-drop}
 use lib.Seq.{length-take-le}

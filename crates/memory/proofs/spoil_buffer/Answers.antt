@@ -1,7 +1,6 @@
 -- `memory::spoil_buffer` meets its contract: the buffer's beginning comes back as the junk's part, which is as long.
 -- Assumes nothing.
 use mathlib.Core.Path.{sym, ◌∙◌}
-use Prim.Native.Nat.{◌-◌}
 use native.Mathlib.Omega.{arith}
 use lib.ListN.{length-take, length-drop}
 use lib.Seq.{length-take-le}
