@@ -13,7 +13,8 @@ ghost use Rattle.registers.specs.Operations.{has, placed, target_of, page_named,
 use commands::Buffer;
 use geometry::{Geometry, Run};
 
-// The 16 data bytes of an FC, as words, first byte highest.
+// The 16 data bytes of an FC, as words, first byte highest. This and the next are two structs, and no `[u64; N]`: the definitions pack16, bytes16,
+// pack64 and bytes64, which contracts of other crates cite, name their fields.
 #[derive(Clone, Copy)]
 pub struct Data16 {
     pub a: u64,
