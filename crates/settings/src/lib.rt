@@ -104,7 +104,7 @@ pub fn with_number(s: Settings, k: Key, n: usize) -> Settings
         Key::Log => Settings { log: given, ..s },
         Key::Buffer => Settings { buffer: given, ..s },
         Key::Reply => Settings { reply: given, ..s },
-        Key::Script | Key::First | Key::Last | Key::Today => s,
+        _ => s,
     }
 }
 
