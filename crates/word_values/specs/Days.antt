@@ -1,8 +1,8 @@
 -- A word as a date (docs/OUTLINE.md): year, month and day, joined by `-`; the first part that is at fault, from left to right.
 -- Assumes nothing.
 use Rattle.std.specs.Prelude.{ℕ, cond, List, ltb, Result, Ok, Err}
-use Rattle.text.specs.declared.values.Number.{Number}
-use Rattle.text.specs.declared.values.Number.TheVariants as Number
+use Rattle.text.specs.declared.values.NumberError.{NumberError}
+use Rattle.text.specs.declared.values.NumberError.TheVariants as NumberError
 use Rattle.text.specs.Decimal.{number_of}
 use Rattle.text.specs.Hyphens.{before_hyphen, behind_hyphen}
 use Rattle.faults.specs.declared.Name.{Name}
@@ -11,10 +11,10 @@ use Rattle.faults.specs.declared.Fault.TheVariants as Fault
 use Rattle.dates.specs.declared.Date.{Date}
 
 -- a number as a part of a date: at most 4,294,967,295
-abbrev pub date_part : Name → Number → Result ℕ Fault
-date_part name (Number.Value v) = cond (ltb 0xFFFF_FFFF v) (Err (Fault.TooLarge name)) (Ok v)
-date_part name Number.NotNumber = Err (Fault.NotDate name)
-date_part name Number.TooLarge = Err (Fault.TooLarge name)
+abbrev pub date_part : Name → Result ℕ NumberError → Result ℕ Fault
+date_part name (Ok v) = cond (ltb 0xFFFF_FFFF v) (Err (Fault.TooLarge name)) (Ok v)
+date_part name (Err NumberError.NotNumber) = Err (Fault.NotDate name)
+date_part name (Err NumberError.TooLarge) = Err (Fault.TooLarge name)
 
 -- year, month and day as a date, or the first fault
 abbrev pub joined : (year month day : Result ℕ Fault) → Result Date Fault

@@ -3,10 +3,10 @@
 use Rattle.std.specs.Prelude.{ℕ, ◌%◌, cond, List, [], ◌∷◌, length, eqb, Result, Ok, Err}
 use Prim.Native.String.{String}
 use Rattle.slices.specs.Lists.{same}
-use Rattle.text.specs.declared.values.Number.{Number}
-use Rattle.text.specs.declared.values.Number.TheVariants as Number
-use Rattle.text.specs.declared.values.Hex.{Hex}
-use Rattle.text.specs.declared.values.Hex.TheVariants as Hex
+use Rattle.text.specs.declared.values.NumberError.{NumberError}
+use Rattle.text.specs.declared.values.NumberError.TheVariants as NumberError
+use Rattle.text.specs.declared.values.HexError.{HexError}
+use Rattle.text.specs.declared.values.HexError.TheVariants as HexError
 use Rattle.text.specs.Decimal.{number_of}
 use Rattle.text.specs.Hexadecimal.{hex_of}
 use Rattle.words.specs.Letters.{bytes}
@@ -22,10 +22,10 @@ abbrev pub if_given : List ℕ → Name → Result ℕ Fault → Result ℕ Faul
 if_given word name given = cond (eqb (length word) 0) (Err (Fault.Missing name)) given
 
 -- a word's number, or the fault that it has none
-abbrev pub numbered : Name → Number → Result ℕ Fault
-numbered name (Number.Value v) = Ok v
-numbered name Number.NotNumber = Err (Fault.NotNumber name)
-numbered name Number.TooLarge = Err (Fault.TooLarge name)
+abbrev pub numbered : Name → Result ℕ NumberError → Result ℕ Fault
+numbered name (Ok v) = Ok v
+numbered name (Err NumberError.NotNumber) = Err (Fault.NotNumber name)
+numbered name (Err NumberError.TooLarge) = Err (Fault.TooLarge name)
 
 -- a decimal number
 abbrev pub decimal_of : List ℕ → Name → Result ℕ Fault
@@ -94,10 +94,10 @@ number_as word First.Part = length_of word
 number_as word First.Nothing = Ok 0
 
 -- a word's digits make bytes, or the fault that they do not
-abbrev pub tested : Name → Hex → Result Unit Fault
-tested name (Hex.Bytes n) = Ok tt
-tested name Hex.NotHex = Err (Fault.NotHex name)
-tested name Hex.Odd = Err (Fault.Odd name)
+abbrev pub tested : Name → Result ℕ HexError → Result Unit Fault
+tested name (Ok n) = Ok tt
+tested name (Err HexError.NotHex) = Err (Fault.NotHex name)
+tested name (Err HexError.Odd) = Err (Fault.Odd name)
 
 -- whether the word is an even number of hexadecimal digits, or `-`
 abbrev pub test_hex : List ℕ → Name → Result Unit Fault

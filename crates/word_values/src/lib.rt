@@ -8,7 +8,7 @@ ghost use Rattle.word_values.specs.Values.{numbered, decimal_of, seed_of, if_wor
 
 use dates::Date;
 use faults::{Fault, Name};
-use text::{Hex, Number};
+use text::{HexError, NumberError};
 
 // What the number behind a command is.
 #[derive(Clone, Copy)]
@@ -25,9 +25,9 @@ pub fn number(word: &[u8], name: Name) -> Result<usize, Fault>
     ensures { result ≡ numbered name (number_of word.now) }
 {
     match text::number(word) {
-        Number::Value(v) => Ok(v as usize),
-        Number::NotNumber => Err(Fault::NotNumber(name)),
-        Number::TooLarge => Err(Fault::TooLarge(name)),
+        Ok(v) => Ok(v as usize),
+        Err(NumberError::NotNumber) => Err(Fault::NotNumber(name)),
+        Err(NumberError::TooLarge) => Err(Fault::TooLarge(name)),
     }
 }
 
@@ -101,9 +101,9 @@ pub fn test_hex(word: &[u8], name: Name) -> Result<(), Fault>
     ensures { result ≡ test_hex word.now name }
 {
     match hexadecimal::hex(word) {
-        Hex::Bytes(_) => Ok(()),
-        Hex::NotHex => Err(Fault::NotHex(name)),
-        Hex::Odd => Err(Fault::Odd(name)),
+        Ok(_) => Ok(()),
+        Err(HexError::NotHex) => Err(Fault::NotHex(name)),
+        Err(HexError::Odd) => Err(Fault::Odd(name)),
     }
 }
 
@@ -112,9 +112,9 @@ fn date_part(word: &[u8], name: Name) -> Result<u32, Fault>
     ensures { result ≡ date_part name (number_of word.now) }
 {
     match text::number(word) {
-        Number::Value(v) => u32::try_from(v).map_err(|_| Fault::TooLarge(name)),
-        Number::NotNumber => Err(Fault::NotDate(name)),
-        Number::TooLarge => Err(Fault::TooLarge(name)),
+        Ok(v) => u32::try_from(v).map_err(|_| Fault::TooLarge(name)),
+        Err(NumberError::NotNumber) => Err(Fault::NotDate(name)),
+        Err(NumberError::TooLarge) => Err(Fault::TooLarge(name)),
     }
 }
 
