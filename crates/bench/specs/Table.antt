@@ -1,11 +1,10 @@
 -- The bench table: addresses, sectors, status, pages, records, answers, frames, and the program's example; then the same of pages of 256 bytes.
 -- Assumes nothing.
-use Rattle.std.specs.Prelude.{ℕ, ◌+◌, ◌≡◌, true, false, List, [], ◌∷◌, ◌++◌, length, take, drop, replicate}
+use Rattle.std.specs.Prelude.{ℕ, ◌+◌, ◌≡◌, true, false, List, [], ◌∷◌, ◌++◌, length, take, drop, replicate, Some}
 use Rattle.dates.specs.declared.Date.{Date}
 use Rattle.dates.specs.declared.Term.TheVariants.{Unlimited, Between}
 use Rattle.dates.specs.Calendar.{date}
 use Rattle.geometry.specs.declared.Geometry.{Geometry}
-use Rattle.geometry.specs.declared.Part.TheVariants.{Known}
 use Rattle.geometry.specs.Parts.{row, part_of, address_at, page_at, byte_at}
 use Rattle.geometry.specs.Sectors.{sector_of}
 use Rattle.commands.specs.declared.Buffer.TheVariants.{One}
@@ -86,7 +85,7 @@ wipe_two = wipe 2 1 [] [] log
 pub record Chip : Type 0 where
   -- addresses: 83 00 0A 00 names page 5, as the chip takes it; 1F FE 00 and FF FE 00 name 4,095 of 4,096
   pub page_5 : (sent (0x83 ∷ 0x00 ∷ 0x0A ∷ 0x00 ∷ []) fresh_short).registers.operation ≡ Program One 5
-  pub part-full : part_of 1081344 ≡ Known full
+  pub part-full : part_of 1081344 ≡ Some full
   pub page_last : page_at full (address_in (0x83 ∷ 0x1F ∷ 0xFE ∷ 0x00 ∷ [])) ≡ 4095
   pub page_high : page_at full (address_in (0x83 ∷ 0xFF ∷ 0xFE ∷ 0x00 ∷ [])) ≡ 4095
   -- byte field 263 is byte 263, 264 is byte 0
@@ -149,7 +148,7 @@ pub record Frames : Type 0 where
 pub record Binary : Type 0 where
   -- pages of 256 bytes: 83 00 05 00 names page 5; 0F FF 00 and FF FF 00 name 4,095 of 4,096
   pub page_5_of_256 : (sent (0x83 ∷ 0x00 ∷ 0x05 ∷ 0x00 ∷ []) fresh_short256).registers.operation ≡ Program One 5
-  pub part-full_256 : part_of 1048576 ≡ Known full256
+  pub part-full_256 : part_of 1048576 ≡ Some full256
   pub page_last_256 : page_at full256 (address_in (0x83 ∷ 0x0F ∷ 0xFF ∷ 0x00 ∷ [])) ≡ 4095
   pub page_high_256 : page_at full256 (address_in (0x83 ∷ 0xFF ∷ 0xFF ∷ 0x00 ∷ [])) ≡ 4095
   -- byte field 255 is byte 255 of page 0; the next number names page 1

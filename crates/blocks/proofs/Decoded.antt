@@ -1,6 +1,8 @@
 -- Every block of 765 bytes reads as a chip that a block can hold: its parts have their lengths, two bytes make a number below 65536, four
 -- one below 2 ^ 32, eight one below 2 ^ 64. A tag or a buffer that does not fit reads as an operation that no part takes.
 -- Assumes nothing.
+use Rattle.geometry.specs.declared.Geometry.{Geometry}
+use Rattle.std.specs.Prelude.{None, Option, Some}
 use mathlib.Core.Path.{◌≡◌, refl}
 use mathlib.Core.Bool.{Bool, true, false, cond}
 use mathlib.Core.List.{List, [], ◌∷◌}
@@ -13,8 +15,6 @@ use borrow.Author.Tests.{le-ltb}
 use Rattle.slices.proofs.Words.{word_at-small}
 use Rattle.commands.specs.declared.Buffer.{Buffer}
 use Rattle.commands.specs.declared.Buffer.TheVariants.{One, Two}
-use Rattle.geometry.specs.declared.Part.{Part}
-use Rattle.geometry.specs.declared.Part.TheVariants.{Known, Unknown}
 use Rattle.geometry.specs.Parts.{page_room, part_of}
 use Rattle.geometry.proofs.Pages.{sized}
 use Rattle.registers.specs.declared.Operation.{Operation}
@@ -131,10 +131,10 @@ pub decode_encode_decode : (block : List ℕ) → length block ≡ 765 → ((k :
 decode_encode_decode block l h = decode_encode (decode_chip block) (holds_decode block l h)
 
 -- an operation beyond every part: with it, every array meets answer 1
-pub beyond-placed : (n : ℕ) → placed n beyond ≡ Unknown
+pub beyond-placed : (n : ℕ) → placed n beyond ≡ None
 unfolding within
 beyond-placed n = go (part_of n) refl
   where
-    go : (p : Part) → part_of n ≡ p → placed n beyond ≡ Unknown
-    go (Known g) e = known_beyond n beyond g e (le-ltb 65535 g.pages (omega (arith, (sized n g e).few)))
-    go Unknown e = unknown_placed n beyond e
+    go : (p : Option Geometry) → part_of n ≡ p → placed n beyond ≡ None
+    go (Some g) e = known_beyond n beyond g e (le-ltb 65535 g.pages (omega (arith, (sized n g e).few)))
+    go None e = unknown_placed n beyond e

@@ -2,7 +2,7 @@
 // The function named to others has no `requires`: bad input is refused, and a refusal changes nothing. The entry points are in crate calls.
 #![tactic(auto)]
 
-ghost use Rattle.std.specs.Prelude.{◌≡◌, replicate};
+ghost use Rattle.std.specs.Prelude.{◌≡◌, replicate, Some};
 ghost use Rattle.geometry.specs.Parts.{slot_room};
 ghost use Rattle.state.specs.Outcomes.{part_in};
 ghost use Rattle.slots.specs.Lists.{Op, asking};
@@ -10,7 +10,7 @@ ghost use Rattle.blocks.specs.Promises.{held_in};
 ghost use Rattle.runs.specs.Promises.{Promise};
 ghost use Rattle.runs.specs.Runs.{Started, RunBy};
 
-use geometry::{Geometry, Part};
+use geometry::Geometry;
 use runs::{Done, Session};
 use slots::{Detail, Driver, Kind};
 use state::Answer;
@@ -34,10 +34,10 @@ pub fn call(
     let o = blocks::operation(block);
     let p = registers::place(array.len(), o);
     match p {
-        Part::Known(g) => call_in(
+        Some(g) => call_in(
             g, block, array, kind, slot, limit, detail, payload, buffer, script, junk, log,
         ),
-        Part::Unknown => endings::refuse(Answer::Part),
+        None => endings::refuse(Answer::Part),
     }
 }
 
@@ -56,7 +56,7 @@ fn call_in(
     junk: &[u8],
     log: &mut [u8],
 ) -> Done
-    requires { part_in (held_in block.old array.old) ≡ Part.Known g }
+    requires { part_in (held_in block.old array.old) ≡ Some g }
     ensures { Promise (Op.call (asking kind slot limit) detail script.now payload.now junk.now log.old buffer.old) block.old array.old result block.new array.new log.new buffer.new }
 {
     let a = refusals::call_refusal(
@@ -99,7 +99,7 @@ fn run(
     junk: &[u8],
     log: &mut [u8],
 ) -> Done
-    requires { (part_in (held_in block.old array.old) ≡ Part.Known g) × (Started g d array.old script.now junk.now log.old) }
+    requires { (part_in (held_in block.old array.old) ≡ Some g) × (Started g d array.old script.now junk.now log.old) }
     ensures { RunBy g d payload.now buffer.old script.now junk.now log.old block.old array.old result block.new array.new log.new buffer.new }
 {
     let kind = d.kind;

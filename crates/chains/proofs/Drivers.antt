@@ -1,6 +1,7 @@
 -- THE DRIVER IN FRONT OF ANY CHIP, over its C functions: a block carries every state of a call from one function to the next, so the chain of blocks is the
 -- chain of states.
 -- Assumes nothing.
+use Rattle.std.specs.Prelude.{None, Option, Some}
 use Prim.Native.Nat.{ℕ, zero, suc, ◌+◌, ◌^◌, ◌≤◌, ◌<◌}
 use native.Mathlib.Omega.{arith}
 use mathlib.Core.Path.{◌≡◌, refl, sym, ap, subst, ◌∙◌}
@@ -12,18 +13,12 @@ use lib.Dec.{eqb}
 use borrow.Author.Tests.{eq-eqb, ne_eqb}
 use Rattle.slices.proofs.Laws.{length-tabulate}
 use Rattle.geometry.specs.declared.Geometry.{Geometry}
-use Rattle.geometry.specs.declared.Part.{Part}
-use Rattle.geometry.specs.declared.Part.TheVariants.{Known, Unknown}
 use Rattle.geometry.specs.Parts.{part_of}
 use Rattle.state.specs.declared.Answer.{Answer}
 use Rattle.state.specs.declared.Answer.TheVariants as Answers
 use Rattle.state.specs.Answers.{number_of}
 use Rattle.slots.specs.declared.Detail.{Detail}
 use Rattle.slots.specs.declared.Driver.{Driver}
-use Rattle.slots.specs.declared.Stage.{Stage}
-use Rattle.slots.specs.declared.Stage.TheVariants.{Going, Ended}
-use Rattle.slots.specs.declared.Told.{Told}
-use Rattle.slots.specs.declared.Told.TheVariants.{Running, Answered}
 use Rattle.slots.specs.declared.Verdict.{Verdict}
 use Rattle.slots.specs.Plans.{Asked, bound, stated}
 use Rattle.slots.specs.Refusals.{flaws_in}
@@ -56,22 +51,22 @@ frame-ended : (d : Driver) (payload staged : List ℕ) → is_ended (stage_in d)
 unfolding frame_in frame_by stage_in
 frame-ended d payload staged e = go (part_of d.array) refl
   where
-    go : (p : Part) → part_of d.array ≡ p → frame_in d payload staged ≡ []
-    go (Known g) p =
-        ap (λ (q : Part). frame_by q d payload staged) p ∙ picked (is_ended (stage_by (Known g) d)) [] _ (ap (λ (q : Part). is_ended (stage_by q d)) (sym p) ∙ e)
-    go Unknown p = ap (λ (q : Part). frame_by q d payload staged) p
+    go : (p : Option Geometry) → part_of d.array ≡ p → frame_in d payload staged ≡ []
+    go (Some g) p =
+        ap (λ (q : Option Geometry). frame_by q d payload staged) p ∙ picked (is_ended (stage_by (Some g) d)) [] _ (ap (λ (q : Option Geometry). is_ended (stage_by q d)) (sym p) ∙ e)
+    go None p = ap (λ (q : Option Geometry). frame_by q d payload staged) p
 
 frame-going : (d : Driver) (payload staged : List ℕ) → is_ended (stage_in d) ≡ false → 1 ≤ length (frame_in d payload staged)
 unfolding frame_in frame_by stage_in
 frame-going d payload staged e = go (part_of d.array) refl
   where
-    go : (p : Part) → part_of d.array ≡ p → 1 ≤ length (frame_in d payload staged)
-    go (Known g) p =
-        let f : is_ended (stage_by (Known g) d) ≡ false = ap (λ (q : Part). is_ended (stage_by q d)) (sym p) ∙ e in
+    go : (p : Option Geometry) → part_of d.array ≡ p → 1 ≤ length (frame_in d payload staged)
+    go (Some g) p =
+        let f : is_ended (stage_by (Some g) d) ≡ false = ap (λ (q : Option Geometry). is_ended (stage_by q d)) (sym p) ∙ e in
         let x = step_in g d in
         let l = length-tabulate (shape_of g x).length (frame_byte (shape_of g x) (loaded g d.kind (holding_of d payload staged) x)) in
-        omega (arith, ap length (ap (λ (q : Part). frame_by q d payload staged) p ∙ other (is_ended (stage_by (Known g) d)) [] _ f), l, shape_some g x (going-facts g d f).1.step)
-    go Unknown p = never (sym e ∙ ended_off d p)
+        omega (arith, ap length (ap (λ (q : Option Geometry). frame_by q d payload staged) p ∙ other (is_ended (stage_by (Some g) d)) [] _ f), l, shape_some g x (going-facts g d f).1.step)
+    go None p = never (sym e ∙ ended_off d p)
 
 -- so the two tests of the end agree
 pub end-told : (d : Driver) (payload staged : List ℕ) → eqb (length (frame_in d payload staged)) 0 ≡ is_ended (stage_in d)
@@ -143,14 +138,14 @@ agree_in (suc n) g payload replies others h z r f a = (
   agree_in n g payload replies others (linked payload replies h) (W.linked payload replies z) (link_reads payload replies h z r f) (link_fits payload replies z f) a.1,
 )
 
-told_same : (s t : Stage) (v w : Verdict) → is_ended s ≡ is_ended t
-    → ((a b : Answer) → told_by s v ≡ Answered a → told_by t w ≡ Answered b → (a ≡ b) ⊎ (FromData a × FromData b))
+told_same : (s t : Option Answer) (v w : Verdict) → is_ended s ≡ is_ended t
+    → ((a b : Answer) → told_by s v ≡ Some a → told_by t w ≡ Some b → (a ≡ b) ⊎ (FromData a × FromData b))
     → (told_number (told_by s v) ≡ told_number (told_by t w)) ⊎ (DataNumber (told_number (told_by s v)) × DataNumber (told_number (told_by t w)))
 unfolding told_by told_number is_ended
-told_same Going Going v w e h = inl refl
-told_same Going (Ended b) v w e h = never e
-told_same (Ended a) Going v w e h = never (sym e)
-told_same (Ended a) (Ended b) v w e h = go (h (weighed a v) (weighed b w) refl refl)
+told_same None None v w e h = inl refl
+told_same None (Some b) v w e h = never e
+told_same (Some a) None v w e h = never (sym e)
+told_same (Some a) (Some b) v w e h = go (h (weighed a v) (weighed b w) refl refl)
   where
     go : (weighed a v ≡ weighed b w) ⊎ (FromData (weighed a v) × FromData (weighed b w))
         → (number_of (weighed a v) ≡ number_of (weighed b w)) ⊎ (DataNumber (number_of (weighed a v)) × DataNumber (number_of (weighed b w)))
@@ -179,7 +174,7 @@ start-reads array a t payload lent staged f =
 -- ANY WORLD, over the driver's C functions: one call on one part, with any two recipes, patches, places, terms or dates of which 5 and 14 are alike, and any
 -- two sequences of replies that agree in what is heard
 pub any_world_blocks : (n : ℕ) (g : Geometry) (array : ℕ) (a : Asked) (t there : Detail) (lent room : ℕ) (payload other staged bytes : List ℕ)
-    (replies others : ℕ → List ℕ) → part_of array ≡ Known g → array < 2 ^ 64 → a.slot < 2 ^ 64 → a.limit < 2 ^ 64 → t.place < 2 ^ 64 → there.place < 2 ^ 64
+    (replies others : ℕ → List ℕ) → part_of array ≡ Some g → array < 2 ^ 64 → a.slot < 2 ^ 64 → a.limit < 2 ^ 64 → t.place < 2 ^ 64 → there.place < 2 ^ 64
     → flaws_in a.kind g t (length payload) lent ≡ flaws_in a.kind g there (length other) room
     → Agree n g payload replies others (begun (encode_driver (start_driver array a t (length payload) lent)) staged)
     → Same (chain n payload replies (begun (encode_driver (start_driver array a t (length payload) lent)) staged))
@@ -217,10 +212,10 @@ before_number a P.blank = (omega arith, omega arith)
 before_number a P.beyond = (omega arith, omega arith)
 
 -- a driver that has ended tells an answer
-told-answer : (s : Stage) (v : Verdict) → is_ended s ≡ true → (Q : Told → Type 0) → ((a : Answer) → told_by s v ≡ Answered a → Q (Answered a)) → Q (told_by s v)
+told-answer : (s : Option Answer) (v : Verdict) → is_ended s ≡ true → (Q : Option Answer → Type 0) → ((a : Answer) → told_by s v ≡ Some a → Q (Some a)) → Q (told_by s v)
 unfolding told_by is_ended
-told-answer Going v e Q f = never e
-told-answer (Ended n) v e Q f = f (weighed n v) refl
+told-answer None v e Q f = never e
+told-answer (Some n) v e Q f = f (weighed n v) refl
 
 exactly_number : (es : List Exchange) (a : Answer) → MiscompareExactly es a → ExactlyTold es (number_of a)
 unfolding answer_at number_of
@@ -232,7 +227,7 @@ exactly_number es a m = record { only = λ e. m.only (sym (answer_back a) ∙ ap
 
 -- EXACTLY 16, over the driver's C functions: a call on a part, whatever it is told and lent, and any sequence of replies
 pub miscompares_blocks : (g : Geometry) (array : ℕ) (a : Asked) (t : Detail) (lent : ℕ) (payload staged : List ℕ) (replies : ℕ → List ℕ)
-    → part_of array ≡ Known g → array < 2 ^ 64 → a.slot < 2 ^ 64 → a.limit < 2 ^ 64 → t.place < 2 ^ 64
+    → part_of array ≡ Some g → array < 2 ^ 64 → a.slot < 2 ^ 64 → a.limit < 2 ^ 64 → t.place < 2 ^ 64
     → ExactlyTold (exchanged (stated a.kind a.limit) payload replies (begun (encode_driver (start_driver array a t (length payload) lent)) staged))
     (told_of (chain (stated a.kind a.limit) payload replies (begun (encode_driver (start_driver array a t (length payload) lent)) staged)))
 unfolding told_in told_number start_driver
@@ -247,7 +242,7 @@ miscompares_blocks g array a t lent payload staged replies p na ns nl np =
     (subst (λ (k : Driver). ExactlyTold (W.exchanged n payload replies (W.begun d staged)) (told_number (told_in k))) (sym r.block)
     (told-answer (stage_in z.driver) z.driver.verdict (any_state-ends d payload staged replies) (λ k. ExactlyTold (W.exchanged n payload replies (W.begun d staged)) (told_number k))
     (λ x e. exactly_number (W.exchanged n payload replies (W.begun d staged)) x
-    (subst (λ (m : ℕ). told_in (W.chain m payload replies (W.begun d staged)).driver ≡ Answered x → MiscompareExactly (W.exchanged m payload replies (W.begun d staged)) x) (bounds a.kind g a.slot a.limit)
+    (subst (λ (m : ℕ). told_in (W.chain m payload replies (W.begun d staged)).driver ≡ Some x → MiscompareExactly (W.exchanged m payload replies (W.begun d staged)) x) (bounds a.kind g a.slot a.limit)
     (miscompares_called g array a t lent payload staged replies p x) e))))
 
 -- EVERY BLOCK ENDS: any 72 bytes are a state that comes to an end within the bound of its call, whatever comes back

@@ -1,5 +1,6 @@
 -- A call's lines are six bytes a frame, and the log has room for them: 6 is met where it has not.
 -- Assumes nothing.
+use Rattle.std.specs.Prelude.{None, Option, Some}
 use Prim.Native.Nat.{ℕ, zero, suc, ◌+◌, ◌*◌, ◌≤◌}
 use native.Mathlib.Omega.{arith}
 use mathlib.Core.Path.{◌≡◌, refl, sym, ap, subst, ◌∙◌}
@@ -9,8 +10,6 @@ use lib.ListN.{length, length-append}
 use lib.Dec.{eqb}
 use borrow.Author.Tests.{eqb-true}
 use Rattle.geometry.specs.declared.Geometry.{Geometry}
-use Rattle.geometry.specs.declared.Part.{Part}
-use Rattle.geometry.specs.declared.Part.TheVariants.{Known, Unknown}
 use Rattle.state.specs.declared.Answer.{Answer}
 use Rattle.state.specs.Answers.{number_of}
 use Rattle.state.specs.Memory.{State}
@@ -60,7 +59,7 @@ pub record Fits (log : ℕ) (o : Out) : Type 0 where
 none-fits : (log : ℕ) (o : Out) → o.lines ≡ [] → o.frames ≡ 0 → Fits log o
 none-fits log o e f = record { six = ap length e ∙ omega (arith, f); room = omega (arith, f) }
 
-call_fits : (g : Geometry) (a : Asked) (detail : Detail) (script payload junk log lent : List ℕ) (s : State) → part_in s ≡ Known g
+call_fits : (g : Geometry) (a : Asked) (detail : Detail) (script payload junk log lent : List ℕ) (s : State) → part_in s ≡ Some g
     → Fits (length log) (call_out g (asks g a detail script payload junk log lent) (secret payload detail junk lent) s)
 unfolding call_out out_from out_of call_by bound_of
 call_fits g a detail script payload junk log lent s p = go (eqb (number_of (refusal_of g n v)) 0) refl
@@ -76,7 +75,7 @@ call_fits g a detail script payload junk log lent s p = go (eqb (number_of (refu
 
     few : (call_out g v x s).frames ≤ stated a.kind a.limit
     few =
-        subst (λ (q : Part). (call_by q a detail script payload junk log lent s).frames ≤ stated a.kind a.limit) p
+        subst (λ (q : Option Geometry). (call_by q a detail script payload junk log lent s).frames ≤ stated a.kind a.limit) p
         (within-bound (call a detail script payload junk log lent) s).frames
 
     go : (b : Bool) → eqb (number_of (refusal_of g n v)) 0 ≡ b → Fits (length log) (call_out g v x s)
@@ -87,7 +86,7 @@ call_fits g a detail script payload junk log lent s p = go (eqb (number_of (refu
         let w = refused-call g v x s e in
         none-fits (length log) (call_out g v x s) (ap (λ (o : Out). o.lines) w.out) (ap (λ (o : Out). o.frames) w.out)
 
-raw-fits : (g : Geometry) (f script junk log reply held xs : List ℕ) → part_in (held_in held xs) ≡ Known g
+raw-fits : (g : Geometry) (f script junk log reply held xs : List ℕ) → part_in (held_in held xs) ≡ Some g
     → Fits (length log) (raw_out g f script (length log) (length junk) reply (held_in held xs))
 unfolding raw_out raw_sent outline
 raw-fits g f script junk log reply held xs p = go (eqb (number_of refusal) 0) refl
@@ -108,14 +107,14 @@ pub lines_fit : (o : Op) (held xs : List ℕ) → Fits (length (log_of o)) (out_
 unfolding out_of call_by raw_by log_of
 lines_fit (call a detail script payload junk log lent) held xs = go (part_in (held_in held xs)) refl
   where
-    go : (p : Part) → part_in (held_in held xs) ≡ p → Fits (length log) (call_by p a detail script payload junk log lent (held_in held xs))
-    go (Known g) p = call_fits g a detail script payload junk log lent (held_in held xs) p
-    go Unknown p = none-fits (length log) _ refl refl
+    go : (p : Option Geometry) → part_in (held_in held xs) ≡ p → Fits (length log) (call_by p a detail script payload junk log lent (held_in held xs))
+    go (Some g) p = call_fits g a detail script payload junk log lent (held_in held xs) p
+    go None p = none-fits (length log) _ refl refl
 lines_fit (raw f script junk log reply) held xs = go (part_in (held_in held xs)) refl
   where
-    go : (p : Part) → part_in (held_in held xs) ≡ p → Fits (length log) (raw_by p f script junk log reply (held_in held xs))
-    go (Known g) p = raw-fits g f script junk log reply held xs p
-    go Unknown p = none-fits (length log) _ refl refl
+    go : (p : Option Geometry) → part_in (held_in held xs) ≡ p → Fits (length log) (raw_by p f script junk log reply (held_in held xs))
+    go (Some g) p = raw-fits g f script junk log reply held xs p
+    go None p = none-fits (length log) _ refl refl
 lines_fit (straight frame reply) held xs = none-fits 0 _ refl refl
 lines_fit (pin high) held xs = none-fits 0 _ refl refl
 lines_fit busy_end held xs = none-fits 0 _ refl refl

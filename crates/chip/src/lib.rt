@@ -7,7 +7,6 @@ ghost use Rattle.std.specs.Prelude.{List, [], ℕ};
 ghost use Rattle.state.specs.Memory.{state_of};
 ghost use Rattle.state.specs.Outcomes.{Leaves, fresh_outcome, send_outcome, end_outcome, pin_outcome, cut_outcome};
 
-use geometry::Part;
 use registers::{Operation, Registers};
 use state::{Answer, Chip, Outcome};
 
@@ -34,14 +33,14 @@ pub fn fresh(factory: [u8; 64], array: &mut [u8]) -> Outcome
     };
     let p = geometry::part_of(array.len());
     match p {
-        Part::Known(_) => {
+        Some(_) => {
             slices::fill(array, 255);
             Outcome {
                 answer: Answer::Done,
                 chip: chip,
             }
         }
-        Part::Unknown => Outcome {
+        None => Outcome {
             answer: Answer::Part,
             chip: chip,
         },
@@ -56,8 +55,8 @@ pub fn send(c: Chip, array: &[u8], frame: &[u8], reply: &mut [u8]) -> Outcome
     let o = r.operation;
     let p = registers::place(array.len(), o);
     match p {
-        Part::Known(g) => frames::send_to(g, c, array, frame, reply),
-        Part::Unknown => Outcome {
+        Some(g) => frames::send_to(g, c, array, frame, reply),
+        None => Outcome {
             answer: Answer::Part,
             chip: c,
         },
@@ -72,8 +71,8 @@ pub fn end_busy(c: Chip, array: &mut [u8]) -> Outcome
     let o = r.operation;
     let p = registers::place(array.len(), o);
     match p {
-        Part::Known(g) => completion::end_in(g, c, array),
-        Part::Unknown => Outcome {
+        Some(g) => completion::end_in(g, c, array),
+        None => Outcome {
             answer: Answer::Part,
             chip: c,
         },
@@ -100,8 +99,8 @@ pub fn cut(c: Chip, array: &mut [u8], junk: &[u8]) -> Outcome
     let o = r.operation;
     let p = registers::place(array.len(), o);
     match p {
-        Part::Known(g) => power_loss::cut_in(g, c, array, junk),
-        Part::Unknown => Outcome {
+        Some(g) => power_loss::cut_in(g, c, array, junk),
+        None => Outcome {
             answer: Answer::Part,
             chip: c,
         },

@@ -1,5 +1,6 @@
 -- The rows of the frames that the slot driver sends, whatever follows their lead: each is `decode_row` at the row's number.
 -- Assumes nothing.
+use Rattle.std.specs.Prelude.{Some}
 use mathlib.Core.Path.{◌≡◌, refl, sym}
 use mathlib.Core.List.{List, [], ◌∷◌}
 use Prim.Native.Nat.{ℕ, suc, ◌<◌, ◌≤◌}
@@ -8,7 +9,6 @@ use lib.ListN.{length}
 use lib.Dec.{lit<}
 use Rattle.commands.specs.declared.Buffer.TheVariants.{One}
 use Rattle.commands.specs.declared.Effect.TheVariants.{ReadPage, WriteBuffer, Program, EraseBlock, Compare, ReadProtection, ReadLockdown, ReadStatus}
-use Rattle.commands.specs.declared.Found.TheVariants.{Row}
 use Rattle.commands.specs.Table.{commands, row_at}
 use Rattle.commands.specs.Decode.{unlisted, opened, decode_of}
 use Rattle.commands.proofs.Rules.{row_found}
@@ -19,7 +19,7 @@ pub decode_row : (i : ℕ) (t : List ℕ) → i < 31 → (row_at i).1 ≤ suc (l
     → decode_of ((row_at i).0 ∷ t) ≡ record { lead = (row_at i).1; effect = (row_at i).2 }
 unfolding opened
 decode_row i t h l =
-    sym (decode_opened ((row_at i).0 ∷ t) (Row (row_at i)) (record { lead = (row_at i).1; effect = (row_at i).2 }) (λ e. omega arith)
+    sym (decode_opened ((row_at i).0 ∷ t) (Some (row_at i)) (record { lead = (row_at i).1; effect = (row_at i).2 }) (λ e. omega arith)
     (sym (row_found i h))
     (complete-full (suc (length t)) (record { lead = (row_at i).1; effect = (row_at i).2 }) l))
 

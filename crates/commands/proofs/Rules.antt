@@ -1,6 +1,7 @@
 -- The table's rule, proved once: antt computes one test over all rows, and a frame's row is one of them or none.
 -- Each opcode stands in one row: the place of row i's opcode, computed for the 31 rows, is i.
 -- Assumes nothing.
+use Rattle.std.specs.Prelude.{Option, Some}
 use mathlib.Core.Path.{◌≡◌, refl, sym, ap, subst, ◌∙◌}
 use mathlib.Core.Bool.{Bool, true, false, not, ◌&&◌, ◌||◌, cond}
 use mathlib.Core.List.{List, [], ◌∷◌, map}
@@ -16,8 +17,6 @@ use Rattle.commands.specs.declared.Buffer.{Buffer}
 use Rattle.commands.specs.declared.Command.{Command}
 use Rattle.commands.specs.declared.Decoded.{Decoded}
 use Rattle.commands.specs.declared.Effect.TheVariants.{WriteBuffer, ProgramThrough, ProgramProtection, ProgramSecurity}
-use Rattle.commands.specs.declared.Found.{Found}
-use Rattle.commands.specs.declared.Found.TheVariants.{Row}
 use Rattle.commands.specs.Table.{Sequence, commands, sequences, row_at}
 use Rattle.commands.specs.Decode.{unlisted, place_in, place_of, lookup_in, lookup_of, begins, sequence_in, opened, complete, decode_of}
 use Rattle.commands.specs.Room.{room, takes, Ruled, of_command, of_sequence, Each}
@@ -77,7 +76,7 @@ either : (Q : Decoded → Type 0) (b : Bool) (x y : Decoded) → Q x → Q y →
 either Q true x y p q = p
 either Q false x y p q = q
 
-row_or : (Q : Decoded → Type 0) (b : Bool) (c : Command) (o : Found) (f : List ℕ) → Q (of_command c) → Q (opened o f) → Q (opened (cond b (Row c) o) f)
+row_or : (Q : Decoded → Type 0) (b : Bool) (c : Command) (o : Option Command) (f : List ℕ) → Q (of_command c) → Q (opened o f) → Q (opened (cond b (Some c) o) f)
 unfolding opened
 row_or Q true c o f p q = p
 row_or Q false c o f p q = q
@@ -166,7 +165,7 @@ pub opcodes_distinct : (i j : ℕ) → i < 31 → j < 31 → (row_at i).0 ≡ (r
 opcodes_distinct i j h k e = sym (row-place i h) ∙ ap place_of e ∙ row-place j k
 
 -- so each row is found by its opcode
-pub row_found : (i : ℕ) → i < 31 → lookup_of (row_at i).0 ≡ Row (row_at i)
+pub row_found : (i : ℕ) → i < 31 → lookup_of (row_at i).0 ≡ Some (row_at i)
 row_found i h = sym (found_row (row_at i).0 i (row_at i) (sym (row-place i h)) h refl)
 
 -- no four-byte opening begins with an opcode, and each is found as its own row

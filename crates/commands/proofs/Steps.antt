@@ -1,6 +1,8 @@
 -- What a function of the crate learns at one test, as the definition of the whole frame's row has it: each test in the code is the test of
 -- one `cond`.
 -- Assumes nothing.
+use Rattle.commands.specs.declared.Command.{Command}
+use Rattle.std.specs.Prelude.{Option}
 use mathlib.Core.Path.{◌≡◌, refl, sym, ap, ◌∙◌}
 use mathlib.Core.Bool.{Bool, true, false, not, cond}
 use mathlib.Core.List.{List, []}
@@ -13,7 +15,6 @@ use Rattle.slices.specs.Lists.{same}
 use Rattle.slices.proofs.Laws.{same-lengths}
 use Rattle.commands.specs.declared.Decoded.{Decoded}
 use Rattle.commands.specs.declared.Effect.TheVariants.{Unlisted}
-use Rattle.commands.specs.declared.Found.{Found}
 use Rattle.commands.specs.Table.{sequences, sequence_at}
 use Rattle.commands.specs.Decode.{unlisted, begins, sequence_in, opened, lookup_of, complete, decode_of}
 
@@ -55,10 +56,10 @@ pub decode_empty : (f : List ℕ) → length f ≡ 0 → unlisted ≡ decode_of 
 unfolding decode_of
 decode_empty f h = sym (ap (λ (b : Bool). cond b unlisted (complete (length f) (opened (lookup_of (get_or f 0 0)) f))) (eq-eqb (length f) 0 h))
 
-pub decode_opened : (f : List ℕ) (o : Found) (r : Decoded) → (length f ≡ 0 → ⊥) → o ≡ lookup_of (get_or f 0 0) → r ≡ complete (length f) (opened o f)
+pub decode_opened : (f : List ℕ) (o : Option Command) (r : Decoded) → (length f ≡ 0 → ⊥) → o ≡ lookup_of (get_or f 0 0) → r ≡ complete (length f) (opened o f)
     → r ≡ decode_of f
 unfolding decode_of
 decode_opened f o r h e k =
     k
-    ∙ ap (λ (g : Found). complete (length f) (opened g f)) e
+    ∙ ap (λ (g : Option Command). complete (length f) (opened g f)) e
     ∙ sym (ap (λ (b : Bool). cond b unlisted (complete (length f) (opened (lookup_of (get_or f 0 0)) f))) (ne_eqb (length f) 0 h))

@@ -1,12 +1,10 @@
 -- Which row of the command table a frame is.
 -- Assumes nothing.
-use Rattle.std.specs.Prelude.{ℕ, suc, Bool, cond, List, [], ◌∷◌, length, get_or, take, eqb, leb}
+use Rattle.std.specs.Prelude.{ℕ, suc, Bool, cond, List, [], ◌∷◌, length, get_or, take, eqb, leb, None, Option, Some}
 use Rattle.slices.specs.Lists.{same}
 use Rattle.commands.specs.declared.Command.{Command}
 use Rattle.commands.specs.declared.Decoded.{Decoded}
 use Rattle.commands.specs.declared.Effect.TheVariants.{Unlisted}
-use Rattle.commands.specs.declared.Found.{Found}
-use Rattle.commands.specs.declared.Found.TheVariants.{Row, Missing}
 use Rattle.commands.specs.Table.{Sequence, commands, sequences}
 
 -- (3.4) no row
@@ -14,12 +12,12 @@ abbrev pub unlisted : Decoded
 unlisted = record { lead = 0; effect = Unlisted }
 
 -- (3.2) the row with this opcode, if any
-unfoldable pub lookup_in : List Command → ℕ → Found
-lookup_in [] opcode = Missing
-lookup_in (c ∷ cs) opcode = cond (eqb c.0 opcode) (Row c) (lookup_in cs opcode)
+unfoldable pub lookup_in : List Command → ℕ → Option Command
+lookup_in [] opcode = None
+lookup_in (c ∷ cs) opcode = cond (eqb c.0 opcode) (Some c) (lookup_in cs opcode)
 
 -- (3.2) in the command table
-unfoldable pub lookup_of : ℕ → Found
+unfoldable pub lookup_of : ℕ → Option Command
 lookup_of opcode = lookup_in commands opcode
 
 -- (3.3) the frame's first four bytes are these
@@ -32,9 +30,9 @@ sequence_in [] f = unlisted
 sequence_in (s ∷ ss) f = cond (begins f s.opening) (record { lead = s.lead; effect = s.effect }) (sequence_in ss f)
 
 -- (3.3) a row of one byte if there is one, else of four
-unfoldable pub opened : Found → List ℕ → Decoded
-opened (Row c) f = record { lead = c.1; effect = c.2 }
-opened Missing f = sequence_in sequences f
+unfoldable pub opened : Option Command → List ℕ → Decoded
+opened (Some c) f = record { lead = c.1; effect = c.2 }
+opened None f = sequence_in sequences f
 
 -- (3.5) a frame of n bytes has its row if the lead is no longer
 unfoldable pub complete : ℕ → Decoded → Decoded

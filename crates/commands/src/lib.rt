@@ -72,12 +72,6 @@ pub struct Decoded {
     pub effect: Effect,
 }
 
-#[derive(Clone, Copy)]
-pub enum Found {
-    Row(Command),
-    Missing,
-}
-
 // The rows that open with one byte.
 const COMMANDS: [Command; 31] = [
     Command(0xD2, 8, Effect::ReadPage),
@@ -113,43 +107,43 @@ const COMMANDS: [Command; 31] = [
     Command(0xAB, 1, Effect::Resume),
 ];
 
-// The row with this opcode.
-pub fn lookup(opcode: u8) -> Found
+// The row with this opcode, if there is one.
+pub fn lookup(opcode: u8) -> Option<Command>
     ensures { result ≡ lookup_of opcode }
 {
     let rows = COMMANDS;
     match opcode {
-        0xD2 => Found::Row(rows[0]),
-        0x03 => Found::Row(rows[1]),
-        0x0B => Found::Row(rows[2]),
-        0xD1 => Found::Row(rows[3]),
-        0xD3 => Found::Row(rows[4]),
-        0xD4 => Found::Row(rows[5]),
-        0xD6 => Found::Row(rows[6]),
-        0x84 => Found::Row(rows[7]),
-        0x87 => Found::Row(rows[8]),
-        0x83 => Found::Row(rows[9]),
-        0x86 => Found::Row(rows[10]),
-        0x88 => Found::Row(rows[11]),
-        0x89 => Found::Row(rows[12]),
-        0x82 => Found::Row(rows[13]),
-        0x85 => Found::Row(rows[14]),
-        0x81 => Found::Row(rows[15]),
-        0x50 => Found::Row(rows[16]),
-        0x7C => Found::Row(rows[17]),
-        0x53 => Found::Row(rows[18]),
-        0x55 => Found::Row(rows[19]),
-        0x60 => Found::Row(rows[20]),
-        0x61 => Found::Row(rows[21]),
-        0x58 => Found::Row(rows[22]),
-        0x59 => Found::Row(rows[23]),
-        0x32 => Found::Row(rows[24]),
-        0x35 => Found::Row(rows[25]),
-        0x77 => Found::Row(rows[26]),
-        0xD7 => Found::Row(rows[27]),
-        0x9F => Found::Row(rows[28]),
-        0xB9 => Found::Row(rows[29]),
-        0xAB => Found::Row(rows[30]),
-        _ => Found::Missing,
+        0xD2 => Some(rows[0]),
+        0x03 => Some(rows[1]),
+        0x0B => Some(rows[2]),
+        0xD1 => Some(rows[3]),
+        0xD3 => Some(rows[4]),
+        0xD4 => Some(rows[5]),
+        0xD6 => Some(rows[6]),
+        0x84 => Some(rows[7]),
+        0x87 => Some(rows[8]),
+        0x83 => Some(rows[9]),
+        0x86 => Some(rows[10]),
+        0x88 => Some(rows[11]),
+        0x89 => Some(rows[12]),
+        0x82 => Some(rows[13]),
+        0x85 => Some(rows[14]),
+        0x81 => Some(rows[15]),
+        0x50 => Some(rows[16]),
+        0x7C => Some(rows[17]),
+        0x53 => Some(rows[18]),
+        0x55 => Some(rows[19]),
+        0x60 => Some(rows[20]),
+        0x61 => Some(rows[21]),
+        0x58 => Some(rows[22]),
+        0x59 => Some(rows[23]),
+        0x32 => Some(rows[24]),
+        0x35 => Some(rows[25]),
+        0x77 => Some(rows[26]),
+        0xD7 => Some(rows[27]),
+        0x9F => Some(rows[28]),
+        0xB9 => Some(rows[29]),
+        0xAB => Some(rows[30]),
+        _ => None,
     }
 }

@@ -1,7 +1,7 @@
 // A busy end on a chip whose part is known. The buffers are lent as one slice.
 #![tactic(auto)]
 
-ghost use Rattle.std.specs.Prelude.{◌≡◌, true, [], ◌*◌, ◌<◌, length};
+ghost use Rattle.std.specs.Prelude.{◌≡◌, true, [], ◌*◌, ◌<◌, length, Some};
 ghost use Rattle.geometry.specs.Parts.{Sized, page_room};
 ghost use Rattle.registers.specs.Operations.{within};
 ghost use Rattle.memory.specs.Pages.{erased};
@@ -11,7 +11,7 @@ ghost use Rattle.state.specs.Memory.{state_of};
 ghost use Rattle.state.specs.Outcomes.{Leaves, ended_by};
 ghost use Rattle.completion.specs.Work.{array_by, buffer_by, bit_by};
 
-use geometry::{Geometry, Part};
+use geometry::Geometry;
 use registers::{Operation, Work};
 use state::{Answer, Chip, Outcome};
 
@@ -81,7 +81,7 @@ pub fn complete_memory(
 // The busy end of a chip by value.
 pub fn end_in(g: Geometry, c: Chip, array: &mut [u8]) -> Outcome
     requires { (Sized g (length array.old)) × (within g c.registers.operation ≡ true) }
-    ensures { Leaves (ended_by (Part.Known g) (state_of c array.old)) result array.new [] }
+    ensures { Leaves (ended_by (Some g) (state_of c array.old)) result array.new [] }
 {
     let r = c.registers;
     let o = r.operation;

@@ -1,6 +1,8 @@
 -- What a reply does to the course, as the code has it: `last` says that the next step is the end, and a register's bits are read from the
 -- reply without its bytes being copied.
 -- Assumes nothing.
+use Rattle.state.specs.declared.Answer.{Answer}
+use Rattle.std.specs.Prelude.{None, Option, Some}
 use Prim.Native.Nat.{ℕ, ◌+◌, ◌-◌, ◌/◌, ◌%◌, ◌<◌, ◌≤◌}
 use native.Mathlib.Numerals.{add-one}
 use native.Mathlib.Omega.{arith}
@@ -17,17 +19,15 @@ use Rattle.registers.specs.Protection.{register_of, Roomed, has_bits}
 use Rattle.registers.proofs.Protection.{byte_of, bits_high}
 use Rattle.state.specs.declared.Answer.TheVariants.{Done}
 use Rattle.slots.specs.declared.Course.{Course}
-use Rattle.slots.specs.declared.Stage.{Stage}
-use Rattle.slots.specs.declared.Stage.TheVariants.{Going, Ended}
 use Rattle.slots.specs.declared.Step.{Step}
 use Rattle.slots.specs.Plans.{is_end}
 use Rattle.slots.specs.Driver.{register_in, heard, moved, marking, noted, course_by, compare_in}
 
 -- on to the next step
-pub goes_on : (c : Course) (limit : ℕ) (s : Stage) (last listed guarded : Bool) → s ≡ cond last (Ended Done) Going → (next : Step) → is_end next ≡ last
+pub goes_on : (c : Course) (limit : ℕ) (s : Option Answer) (last listed guarded : Bool) → s ≡ cond last (Some Done) None → (next : Step) → is_end next ≡ last
     → record { place = c.place + 1; left = limit; stage = s; listed = listed; guarded = guarded } ≡ moved next limit (marking guarded (noted listed c))
 goes_on c limit s last listed guarded h next e =
-    λ i. record { place = add-one c.place i; left = limit; stage = (h ∙ ap (λ (b : Bool). cond b (Ended Done) Going) (sym e)) i; listed = listed; guarded = guarded }
+    λ i. record { place = add-one c.place i; left = limit; stage = (h ∙ ap (λ (b : Bool). cond b (Some Done) None) (sym e)) i; listed = listed; guarded = guarded }
 
 -- the bits of a sector after 0b
 pub set-high : (g : Geometry) (reply : List ℕ) (s : ℕ) → Roomed g → 2 ≤ s → s < register_room + 1 → not (eqb (get_or reply (3 + s) 255) 0) ≡ has_bits g (register_in g reply) s

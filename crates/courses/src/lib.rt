@@ -2,7 +2,7 @@
 // Internal to this repository: a caller here meets each `requires`; no entry point is in this crate.
 #![tactic(auto)]
 
-ghost use Rattle.std.specs.Prelude.{◌≡◌, Bool, cond, ◌&&◌, ◌||◌, ◌<◌, ◌+◌};
+ghost use Rattle.std.specs.Prelude.{◌≡◌, Bool, cond, ◌&&◌, ◌||◌, ◌<◌, ◌+◌, None, Some};
 ghost use Rattle.geometry.specs.declared.Geometry.{Geometry};
 ghost use Rattle.geometry.specs.Parts.{register_room};
 ghost use Rattle.registers.specs.Protection.{has_bits, Roomed};
@@ -12,15 +12,15 @@ ghost use Rattle.slots.specs.declared.Step.{Step};
 ghost use Rattle.slots.specs.Plans.{is_end};
 ghost use Rattle.slots.specs.Driver.{register_in, heard, status_heard, register_heard, ended, moved, noted, marking, course_by, is_ended, compare_in};
 
-use slots::{Course, Stage, Step};
+use slots::{Course, Step};
 use state::Answer;
 
-pub fn has_ended(s: Stage) -> bool
+pub fn has_ended(s: Option<Answer>) -> bool
     ensures { result ≡ is_ended s }
 {
     match s {
-        Stage::Going => false,
-        Stage::Ended { answer: _ } => true,
+        None => false,
+        Some(_) => true,
     }
 }
 
@@ -31,21 +31,19 @@ pub fn end_with(c: Course, a: Answer) -> Course
     Course {
         place: c.place,
         left: c.left,
-        stage: Stage::Ended { answer: a },
+        stage: Some(a),
         listed: c.listed,
         guarded: c.guarded,
     }
 }
 
-fn next_stage(last: bool) -> Stage
-    ensures { result ≡ cond last (Stage.Ended Answer.Done) Stage.Going }
+fn next_stage(last: bool) -> Option<Answer>
+    ensures { result ≡ cond last (Some Answer.Done) None }
 {
     if last {
-        return Stage::Ended {
-            answer: Answer::Done,
-        };
+        return Some(Answer::Done);
     }
-    Stage::Going
+    None
 }
 
 // On to the next step, with what is noted of the sector.

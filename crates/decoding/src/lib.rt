@@ -6,7 +6,7 @@ ghost use Rattle.std.specs.Prelude.{◌≡◌};
 ghost use Rattle.commands.specs.Table.{sequences};
 ghost use Rattle.commands.specs.Decode.{begins, sequence_in, complete, decode_of};
 
-use commands::{Decoded, Effect, Found};
+use commands::{Decoded, Effect};
 
 // What opens the rows of four bytes.
 const ERASE_CHIP: [u8; 4] = [0xC7, 0x94, 0x80, 0x9A];
@@ -112,7 +112,7 @@ pub fn decode(frame: &[u8]) -> Decoded
     }
     let f = commands::lookup(frame[0]);
     match f {
-        Found::Row(c) => {
+        Some(c) => {
             let lead = c.1 as usize;
             let effect = c.2;
             completed(
@@ -123,6 +123,6 @@ pub fn decode(frame: &[u8]) -> Decoded
                 },
             )
         }
-        Found::Missing => completed(frame.len(), sequence(frame)),
+        None => completed(frame.len(), sequence(frame)),
     }
 }

@@ -4,14 +4,14 @@
 // None has a `requires`: any state, any reply and any lengths are taken. A state that no call comes to counts as ended.
 #![tactic(auto)]
 
-ghost use Rattle.std.specs.Prelude.{◌≡◌, length, take};
+ghost use Rattle.std.specs.Prelude.{◌≡◌, length, take, Some};
 ghost use Rattle.slots.specs.Driver.{frame_room};
 ghost use Rattle.slices.specs.Lists.{over};
 ghost use Rattle.geometry.specs.declared.Geometry.{Geometry};
 ghost use Rattle.geometry.specs.Parts.{part_of, slot_room};
 ghost use Rattle.worlds.specs.Step.{frame_by, frame_in, poll_by, poll_in, took_by, took_in, staged_by, staged_in, next_in};
 
-use geometry::{Geometry, Part};
+use geometry::Geometry;
 pub use openings::{start_get, start_patch, start_put, start_wipe};
 pub use results::{answer, count, halt, is_ended};
 use slots::Driver;
@@ -27,8 +27,8 @@ pub struct Next {
 
 // The frame of a state on a known part, at the beginning of a buffer.
 fn write_on(g: Geometry, d: Driver, payload: &[u8], staged: &[u8], frame: &mut [u8]) -> usize
-    requires { (part_of d.array ≡ Part.Known g) × (length staged.now ≡ slot_room) × (length frame.old ≡ frame_room) }
-    ensures { (result ≡ length (frame_by (Part.Known g) d payload.now staged.now)) × (frame.new ≡ over (frame_by (Part.Known g) d payload.now staged.now) frame.old) }
+    requires { (part_of d.array ≡ Some g) × (length staged.now ≡ slot_room) × (length frame.old ≡ frame_room) }
+    ensures { (result ≡ length (frame_by (Some g) d payload.now staged.now)) × (frame.new ≡ over (frame_by (Some g) d payload.now staged.now) frame.old) }
 {
     if states::is_over_on(g, d) {
         return 0;
@@ -45,15 +45,15 @@ pub fn write_frame(d: Driver, payload: &[u8], staged: &[u8; 2112], frame: &mut [
 {
     let p = geometry::part_of(d.array);
     match p {
-        Part::Known(g) => write_on(g, d, payload, staged, frame),
-        Part::Unknown => 0,
+        Some(g) => write_on(g, d, payload, staged, frame),
+        None => 0,
     }
 }
 
 // Whether the next frame is a poll, on a known part.
 fn poll_on(g: Geometry, d: Driver) -> bool
-    requires { part_of d.array ≡ Part.Known g }
-    ensures { result ≡ poll_by (Part.Known g) d }
+    requires { part_of d.array ≡ Some g }
+    ensures { result ≡ poll_by (Some g) d }
 {
     let over = states::is_over_on(g, d);
     if over {
@@ -70,18 +70,18 @@ pub fn is_poll(d: Driver) -> bool
 {
     let p = geometry::part_of(d.array);
     match p {
-        Part::Known(g) => poll_on(g, d),
-        Part::Unknown => false,
+        Some(g) => poll_on(g, d),
+        None => false,
     }
 }
 
 // ---- replies
 
 fn take_on(g: Geometry, d: Driver, payload: &[u8], reply: &[u8], staged: &mut [u8]) -> Driver
-    requires { (part_of d.array ≡ Part.Known g) × (length staged.old ≡ slot_room) }
-    ensures { (result ≡ took_by (Part.Known g) d payload.now staged.old reply.now) × (staged.new ≡ staged_by (Part.Known g) d payload.now staged.old reply.now) }
+    requires { (part_of d.array ≡ Some g) × (length staged.old ≡ slot_room) }
+    ensures { (result ≡ took_by (Some g) d payload.now staged.old reply.now) × (staged.new ≡ staged_by (Some g) d payload.now staged.old reply.now) }
 {
-    let s = states::stage(Part::Known(g), d);
+    let s = states::stage(Some(g), d);
     if courses::has_ended(s) {
         return results::with_stage(d, s);
     }
@@ -103,9 +103,9 @@ pub fn take_in(d: Driver, payload: &[u8], reply: &[u8], staged: &mut [u8; 2112])
 {
     let p = geometry::part_of(d.array);
     match p {
-        Part::Known(g) => take_on(g, d, payload, reply, staged),
-        Part::Unknown => {
-            let s = states::stage(Part::Unknown, d);
+        Some(g) => take_on(g, d, payload, reply, staged),
+        None => {
+            let s = states::stage(None, d);
             results::with_stage(d, s)
         }
     }

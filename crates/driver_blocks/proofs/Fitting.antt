@@ -1,6 +1,7 @@
 -- Every state of a call fits its block, so the block carries the driver from call to call and loses nothing: a start fits where its numbers do, a block
 -- of bytes reads as a state that fits, and a reply keeps it so. The plan has fewer than 256 steps, and the polls left become fewer, or the limit.
 -- Assumes nothing.
+use Rattle.std.specs.Prelude.{None, Option, Some}
 use mathlib.Core.Path.{◌≡◌, refl, sym, subst}
 use mathlib.Core.Bool.{Bool, true, false}
 use mathlib.Core.List.{List, [], ◌∷◌}
@@ -13,8 +14,6 @@ use Rattle.slices.proofs.Words.{word_at-small}
 use Rattle.dates.specs.declared.Term.{Term}
 use Rattle.dates.specs.declared.Term.TheVariants.{Unlimited, Between}
 use Rattle.geometry.specs.declared.Geometry.{Geometry}
-use Rattle.geometry.specs.declared.Part.{Part}
-use Rattle.geometry.specs.declared.Part.TheVariants.{Known, Unknown}
 use Rattle.geometry.specs.Parts.{part_of}
 use Rattle.slots.specs.declared.Course.{Course}
 use Rattle.slots.specs.declared.Detail.{Detail}
@@ -120,7 +119,7 @@ pub fits_took : (d : Driver) (payload staged reply : List ℕ) → Fits d → Fi
 unfolding took_in took_by
 fits_took d payload staged reply h = go (part_of d.array) refl
   where
-    on : (g : Geometry) → part_of d.array ≡ Known g → (b : Bool) → is_ended (stage_by (Known g) d) ≡ b → Fits (took_in d payload staged reply)
+    on : (g : Geometry) → part_of d.array ≡ Some g → (b : Bool) → is_ended (stage_by (Some g) d) ≡ b → Fits (took_in d payload staged reply)
     on g p true e =
         subst Fits (sym (took_ended g d payload staged reply p e))
         (with-fits d _ _ h (h.step, h.left))
@@ -129,10 +128,10 @@ fits_took d payload staged reply h = go (part_of d.array) refl
         subst Fits (sym (took_going g d payload staged reply p e))
         (with-fits d _ _ h c)
 
-    go : (p : Part) → part_of d.array ≡ p → Fits (took_in d payload staged reply)
-    go (Known g) p = on g p (is_ended (stage_by (Known g) d)) refl
-    go Unknown p =
-        subst (λ (q : Part). Fits (took_by q d payload staged reply)) (sym p)
+    go : (p : Option Geometry) → part_of d.array ≡ p → Fits (took_in d payload staged reply)
+    go (Some g) p = on g p (is_ended (stage_by (Some g) d)) refl
+    go None p =
+        subst (λ (q : Option Geometry). Fits (took_by q d payload staged reply)) (sym p)
         (with-fits d _ _ h (h.step, h.left))
 
 -- ---- from block to block: the state after a reply, stored, reads as that state

@@ -1,6 +1,7 @@
 -- What is stored is read back: each byte and each word of the block lies where its offset says, a place below 256 is its byte, and a
 -- number below 2 ^ 64 is the number that its eight bytes make.
 -- Assumes nothing.
+use Rattle.std.specs.Prelude.{None, Option, Some}
 use Prim.Native.Nat.{ℕ}
 use mathlib.Core.Path.{◌≡◌, refl, ap, ◌∙◌}
 use mathlib.Core.Bool.{Bool, true, false, ◌&&◌}
@@ -16,8 +17,6 @@ use Rattle.slots.specs.declared.Kind.{Kind}
 use Rattle.slots.specs.declared.Kind.TheVariants.{Put, Patch, Get, Wipe}
 use Rattle.slots.specs.declared.Period.{Period}
 use Rattle.slots.specs.declared.Period.TheVariants.{Always, Days}
-use Rattle.slots.specs.declared.Stage.{Stage}
-use Rattle.slots.specs.declared.Stage.TheVariants.{Going, Ended}
 use Rattle.slots.specs.declared.Verdict.{Verdict}
 use Rattle.slots.specs.declared.Verdict.TheVariants.{Good, Blank, Beyond, Outside, Miscompared}
 use Rattle.slots.specs.declared.Driver.{Driver}
@@ -61,10 +60,10 @@ answer_back Answers.Term = refl
 answer_back Answers.Miscompare = refl
 
 -- what is written is ours
-stage_ours : (st : Stage) → (leb (stage_number st) 1 && leb (end_number st) 16) ≡ true
+stage_ours : (st : Option Answer) → (leb (stage_number st) 1 && leb (end_number st) 16) ≡ true
 unfolding stage_number end_number
-stage_ours Going = refl
-stage_ours (Ended a) = le-leb (number_of a) 16 (in_table a)
+stage_ours None = refl
+stage_ours (Some a) = le-leb (number_of a) 16 (in_table a)
 
 kind_ours : (k : Kind) → is_kind (kind_number k) ≡ true
 unfolding is_kind kind_number
@@ -81,10 +80,10 @@ verdict_ours Beyond = refl
 verdict_ours Outside = refl
 verdict_ours Miscompared = refl
 
-stage_back : (st : Stage) → stage_of true (stage_number st) (end_number st) ≡ st
+stage_back : (st : Option Answer) → stage_of true (stage_number st) (end_number st) ≡ st
 unfolding stage_of stage_number end_number
-stage_back Going = refl
-stage_back (Ended a) = ap Ended (answer_back a)
+stage_back None = refl
+stage_back (Some a) = ap Some (answer_back a)
 
 flag_back : (b : Bool) → flag (flag_byte b) ≡ b
 flag_back true = refl

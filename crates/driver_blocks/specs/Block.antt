@@ -2,7 +2,7 @@
 -- Offsets: call 0, verdict 1, stage 2, answer 3, place in the plan 4, listed 5, guarded 6, dated 7, then numbers of eight bytes, high byte first:
 -- array's length 8, slot 16, poll limit 24, patch's place 32, polls left 40, first day 48, last day 56, today 64.
 -- Assumes nothing.
-use Rattle.std.specs.Prelude.{ℕ, ◌%◌, ◌^◌, ◌<◌, Bool, cond, not, ◌&&◌, ◌||◌, List, [], ◌∷◌, ◌++◌, get_or, eqb, leb}
+use Rattle.std.specs.Prelude.{ℕ, ◌%◌, ◌^◌, ◌<◌, Bool, cond, not, ◌&&◌, ◌||◌, List, [], ◌∷◌, ◌++◌, get_or, eqb, leb, None, Option, Some}
 use Rattle.slices.specs.Words.{word_at, word_bytes}
 use Rattle.state.specs.declared.Answer.{Answer}
 use Rattle.state.specs.declared.Answer.TheVariants as Answers
@@ -14,10 +14,6 @@ use Rattle.slots.specs.declared.Kind.{Kind}
 use Rattle.slots.specs.declared.Kind.TheVariants.{Put, Patch, Get, Wipe}
 use Rattle.slots.specs.declared.Period.{Period}
 use Rattle.slots.specs.declared.Period.TheVariants.{Always, Days}
-use Rattle.slots.specs.declared.Stage.{Stage}
-use Rattle.slots.specs.declared.Stage.TheVariants.{Going, Ended}
-use Rattle.slots.specs.declared.Told.{Told}
-use Rattle.slots.specs.declared.Told.TheVariants.{Running, Answered}
 use Rattle.slots.specs.declared.Verdict.{Verdict}
 use Rattle.slots.specs.declared.Verdict.TheVariants.{Good, Blank, Beyond, Outside, Miscompared}
 
@@ -39,14 +35,14 @@ verdict_number Outside = 3
 verdict_number Miscompared = 4
 
 -- (13.14) going, or ended
-unfoldable pub stage_number : Stage → ℕ
-stage_number Going = 0
-stage_number (Ended a) = 1
+unfoldable pub stage_number : Option Answer → ℕ
+stage_number None = 0
+stage_number (Some a) = 1
 
 -- (13.14) the answer's number at the end, 0 before it
-unfoldable pub end_number : Stage → ℕ
-end_number Going = 0
-end_number (Ended a) = number_of a
+unfoldable pub end_number : Option Answer → ℕ
+end_number None = 0
+end_number (Some a) = number_of a
 
 -- (13.15) 0 or 1
 abbrev pub flag_byte : Bool → ℕ
@@ -68,9 +64,9 @@ last_of Always = 0
 last_of (Days first last) = last
 
 -- (13.17) what is told of a driver: the answer's number; 255 while it is running
-unfoldable pub told_number : Told → ℕ
-told_number Running = 255
-told_number (Answered a) = number_of a
+unfoldable pub told_number : Option Answer → ℕ
+told_number None = 255
+told_number (Some a) = number_of a
 
 -- ---- what a byte reads as
 
@@ -122,8 +118,8 @@ unfoldable pub is_ours : List ℕ → Bool
 is_ours block = (is_kind (get_or block 0 0) && leb (get_or block 1 0) 4) && (leb (get_or block 2 0) 1 && leb (get_or block 3 0) 16)
 
 -- (13.16) going, or ended with an answer; a block that is not ours has ended with 1
-unfoldable pub stage_of : Bool → ℕ → ℕ → Stage
-stage_of ours n a = cond ours (cond (eqb n 0) Going (Ended (answer_at a))) (Ended Answers.Part)
+unfoldable pub stage_of : Bool → ℕ → ℕ → Option Answer
+stage_of ours n a = cond ours (cond (eqb n 0) None (Some (answer_at a))) (Some Answers.Part)
 
 -- (13.12) the course that a block holds
 unfoldable pub decode_course : List ℕ → Course

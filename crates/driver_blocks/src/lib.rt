@@ -6,7 +6,7 @@ ghost use Rattle.std.specs.Prelude.{◌≡◌, ◌+◌, ◌≤◌, length};
 ghost use Rattle.slices.specs.Words.{word_at};
 ghost use Rattle.driver_blocks.specs.Block.{kind_of, verdict_of, answer_at, is_kind, is_ours, stage_of, flag, period_at, decode_course, decode_aim, decode_driver};
 
-use slots::{Aim, Course, Driver, Kind, Period, Stage, Verdict};
+use slots::{Aim, Course, Driver, Kind, Period, Verdict};
 use state::Answer;
 
 fn kind(n: u8) -> Kind
@@ -85,20 +85,16 @@ fn is_ours(block: &[u8; 72]) -> bool
     block[3] <= 16
 }
 
-fn stage(ours: bool, n: u8, a: u8) -> Stage
+fn stage(ours: bool, n: u8, a: u8) -> Option<Answer>
     ensures { result ≡ stage_of ours n a }
 {
     if !ours {
-        return Stage::Ended {
-            answer: Answer::Part,
-        };
+        return Some(Answer::Part);
     }
     if n == 0 {
-        return Stage::Going;
+        return None;
     }
-    Stage::Ended {
-        answer: answer_at(a),
-    }
+    Some(answer_at(a))
 }
 
 fn is_set(x: u8) -> bool

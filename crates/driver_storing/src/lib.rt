@@ -7,7 +7,8 @@ ghost use Rattle.slices.specs.Lists.{over, splice};
 ghost use Rattle.slices.specs.Words.{word_bytes};
 ghost use Rattle.driver_blocks.specs.Block.{kind_number, verdict_number, stage_number, end_number, flag_byte, dated_number, first_of, last_of, head_bytes, encode_driver, told_number};
 
-use slots::{Course, Driver, Kind, Period, Stage, Told, Verdict};
+use slots::{Course, Driver, Kind, Period, Verdict};
+use state::Answer;
 
 fn kind_number(k: Kind) -> u8
     ensures { result ≡ kind_number k }
@@ -32,22 +33,22 @@ fn verdict_number(v: Verdict) -> u8
     }
 }
 
-fn stage_number(s: Stage) -> u8
+fn stage_number(s: Option<Answer>) -> u8
     ensures { result ≡ stage_number s }
 {
     match s {
-        Stage::Going => 0,
-        Stage::Ended { answer: _ } => 1,
+        None => 0,
+        Some(_) => 1,
     }
 }
 
 // The answer's number at the end, 0 before it.
-fn end_number(s: Stage) -> u8
+fn end_number(s: Option<Answer>) -> u8
     ensures { result ≡ end_number s }
 {
     match s {
-        Stage::Going => 0,
-        Stage::Ended { answer: a } => state::number(a),
+        None => 0,
+        Some(a) => state::number(a),
     }
 }
 
@@ -141,11 +142,11 @@ pub fn encode(block: &mut [u8; 72], d: Driver)
 }
 
 // What a caller of the C interface is told: the answer's number, or 255 while the call is running.
-pub fn told_number(t: Told) -> u8
+pub fn told_number(t: Option<Answer>) -> u8
     ensures { result ≡ told_number t }
 {
     match t {
-        Told::Running => 255,
-        Told::Answered { answer: a } => state::number(a),
+        None => 255,
+        Some(a) => state::number(a),
     }
 }

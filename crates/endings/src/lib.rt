@@ -2,7 +2,7 @@
 // Internal to this repository: a caller here meets each `requires`; no entry point is in this crate.
 #![tactic(auto)]
 
-ghost use Rattle.std.specs.Prelude.{◌≡◌, true, ◌+◌, length, take, drop};
+ghost use Rattle.std.specs.Prelude.{◌≡◌, true, ◌+◌, length, take, drop, Some};
 ghost use Rattle.slices.specs.Lists.{over};
 ghost use Rattle.state.specs.Outcomes.{part_in, cut_fits};
 ghost use Rattle.slots.specs.Calls.{count_of, delivered, answer_in};
@@ -10,9 +10,9 @@ ghost use Rattle.blocks.specs.Promises.{held_in};
 ghost use Rattle.runs.specs.Exchange.{Canonical};
 ghost use Rattle.runs.specs.Runs.{last_of, answer_of};
 
-use geometry::{Geometry, Part};
+use geometry::Geometry;
 use runs::{Done, Session};
-use slots::{Kind, Told};
+use slots::Kind;
 use state::Answer;
 
 // A call refused: nothing changes.
@@ -28,12 +28,12 @@ pub fn refuse(a: Answer) -> Done
 }
 
 // The answer that a driver tells; a call that was driven to its end has one.
-fn answer_in(t: Told) -> Answer
+fn answer_in(t: Option<Answer>) -> Answer
     ensures { result ≡ answer_in t }
 {
     match t {
-        Told::Running => Answer::Busy,
-        Told::Answered { answer: a } => a,
+        None => Answer::Busy,
+        Some(a) => a,
     }
 }
 
@@ -70,7 +70,7 @@ pub fn deliver(kind: Kind, a: Answer, staged: &[u8; 2112], buffer: &mut [u8]) ->
 
 // The cut, if the script has come to one.
 pub fn lose(g: Geometry, s: Session, block: &mut [u8; 765], array: &mut [u8], junk: &[u8])
-    requires { (part_in (held_in block.old array.old) ≡ Part.Known g) × (Canonical block.old) × (s.cut ≡ true → cut_fits g (length array.old) (length junk.now) ≡ true) }
+    requires { (part_in (held_in block.old array.old) ≡ Some g) × (Canonical block.old) × (s.cut ≡ true → cut_fits g (length array.old) (length junk.now) ≡ true) }
     ensures { (held_in block.new array.new ≡ last_of g s junk.now (held_in block.old array.old)) × (Canonical block.new) }
 {
     if !s.cut {

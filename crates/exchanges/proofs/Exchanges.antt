@@ -1,6 +1,7 @@
 -- One frame, a busy end and a cut on a chip whose part is known, in its block: they are accepted, so the block has the form of a stored chip, and the chip
 -- that it holds is the state that the run's definitions name.
 -- Assumes nothing.
+use Rattle.std.specs.Prelude.{Some}
 use mathlib.Core.Path.{◌≡◌, sym, ap, ◌∙◌}
 use mathlib.Core.Bool.{Bool, true, cond}
 use mathlib.Core.List.{List, []}
@@ -9,7 +10,6 @@ use lib.ListN.{length}
 use lib.Dec.{eqb}
 use borrow.Author.Tests.{eqb-true, eq-eqb, ne_eqb}
 use Rattle.geometry.specs.declared.Geometry.{Geometry}
-use Rattle.geometry.specs.declared.Part.TheVariants.{Known}
 use Rattle.registers.specs.declared.Operation.TheVariants.{Idle}
 use Rattle.control.specs.Completion.{completed}
 use Rattle.control.proofs.Ends.{completed_idle}
@@ -58,7 +58,7 @@ module _ (g : Geometry) (b : ℕ) (s : State) where
   zero-ends z = ap (λ (n : ℕ). state_after g n s) (sym z)
 
   -- 0
-  pub zero_ended : {held : List ℕ} {r : ℕ} {kept ys : List ℕ} → b ≡ 0 → part_in s ≡ Known g → Met held (end_outcome s) r kept ys []
+  pub zero_ended : {held : List ℕ} {r : ℕ} {kept ys : List ℕ} → b ≡ 0 → part_in s ≡ Some g → Met held (end_outcome s) r kept ys []
       → (held_in kept ys ≡ state_after g b s) × (Canonical kept)
   unfolding number_of
   zero_ended z p w =
@@ -67,7 +67,7 @@ module _ (g : Geometry) (b : ℕ) (s : State) where
 
 -- ---- the frame
 
-module _ (g : Geometry) (s : State) (f ys : List ℕ) {held : List ℕ} {r : ℕ} {kept xs rp : List ℕ} (p : part_in s ≡ Known g)
+module _ (g : Geometry) (s : State) (f ys : List ℕ) {held : List ℕ} {r : ℕ} {kept xs rp : List ℕ} (p : part_in s ≡ Some g)
     (t : framed (length f) (length ys) ≡ true) (w : Met held (send_outcome s f ys) r kept xs rp) where
   done : send_outcome s f ys ≡ left Answers.Done (sent_state g f s) (reply_of g s.registers s.memory f)
   done = sent-done s f ys g p t
@@ -84,7 +84,7 @@ module _ (g : Geometry) (s : State) (f ys : List ℕ) {held : List ℕ} {r : ℕ
 
 -- ---- the cut
 
-pub cut_left : (g : Geometry) (s : State) (junk : List ℕ) {held : List ℕ} {r : ℕ} {kept ys : List ℕ} → part_in s ≡ Known g
+pub cut_left : (g : Geometry) (s : State) (junk : List ℕ) {held : List ℕ} {r : ℕ} {kept ys : List ℕ} → part_in s ≡ Some g
     → cut_fits g (length s.memory.array) (length junk) ≡ true → Met held (cut_outcome junk s) r kept ys [] → (held_in kept ys ≡ cut_state g junk s) × (Canonical kept)
 unfolding cut_fits number_of
 cut_left g s junk p t w =

@@ -2,14 +2,14 @@
 // Internal to this repository: a caller here meets each `requires`; no entry point is in this crate.
 #![tactic(auto)]
 
-ghost use Rattle.std.specs.Prelude.{◌≡◌, true, ◌+◌, ◌≤◌, length, take};
+ghost use Rattle.std.specs.Prelude.{◌≡◌, true, ◌+◌, ◌≤◌, length, take, Some};
 ghost use Rattle.slices.specs.Lists.{splice};
 ghost use Rattle.state.specs.Outcomes.{part_in, framed, cut_fits, cut_state};
 ghost use Rattle.slots.specs.Calls.{outline, state_after};
 ghost use Rattle.blocks.specs.Promises.{held_in};
 ghost use Rattle.runs.specs.Exchange.{Canonical, Exchanged};
 
-use geometry::{Geometry, Part};
+use geometry::Geometry;
 use registers::Operation;
 
 // The six bytes of a frame in the log, from index `at` on.
@@ -28,7 +28,7 @@ fn put_outline(log: &mut [u8], at: usize, frame: &[u8])
 
 // The script's byte acts: 0 ends a busy period, if there is one. A cut, 2, is left to the call's end.
 fn settle(g: Geometry, block: &mut [u8; 765], array: &mut [u8], b: u8)
-    requires { (part_in (held_in block.old array.old) ≡ Part.Known g) × (Canonical block.old) }
+    requires { (part_in (held_in block.old array.old) ≡ Some g) × (Canonical block.old) }
     ensures { (held_in block.new array.new ≡ state_after g b (held_in block.old array.old)) × (Canonical block.new) }
 {
     if b != 0 {
@@ -52,7 +52,7 @@ pub fn exchange(
     at: usize,
     b: u8,
 )
-    requires { (part_in (held_in block.old array.old) ≡ Part.Known g) × (framed (length frame.now) (length reply.old) ≡ true) × (at + 6 ≤ length log.old) }
+    requires { (part_in (held_in block.old array.old) ≡ Some g) × (framed (length frame.now) (length reply.old) ≡ true) × (at + 6 ≤ length log.old) }
     ensures { (Exchanged g b at frame.now (held_in block.old array.old) log.old (held_in block.new array.new) reply.new log.new) × (Canonical block.new) }
 {
     inplace::send(block, array, frame, reply);
@@ -72,7 +72,7 @@ pub fn exchange_first(
     at: usize,
     b: u8,
 )
-    requires { (part_in (held_in block.old array.old) ≡ Part.Known g) × (n ≤ length frame.now) × (n ≤ length reply.old) × (framed n n ≡ true) × (at + 6 ≤ length log.old) }
+    requires { (part_in (held_in block.old array.old) ≡ Some g) × (n ≤ length frame.now) × (n ≤ length reply.old) × (framed n n ≡ true) × (at + 6 ≤ length log.old) }
     ensures { (Exchanged g b at (take n frame.now) (held_in block.old array.old) log.old (held_in block.new array.new) (take n reply.new) log.new) × (Canonical block.new) }
 {
     exchange(g, block, array, &frame[..n], &mut reply[..n], log, at, b);
@@ -80,7 +80,7 @@ pub fn exchange_first(
 
 // The supply is cut, with junk as long as it has to be.
 pub fn cut(g: Geometry, block: &mut [u8; 765], array: &mut [u8], junk: &[u8])
-    requires { (part_in (held_in block.old array.old) ≡ Part.Known g) × (cut_fits g (length array.old) (length junk.now) ≡ true) }
+    requires { (part_in (held_in block.old array.old) ≡ Some g) × (cut_fits g (length array.old) (length junk.now) ≡ true) }
     ensures { (held_in block.new array.new ≡ cut_state g junk.now (held_in block.old array.old)) × (Canonical block.new) }
 {
     inplace::cut(block, array, junk);

@@ -1,7 +1,7 @@
 // A frame on a chip whose part is known: the reply, and what it does to the buffers. The buffers are lent as one slice.
 #![tactic(auto)]
 
-ghost use Rattle.std.specs.Prelude.{◌≡◌, cond, ◌++◌, ◌*◌, ◌≤◌, ◌<◌, length};
+ghost use Rattle.std.specs.Prelude.{◌≡◌, cond, ◌++◌, ◌*◌, ◌≤◌, ◌<◌, length, Some};
 ghost use Rattle.geometry.specs.Parts.{Sized, page_room};
 ghost use Rattle.slices.specs.Lists.{over, splice, ring_write};
 ghost use Rattle.registers.specs.Protection.{Roomed, register_of, guarded};
@@ -15,7 +15,7 @@ ghost use Rattle.state.specs.Outcomes.{Leaves, framed, sent_by};
 
 use commands::Buffer;
 use control::{Action, Marks};
-use geometry::{Geometry, Part};
+use geometry::Geometry;
 use registers::Usage;
 use state::{Answer, Chip, Outcome};
 
@@ -187,7 +187,7 @@ pub fn is_framed(frame: usize, reply: usize) -> bool
 // The frame sent to a chip by value.
 pub fn send_to(g: Geometry, c: Chip, array: &[u8], frame: &[u8], reply: &mut [u8]) -> Outcome
     requires { Sized g (length array.now) }
-    ensures { Leaves (sent_by (Part.Known g) (state_of c array.now) frame.now reply.old) result array.now reply.new }
+    ensures { Leaves (sent_by (Some g) (state_of c array.now) frame.now reply.old) result array.now reply.new }
 {
     if !is_framed(frame.len(), reply.len()) {
         return Outcome {

@@ -1,5 +1,6 @@
 -- Pages of a part: a page is `size` bytes from `page * size` on, so where pages lie is multiplication and division by `size`.
 -- Assumes nothing.
+use Rattle.std.specs.Prelude.{Option, Some}
 use Prim.Native.Nat.{ℕ, ◌+◌, ◌*◌, ◌/◌, ◌%◌, ◌≤◌, ◌<◌}
 use native.Mathlib.Nat.{zero-mul, add-mul, mul-le-mul, mul-le-mul_right, div-lt_iff_lt-mul}
 use native.Mathlib.Omega.{arith}
@@ -12,8 +13,6 @@ use mathlib.Core.List.{List, [], ◌∷◌}
 use mathlib.Core.Path.{◌≡◌, refl, subst, subst⁻¹}
 use borrow.Author.Tests.{eqb-true}
 use Rattle.geometry.specs.declared.Geometry.{Geometry}
-use Rattle.geometry.specs.declared.Part.{Part}
-use Rattle.geometry.specs.declared.Part.TheVariants.{Known}
 use Rattle.geometry.specs.Parts.{row, parts, part_among, part_of, page_room, Sized, page_start, page_of}
 
 -- what holds of each of a list of parts
@@ -22,17 +21,17 @@ Each Q [] = Unit
 Each Q (g ∷ gs) = Q g × Each Q gs
 
 -- what holds of each row of the table of parts holds of a known part, whose array is its pages and nothing else
-pub known_case : (Q : Geometry → Type 0) → Each Q parts → (n : ℕ) (g : Geometry) → part_of n ≡ Known g → Q g × (n ≡ g.pages * g.size)
+pub known_case : (Q : Geometry → Type 0) → Each Q parts → (n : ℕ) (g : Geometry) → part_of n ≡ Some g → Q g × (n ≡ g.pages * g.size)
 unfolding part_of part_among Each
 known_case Q each n g = go parts each
   where
-    at : (h : Geometry) (rest : Part) → Q h → (rest ≡ Known g → Q g × (n ≡ g.pages * g.size)) → (b : Bool) → eqb n (h.pages * h.size) ≡ b
-        → cond b (Known h) rest ≡ Known g → Q g × (n ≡ g.pages * g.size)
+    at : (h : Geometry) (rest : Option Geometry) → Q h → (rest ≡ Some g → Q g × (n ≡ g.pages * g.size)) → (b : Bool) → eqb n (h.pages * h.size) ≡ b
+        → cond b (Some h) rest ≡ Some g → Q g × (n ≡ g.pages * g.size)
     at h rest q others true e j =
         let f : h ≡ g = cc in subst (λ (x : Geometry). Q x × (n ≡ x.pages * x.size)) f (q, eqb-true n (h.pages * h.size) e)
     at h rest q others false e j = others j
 
-    go : (gs : List Geometry) → Each Q gs → part_among gs n ≡ Known g → Q g × (n ≡ g.pages * g.size)
+    go : (gs : List Geometry) → Each Q gs → part_among gs n ≡ Some g → Q g × (n ≡ g.pages * g.size)
     go [] q k = let z : ◌≡◌ {A = ℕ} 0 1 = cc in absurd (omega arith)
     go (h ∷ hs) q k = at h (part_among hs n) q.0 (go hs q.1) (eqb n (h.pages * h.size)) refl k
 
@@ -69,7 +68,7 @@ parts_sized = (
   ),
 )
 
-pub sized : (n : ℕ) (g : Geometry) → part_of n ≡ Known g → Sized g n
+pub sized : (n : ℕ) (g : Geometry) → part_of n ≡ Some g → Sized g n
 sized n g e = let k = known_case (λ h. Sized h (h.pages * h.size)) parts_sized n g e in subst⁻¹ (Sized g) k.1 k.0
 
 -- .. and is short enough for every index to fit

@@ -1,9 +1,7 @@
 -- Parts, pages and addresses. What differs from part to part is a parameter of every definition; a part is looked up from the array's length. The numbers in parentheses are those of docs/SPECIFICATION.md, here and in every crate.
 -- Assumes nothing.
-use Rattle.std.specs.Prelude.{ℕ, ◌+◌, ◌*◌, ◌/◌, ◌%◌, ◌<◌, ◌≤◌, ◌≡◌, Bool, true, false, cond, ◌&&◌, List, [], ◌∷◌, get_or, take, drop, eqb, ltb, leb}
+use Rattle.std.specs.Prelude.{ℕ, ◌+◌, ◌*◌, ◌/◌, ◌%◌, ◌<◌, ◌≤◌, ◌≡◌, Bool, true, false, cond, ◌&&◌, List, [], ◌∷◌, get_or, take, drop, eqb, ltb, leb, None, Option, Some}
 use Rattle.geometry.specs.declared.Geometry.{Geometry}
-use Rattle.geometry.specs.declared.Part.{Part}
-use Rattle.geometry.specs.declared.Part.TheVariants.{Known, Unknown}
 use Rattle.geometry.specs.declared.Run.{Run}
 
 -- Aid: what the parts share: sectors of 256 pages, registers of 16 bytes
@@ -15,12 +13,12 @@ unfoldable pub parts : List Geometry
 parts = row 264 4096 512 false ∷ row 264 128 512 false ∷ row 256 4096 256 true ∷ row 256 128 256 true ∷ []
 
 -- Aid: the first of them whose pages make n bytes
-unfoldable pub part_among : List Geometry → ℕ → Part
-part_among [] n = Unknown
-part_among (g ∷ gs) n = cond (eqb n (g.pages * g.size)) (Known g) (part_among gs n)
+unfoldable pub part_among : List Geometry → ℕ → Option Geometry
+part_among [] n = None
+part_among (g ∷ gs) n = cond (eqb n (g.pages * g.size)) (Some g) (part_among gs n)
 
 -- (1.1) the part of an array of n bytes
-unfoldable pub part_of : ℕ → Part
+unfoldable pub part_of : ℕ → Option Geometry
 part_of n = part_among parts n
 
 -- Aid: the largest page among them: the room of each of the record's buffers

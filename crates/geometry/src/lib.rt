@@ -18,13 +18,6 @@ pub struct Geometry {
     pub register: usize,
 }
 
-// What an array's length tells.
-#[derive(Clone, Copy)]
-pub enum Part {
-    Known(Geometry),
-    Unknown,
-}
-
 // `count` pages from page `first` on.
 #[derive(Clone, Copy)]
 pub struct Run {
@@ -45,23 +38,23 @@ fn row(size: usize, pages: usize, field: usize, binary: bool) -> Geometry
     }
 }
 
-// The part whose array has `length` bytes.
-pub fn part_of(length: usize) -> Part
+// The part whose array has `length` bytes, if there is one.
+pub fn part_of(length: usize) -> Option<Geometry>
     ensures { result ≡ part_of length }
 {
     if length == 1081344 {
-        return Part::Known(row(264, 4096, 512, false));
+        return Some(row(264, 4096, 512, false));
     }
     if length == 33792 {
-        return Part::Known(row(264, 128, 512, false));
+        return Some(row(264, 128, 512, false));
     }
     if length == 1048576 {
-        return Part::Known(row(256, 4096, 256, true));
+        return Some(row(256, 4096, 256, true));
     }
     if length == 32768 {
-        return Part::Known(row(256, 128, 256, true));
+        return Some(row(256, 128, 256, true));
     }
-    Part::Unknown
+    None
 }
 
 // The 24-bit number of the three address bytes from index `at` on.

@@ -2,6 +2,7 @@
 -- lengths; an operation that a frame starts names something of the part, or has data made of the frame's bytes; any other entry point leaves
 -- the operation or none.
 -- Assumes nothing.
+use Rattle.std.specs.Prelude.{None, Option, Some}
 use mathlib.Core.Path.{◌≡◌, refl, sym, ap, subst, subst⁻¹, ◌∙◌}
 use mathlib.Core.Bool.{Bool, true}
 use mathlib.Core.List.{List, [], ◌∷◌}
@@ -15,8 +16,6 @@ use borrow.Author.Tests.{ltb-true}
 use Rattle.slices.specs.Lists.{ring_write}
 use Rattle.slices.proofs.Words.{word_at-small}
 use Rattle.geometry.specs.declared.Geometry.{Geometry}
-use Rattle.geometry.specs.declared.Part.{Part}
-use Rattle.geometry.specs.declared.Part.TheVariants.{Known, Unknown}
 use Rattle.geometry.specs.Parts.{part_of, register_room, Sized}
 use Rattle.geometry.specs.Sectors.{sector_count}
 use Rattle.geometry.proofs.Sectors.{sectors_few}
@@ -121,7 +120,7 @@ module _ (g : Geometry) (n : ℕ) (z : Sized g n) where
 
 -- ---- the chip that is left
 module _ (s : State) (h : Holds (chip_in s)) (g : Geometry) where
-  pub sent-holds : (f : List ℕ) → Bytes f → part_in s ≡ Known g → Holds (chip_in (sent_state g f s))
+  pub sent-holds : (f : List ℕ) → Bytes f → part_in s ≡ Some g → Holds (chip_in (sent_state g f s))
   unfolding sent_state
   sent-holds f b p =
       record {
@@ -193,9 +192,9 @@ met_fresh held factory array w l a b =
     let e = a ∙ ap number_of l.answer in
     record { answer = e; block = k; array = l.array; holds = λ z. (λ i. held_in (k i) (l.array i)) ∙ go (part_of (length array)) (subst Whole l.chip w) (sym e ∙ z) }
   where
-    go : (p : Part) → Whole (chip_in (fresh_by p factory array).state) → number_of (fresh_by p factory array).answer ≡ 0 → Back held (fresh_by p factory array)
-    go Unknown v z = absurd (omega arith)
-    go (Known g) v z = done_back held (fresh_state factory (replicate (length array) 255)) [] (record { whole = v; operation = (tt, tt) })
+    go : (p : Option Geometry) → Whole (chip_in (fresh_by p factory array).state) → number_of (fresh_by p factory array).answer ≡ 0 → Back held (fresh_by p factory array)
+    go None v z = absurd (omega arith)
+    go (Some g) v z = done_back held (fresh_state factory (replicate (length array) 255)) [] (record { whole = v; operation = (tt, tt) })
 
 -- a pin move
 pub met-pin : {kept : List ℕ} (held : List ℕ) (high : Bool) → length held ≡ 765 → kept ≡ pin_moved held high → MetPin held high 0 kept

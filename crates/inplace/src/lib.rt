@@ -12,7 +12,7 @@ ghost use Rattle.blocks.specs.Block.{decode_operation, decode_registers, decode_
 ghost use Rattle.blocks.specs.Promises.{held_in, Met, MetFresh, MetPin};
 ghost use Rattle.inplace.specs.Plain.{is_plain};
 
-use geometry::{Geometry, Part};
+use geometry::Geometry;
 use registers::Operation;
 
 // ---- frames
@@ -57,14 +57,14 @@ pub fn send(block: &mut [u8; 765], array: &[u8], frame: &[u8], reply: &mut [u8])
     let o = blocks::operation(block);
     let p = registers::place(array.len(), o);
     match p {
-        Part::Known(g) => {
+        Some(g) => {
             if !frames::is_framed(frame.len(), reply.len()) {
                 return 2;
             }
             send_in(g, block, o, array, frame, reply);
             0
         }
-        Part::Unknown => 1,
+        None => 1,
     }
 }
 
@@ -115,11 +115,11 @@ pub fn end_busy(block: &mut [u8; 765], array: &mut [u8]) -> u8
     }
     let p = registers::place(array.len(), o);
     match p {
-        Part::Known(g) => {
+        Some(g) => {
             end_in(g, block, o, array);
             0
         }
-        Part::Unknown => 1,
+        None => 1,
     }
 }
 

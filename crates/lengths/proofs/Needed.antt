@@ -1,6 +1,7 @@
 -- The lengths that are lent: what a command needs is what the calls' definitions say, and each length lies within its room, since `min` is at most
 -- each of its two numbers and a known part's array is short enough.
 -- Assumes nothing.
+use Rattle.std.specs.Prelude.{None, Option, Some}
 use mathlib.Core.Path.{◌≡◌, refl, sym, ap, subst, ◌∙◌}
 use mathlib.Core.Bool.{true}
 use Prim.Native.Nat.{ℕ, ◌+◌, ◌-◌, ◌*◌, ◌≤◌, min}
@@ -8,8 +9,6 @@ use native.Mathlib.Omega.{arith}
 use lib.Dec.{eqb}
 use borrow.Author.Tests.{eq-eqb}
 use Rattle.geometry.specs.declared.Geometry.{Geometry}
-use Rattle.geometry.specs.declared.Part.{Part}
-use Rattle.geometry.specs.declared.Part.TheVariants.{Known, Unknown}
 use Rattle.geometry.specs.Parts.{part_of, Sized}
 use Rattle.geometry.proofs.Pages.{sized, sized_small}
 use Rattle.state.specs.Outcomes.{cut_fits}
@@ -22,7 +21,7 @@ use Rattle.lengths.specs.declared.room.Lengths.{Lengths}
 use Rattle.lengths.specs.Lengths.{log_room, out_room, junk_room, frames_for, log_for, junk_for, buffer_for, lengths_by}
 
 -- the junk as long as needed is what a cut takes
-pub junk-fits : (g : Geometry) (n : ℕ) → cut_fits g n (junk_for (Known g) n) ≡ true
+pub junk-fits : (g : Geometry) (n : ℕ) → cut_fits g n (junk_for (Some g) n) ≡ true
 unfolding cut_fits junk_for
 junk-fits g n = eq-eqb (2 * g.size + n) (2 * g.size + n) refl
 
@@ -41,7 +40,7 @@ log-fits C.Cut b = omega arith
 log-fits C.Part b = omega arith
 log-fits C.Sum b = omega arith
 
-module _ (n : ℕ) {g : Geometry} {p : Part} (e : p ≡ part_of n) (k : p ≡ Known g) where
+module _ (n : ℕ) {g : Geometry} {p : Option Geometry} (e : p ≡ part_of n) (k : p ≡ Some g) where
   fits : Sized g n
   fits = sized n g (sym e ∙ k)
 
@@ -56,16 +55,16 @@ module _ (n : ℕ) {g : Geometry} {p : Part} (e : p ≡ part_of n) (k : p ≡ Kn
 
   pub junk_known : 2 * g.size + n ≡ junk_for (part_of n) n
   unfolding junk_for
-  junk_known = ap (λ (q : Part). junk_for q n) (sym k ∙ e)
+  junk_known = ap (λ (q : Option Geometry). junk_for q n) (sym k ∙ e)
 
   pub buffer_known : 8 * g.size - 3 ≡ buffer_for (part_of n)
   unfolding buffer_for head_size limit_of slot_size
   buffer_known = ap buffer_for (sym k ∙ e)
 
-module _ (n : ℕ) {p : Part} (e : p ≡ part_of n) (k : p ≡ Unknown) where
+module _ (n : ℕ) {p : Option Geometry} (e : p ≡ part_of n) (k : p ≡ None) where
   pub junk_unknown : 0 ≡ junk_for (part_of n) n
   unfolding junk_for
-  junk_unknown = ap (λ (q : Part). junk_for q n) (sym k ∙ e)
+  junk_unknown = ap (λ (q : Option Geometry). junk_for q n) (sym k ∙ e)
 
   pub buffer_unknown : 0 ≡ buffer_for (part_of n)
   unfolding buffer_for

@@ -1,8 +1,7 @@
 -- The lengths that a step lends (docs/OUTLINE.md): as the line gives them or as the call needs them, and at most the room that there is.
 -- Assumes nothing.
-use Rattle.std.specs.Prelude.{ℕ, ◌+◌, ◌*◌, min, ◌≡◌}
-use Rattle.geometry.specs.declared.Part.{Part}
-use Rattle.geometry.specs.declared.Part.TheVariants.{Known, Unknown}
+use Rattle.geometry.specs.declared.Geometry.{Geometry}
+use Rattle.std.specs.Prelude.{ℕ, ◌+◌, ◌*◌, min, ◌≡◌, None, Option, Some}
 use Rattle.geometry.specs.Parts.{part_of}
 use Rattle.slots.specs.declared.Kind.TheVariants as Kind
 use Rattle.slots.specs.Plans.{stated}
@@ -58,14 +57,14 @@ unfoldable pub log_for : Command → ℕ → ℕ
 log_for c b = 6 * frames_for c (min b 1000)
 
 -- the junk that a cut takes: for both buffers and for the array, which has n bytes
-unfoldable pub junk_for : Part → ℕ → ℕ
-junk_for (Known g) n = 2 * g.size + n
-junk_for Unknown n = 0
+unfoldable pub junk_for : Option Geometry → ℕ → ℕ
+junk_for (Some g) n = 2 * g.size + n
+junk_for None n = 0
 
 -- the get buffer: the longest recipe of either version
-unfoldable pub buffer_for : Part → ℕ
-buffer_for (Known g) = limit_of g 1
-buffer_for Unknown = 0
+unfoldable pub buffer_for : Option Geometry → ℕ
+buffer_for (Some g) = limit_of g 1
+buffer_for None = 0
 
 -- ---- what a step lends
 

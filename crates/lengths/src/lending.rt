@@ -5,7 +5,6 @@ ghost use Rattle.lengths.specs.Lengths.{log_room, out_room, junk_room, frames_fo
 
 use crate::room;
 use crate::room::{JUNK_ROOM, LOG_ROOM, Lengths, OUT_ROOM};
-use geometry::Part;
 use orders::{Command, Order};
 use slots::Kind;
 
@@ -42,8 +41,8 @@ fn junk_for(size: usize) -> usize
 {
     let p = geometry::part_of(size);
     match p {
-        Part::Known(g) => 2 * g.size + size,
-        Part::Unknown => 0,
+        Some(g) => 2 * g.size + size,
+        None => 0,
     }
 }
 
@@ -53,8 +52,8 @@ fn buffer_for(size: usize) -> usize
 {
     let p = geometry::part_of(size);
     match p {
-        Part::Known(g) => 8 * g.size - 3,
-        Part::Unknown => 0,
+        Some(g) => 8 * g.size - 3,
+        None => 0,
     }
 }
 

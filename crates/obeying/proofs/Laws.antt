@@ -1,6 +1,7 @@
 -- Laws of a line's work. What is lent is the first part of a buffer, and comes back as the first part; so the desk is what the step left. What a
 -- fresh part is depends on the array's length alone.
 -- Assumes nothing.
+use Rattle.std.specs.Prelude.{Option, Some}
 use mathlib.Core.Path.{◌≡◌, refl, sym, ap, subst, ◌∙◌}
 use mathlib.Core.Logic.{inl, inr}
 use mathlib.Core.List.{List, [], ◌∷◌, ◌++◌}
@@ -12,8 +13,6 @@ use lib.Seq.{take_all, take_at}
 use lib.Dec.{leb}
 use borrow.Author.Tests.{leb-true, leb-false}
 use Rattle.geometry.specs.declared.Geometry.{Geometry}
-use Rattle.geometry.specs.declared.Part.{Part}
-use Rattle.geometry.specs.declared.Part.TheVariants.{Known}
 use Rattle.geometry.specs.Parts.{part_of, part_among, parts}
 use Rattle.state.specs.Answers.{number_of}
 use Rattle.state.specs.Memory.{State, chip_in}
@@ -125,14 +124,14 @@ lent c {y} z {s} {r} {text} {block} {ys} {gs} {us} {text'} d ps qs ws e f q =
 -- ---- a fresh part
 
 -- by the array's length alone
-fresh_alike : (factory xs ys : List ℕ) {g : Geometry} → length xs ≡ length ys → part_of (length ys) ≡ Known g → fresh_outcome factory xs ≡ fresh_outcome factory ys
+fresh_alike : (factory xs ys : List ℕ) {g : Geometry} → length xs ≡ length ys → part_of (length ys) ≡ Some g → fresh_outcome factory xs ≡ fresh_outcome factory ys
 unfolding fresh_outcome fresh_by
 fresh_alike factory xs ys {g} e h =
-    ap (λ (p : Part). fresh_by p factory xs) (ap part_of e ∙ h) ∙ (λ i. left Answers.Done (fresh_state factory (replicate (e i) 255)) [])
-    ∙ sym (ap (λ (p : Part). fresh_by p factory ys) h)
+    ap (λ (p : Option Geometry). fresh_by p factory xs) (ap part_of e ∙ h) ∙ (λ i. left Answers.Done (fresh_state factory (replicate (e i) 255)) [])
+    ∙ sym (ap (λ (p : Option Geometry). fresh_by p factory ys) h)
 
 -- a part's array is known
-known : (n : ℕ) → Whole n → (A : Type 0) → ((g : Geometry) → part_of n ≡ Known g → A) → A
+known : (n : ℕ) → Whole n → (A : Type 0) → ((g : Geometry) → part_of n ≡ Some g → A) → A
 unfolding parts part_among part_of
 known n (inl e) A f = f _ (ap part_of e)
 known n (inr (inl e)) A f = f _ (ap part_of e)
@@ -151,10 +150,10 @@ stored-done : (held : List ℕ) (st : State) → stored_in held (left Answers.Do
 unfolding stored_by number_of
 stored-done held st = refl
 
-fresh_done : (n : ℕ) {g : Geometry} → part_of n ≡ Known g → fresh_part n ≡ left Answers.Done (fresh_state (replicate 64 0) (replicate n 255)) []
+fresh_done : (n : ℕ) {g : Geometry} → part_of n ≡ Some g → fresh_part n ≡ left Answers.Done (fresh_state (replicate 64 0) (replicate n 255)) []
 unfolding fresh_part fresh_outcome fresh_by
 fresh_done n {g} h =
-    ap (λ (p : Part). fresh_by p (replicate 64 0) (replicate n 0)) (ap part_of (length-replicate n 0) ∙ h)
+    ap (λ (p : Option Geometry). fresh_by p (replicate 64 0) (replicate n 0)) (ap part_of (length-replicate n 0) ∙ h)
     ∙ (λ i. left Answers.Done (fresh_state (replicate 64 0) (replicate (length-replicate {A = ℕ} n 0 i) 255)) [])
 
 pub fresh_stored : (n : ℕ) (held : List ℕ) → Whole n → stored_in held (fresh_part n) ≡ encode_chip (chip_in (fresh_part n).state)

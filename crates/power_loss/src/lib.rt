@@ -1,7 +1,7 @@
 // A cut on a chip whose part is known.
 #![tactic(auto)]
 
-ghost use Rattle.std.specs.Prelude.{◌≡◌, true, false, [], ◌+◌, ◌*◌, ◌≤◌, length};
+ghost use Rattle.std.specs.Prelude.{◌≡◌, true, false, [], ◌+◌, ◌*◌, ◌≤◌, length, Some};
 ghost use Rattle.geometry.specs.Parts.{Sized, page_room};
 ghost use Rattle.registers.specs.Operations.{within};
 ghost use Rattle.memory.specs.Pages.{junk_buffer};
@@ -9,7 +9,7 @@ ghost use Rattle.state.specs.PowerLoss.{array_lost};
 ghost use Rattle.state.specs.Memory.{state_of};
 ghost use Rattle.state.specs.Outcomes.{Leaves, cut_by};
 
-use geometry::{Geometry, Part};
+use geometry::Geometry;
 use registers::Operation;
 use state::{Answer, Chip, Outcome};
 
@@ -41,7 +41,7 @@ fn spoil_buffers(g: Geometry, c: Chip, junk: &[u8]) -> Chip
 
 pub fn cut_in(g: Geometry, c: Chip, array: &mut [u8], junk: &[u8]) -> Outcome
     requires { (Sized g (length array.old)) × (within g c.registers.operation ≡ true) }
-    ensures { Leaves (cut_by (Part.Known g) junk.now (state_of c array.old)) result array.new [] }
+    ensures { Leaves (cut_by (Some g) junk.now (state_of c array.old)) result array.new [] }
 {
     if junk.len() != 2 * g.size + array.len() {
         return Outcome {

@@ -2,7 +2,7 @@
 // refused, and a refusal changes nothing.
 #![tactic(auto)]
 
-ghost use Rattle.std.specs.Prelude.{◌≡◌, length};
+ghost use Rattle.std.specs.Prelude.{◌≡◌, length, Some};
 ghost use Rattle.state.specs.Answers.{number_of};
 ghost use Rattle.state.specs.Outcomes.{part_in};
 ghost use Rattle.slots.specs.Refusals.{raw_refusal};
@@ -10,7 +10,7 @@ ghost use Rattle.slots.specs.Lists.{Op};
 ghost use Rattle.blocks.specs.Promises.{held_in};
 ghost use Rattle.runs.specs.Promises.{Promise};
 
-use geometry::{Geometry, Part};
+use geometry::Geometry;
 use runs::Done;
 use state::Answer;
 
@@ -29,7 +29,7 @@ pub fn raw(
     let o = blocks::operation(block);
     let p = registers::place(array.len(), o);
     match p {
-        Part::Known(g) => {
+        Some(g) => {
             let a = refusals::raw_refusal(
                 g,
                 array.len(),
@@ -44,7 +44,7 @@ pub fn raw(
             }
             raw_sent(g, block, array, frame, reply, script, junk, log)
         }
-        Part::Unknown => endings::refuse(Answer::Part),
+        None => endings::refuse(Answer::Part),
     }
 }
 
@@ -59,7 +59,7 @@ fn raw_sent(
     junk: &[u8],
     log: &mut [u8],
 ) -> Done
-    requires { (part_in (held_in block.old array.old) ≡ Part.Known g) × (number_of (raw_refusal g (length array.old) frame.now (length reply.old) (length log.old) script.now (length junk.now)) ≡ 0) }
+    requires { (part_in (held_in block.old array.old) ≡ Some g) × (number_of (raw_refusal g (length array.old) frame.now (length reply.old) (length log.old) script.now (length junk.now)) ≡ 0) }
     ensures { Promise (Op.raw frame.now script.now junk.now log.old reply.old) block.old array.old result block.new array.new log.new reply.new }
 {
     let b = slices::byte_or(script, 0, 0);

@@ -1,13 +1,12 @@
 -- A call's refusal: the driver's start tells 3, 4, 5 and 14, so with 6 and 7 the tests come in the definition's order.
 -- Assumes nothing.
+use Rattle.std.specs.Prelude.{Option, Some}
 use mathlib.Core.Path.{◌≡◌, sym, ap, ◌∙◌}
 use mathlib.Core.List.{List}
 use Prim.Native.Nat.{ℕ, ◌*◌, ◌≤◌}
 use lib.Dec.{eqb}
 use borrow.Author.Tests.{eq-eqb, ne_eqb}
 use Rattle.geometry.specs.declared.Geometry.{Geometry}
-use Rattle.geometry.specs.declared.Part.{Part}
-use Rattle.geometry.specs.declared.Part.TheVariants.{Known}
 use Rattle.geometry.specs.Parts.{part_of}
 use Rattle.state.specs.declared.Answer.{Answer}
 use Rattle.state.specs.Answers.{number_of}
@@ -20,11 +19,11 @@ use Rattle.slots.proofs.Driven.{other}
 use Rattle.worlds.specs.Start.{start_refusal}
 
 module _ (g : Geometry) (array : ℕ) (a : Asked) (detail : Detail) (n lent : ℕ) where
-  own : part_of array ≡ Known g → start_refusal (part_of array) a detail n lent ≡ early_refusal g a (flaws_in a.kind g detail n lent)
+  own : part_of array ≡ Some g → start_refusal (part_of array) a detail n lent ≡ early_refusal g a (flaws_in a.kind g detail n lent)
   unfolding start_refusal
-  own p = ap (λ (q : Part). start_refusal q a detail n lent) p
+  own p = ap (λ (q : Option Geometry). start_refusal q a detail n lent) p
 
-  module _ (log : ℕ) (script : List ℕ) (junk : ℕ) (p : part_of array ≡ Known g) {z : Answer} (e : z ≡ start_refusal (part_of array) a detail n lent) where
+  module _ (log : ℕ) (script : List ℕ) (junk : ℕ) (p : part_of array ≡ Some g) {z : Answer} (e : z ≡ start_refusal (part_of array) a detail n lent) where
     pub early_told : (number_of z ≡ 0 → ⊥) → z ≡ call_refusal g array a (flaws_in a.kind g detail n lent) log script junk
     unfolding call_refusal or_else
     early_told h =
@@ -40,6 +39,6 @@ module _ (g : Geometry) (array : ℕ) (a : Asked) (detail : Detail) (n lent : �
         ∙ sym (picked (eqb (number_of (early_refusal g a (flaws_in a.kind g detail n lent))) 0) _ _ k)
 
   -- log and script are looked at only where B is at most 1,000
-  pub limit-few : part_of array ≡ Known g → {z : Answer} → z ≡ start_refusal (part_of array) a detail n lent → number_of z ≡ 0 → a.limit ≤ 1000
+  pub limit-few : part_of array ≡ Some g → {z : Answer} → z ≡ start_refusal (part_of array) a detail n lent → number_of z ≡ 0 → a.limit ≤ 1000
   limit-few p {z} e h =
       (early g a (flaws_in a.kind g detail n lent) (ap (λ (t : Answer). eqb (number_of t) 0) (sym (e ∙ own p)) ∙ eq-eqb (number_of z) 0 h)).most

@@ -2,13 +2,13 @@
 // Internal to this repository: a caller here meets each `requires`; no entry point is in this crate.
 #![tactic(auto)]
 
-ghost use Rattle.std.specs.Prelude.{◌≡◌, max};
+ghost use Rattle.std.specs.Prelude.{◌≡◌, max, Some};
 ghost use Rattle.geometry.specs.Parts.{Sized, part_of};
 ghost use Rattle.slots.specs.Refusals.{flaws_in, bad_script, late_refusal, call_refusal, raw_refusal};
 ghost use Rattle.slots.specs.Lists.{asking};
 ghost use Rattle.refusals.specs.Largest.{largest_in};
 
-use geometry::{Geometry, Part};
+use geometry::Geometry;
 use slots::{Detail, Kind};
 use state::Answer;
 
@@ -81,7 +81,7 @@ pub fn call_refusal(
     script: &[u8],
     junk: usize,
 ) -> Answer
-    requires { (Sized g array) × (part_of array ≡ Part.Known g) }
+    requires { (Sized g array) × (part_of array ≡ Some g) }
     ensures { result ≡ call_refusal g array (asking kind slot limit) (flaws_in kind g detail n lent) log script.now junk }
 {
     let a = starts::refusal(array, kind, slot, limit, detail, n, lent);

@@ -1,9 +1,7 @@
 -- The operation under way: whether the part has what it names, which pages it erases or programs, which buffer it uses.
 -- Assumes nothing.
-use Rattle.std.specs.Prelude.{ℕ, ◌*◌, ◌/◌, ◌%◌, ◌^◌, Bool, true, cond, ◌||◌, eqb, ltb}
+use Rattle.std.specs.Prelude.{ℕ, ◌*◌, ◌/◌, ◌%◌, ◌^◌, Bool, true, cond, ◌||◌, eqb, ltb, None, Option, Some}
 use Rattle.geometry.specs.declared.Geometry.{Geometry}
-use Rattle.geometry.specs.declared.Part.{Part}
-use Rattle.geometry.specs.declared.Part.TheVariants.{Known, Unknown}
 use Rattle.geometry.specs.declared.Run.{Run}
 use Rattle.geometry.specs.Parts.{part_of, run, in_run}
 use Rattle.geometry.specs.Sectors.{sector_of, sector_run, sector_count}
@@ -29,12 +27,12 @@ unfoldable pub within : Geometry → Operation → Bool
 within g o = has g (facts_of o).names
 
 -- (12.3) no part where it does
-unfoldable pub placed_in : Part → Operation → Part
-placed_in (Known g) o = cond (within g o) (Known g) Unknown
-placed_in Unknown o = Unknown
+unfoldable pub placed_in : Option Geometry → Operation → Option Geometry
+placed_in (Some g) o = cond (within g o) (Some g) None
+placed_in None o = None
 
--- (12.3) the part for an array of this length with this operation under way; Unknown is answer 1
-unfoldable pub placed : ℕ → Operation → Part
+-- (12.3) the part for an array of this length with this operation under way; None is answer 1
+unfoldable pub placed : ℕ → Operation → Option Geometry
 placed length o = placed_in (part_of length) o
 
 -- Aid: the page that is named; 0 where none is

@@ -11,7 +11,7 @@ ghost use Rattle.registers.specs.Facts.{idling, paging, erasing, updating, facts
 ghost use Rattle.registers.specs.Operations.{has, placed, target_of, page_named, run_named, set_named, buffer_of};
 
 use commands::Buffer;
-use geometry::{Geometry, Part, Run};
+use geometry::{Geometry, Run};
 
 // The 16 data bytes of an FC, as words, first byte highest.
 #[derive(Clone, Copy)]
@@ -493,21 +493,21 @@ fn is_within(g: Geometry, n: Named) -> bool
 }
 
 // The part, if the array's length is one of the two and the operation names nothing beyond it.
-pub fn place(length: usize, o: Operation) -> Part
+pub fn place(length: usize, o: Operation) -> Option<Geometry>
     ensures { result ≡ placed length o }
 {
     let p = geometry::part_of(length);
     match p {
-        Part::Known(g) => {
+        Some(g) => {
             let f = facts_of(o);
             let n = f.names;
             if is_within(g, n) {
-                Part::Known(g)
+                Some(g)
             } else {
-                Part::Unknown
+                None
             }
         }
-        Part::Unknown => Part::Unknown,
+        None => None,
     }
 }
 

@@ -2,7 +2,7 @@
 // Every function named to others takes any state. A state that no call comes to counts as ended.
 #![tactic(auto)]
 
-ghost use Rattle.std.specs.Prelude.{◌≡◌, ◌≤◌, ◌-◌};
+ghost use Rattle.std.specs.Prelude.{◌≡◌, ◌≤◌, ◌-◌, Some};
 ghost use Rattle.geometry.specs.declared.Geometry.{Geometry};
 ghost use Rattle.geometry.specs.Parts.{part_of, slot_room};
 ghost use Rattle.slots.specs.Driver.{is_ended};
@@ -10,12 +10,12 @@ ghost use Rattle.slots.specs.declared.Stage.{Stage};
 ghost use Rattle.worlds.specs.Turns.{with};
 ghost use Rattle.worlds.specs.Step.{stage_in, staged_at, halted, told_in, count_by, count_in};
 
-use geometry::{Geometry, Part};
-use slots::{Course, Driver, Stage, Told};
+use geometry::Geometry;
+use slots::{Course, Driver};
 use state::Answer;
 
 // The state with another stage.
-pub fn with_stage(d: Driver, s: Stage) -> Driver
+pub fn with_stage(d: Driver, s: Option<Answer>) -> Driver
     ensures { result ≡ with d d.verdict (staged_at s d.course) }
 {
     let k = d.kind;
@@ -44,7 +44,7 @@ pub fn with_stage(d: Driver, s: Stage) -> Driver
 pub fn halt(d: Driver, a: Answer) -> Driver
     ensures { result ≡ halted d a }
 {
-    with_stage(d, Stage::Ended { answer: a })
+    with_stage(d, Some(a))
 }
 
 pub fn is_ended(d: Driver) -> bool
@@ -56,7 +56,7 @@ pub fn is_ended(d: Driver) -> bool
 }
 
 // The call's answer, if it has ended.
-pub fn answer(d: Driver) -> Told
+pub fn answer(d: Driver) -> Option<Answer>
     ensures { result ≡ told_in d }
 {
     let p = geometry::part_of(d.array);
@@ -66,8 +66,8 @@ pub fn answer(d: Driver) -> Told
 }
 
 fn count_on(g: Geometry, d: Driver, staged: &[u8]) -> usize
-    requires { part_of d.array ≡ Part.Known g }
-    ensures { (result ≡ count_by (Part.Known g) d staged.now) × (result ≤ slot_room - 3) }
+    requires { part_of d.array ≡ Some g }
+    ensures { (result ≡ count_by (Some g) d staged.now) × (result ≤ slot_room - 3) }
 {
     if !records::is_record(g, staged) {
         return 0;
@@ -75,8 +75,8 @@ fn count_on(g: Geometry, d: Driver, staged: &[u8]) -> usize
     let t = answer(d);
     let k = d.kind;
     match t {
-        Told::Running => 0,
-        Told::Answered { answer: a } => tellings::count_of(k, a, staged),
+        None => 0,
+        Some(a) => tellings::count_of(k, a, staged),
     }
 }
 
@@ -86,7 +86,7 @@ pub fn count(d: Driver, staged: &[u8; 2112]) -> usize
 {
     let p = geometry::part_of(d.array);
     match p {
-        Part::Known(g) => count_on(g, d, staged),
-        Part::Unknown => 0,
+        Some(g) => count_on(g, d, staged),
+        None => 0,
     }
 }

@@ -1,5 +1,6 @@
 -- A whole call: refused, or begun where its run begins, driven to the run's end, and finished as the run's outcome says.
 -- Assumes nothing.
+use Rattle.std.specs.Prelude.{None, Option, Some}
 use mathlib.Core.Path.{◌≡◌, refl, sym, ap, subst, subst⁻¹, ◌∙◌}
 use mathlib.Core.Bool.{true, false, cond}
 use mathlib.Core.List.{List, [], ◌++◌}
@@ -12,8 +13,6 @@ use borrow.Author.Tests.{eq-eqb, ne_eqb}
 use Rattle.slices.specs.Lists.{over}
 use Rattle.slices.proofs.Laws.{over_append}
 use Rattle.geometry.specs.declared.Geometry.{Geometry}
-use Rattle.geometry.specs.declared.Part.{Part}
-use Rattle.geometry.specs.declared.Part.TheVariants.{Known, Unknown}
 use Rattle.geometry.specs.Parts.{part_of, Sized, slot_room}
 use Rattle.registers.proofs.Places.{placed_known, placed_sized}
 use Rattle.state.specs.declared.Answer.{Answer}
@@ -24,7 +23,6 @@ use Rattle.state.specs.Outcomes.{part_in, cut_fits, cut_state}
 use Rattle.slots.specs.declared.Detail.{Detail}
 use Rattle.slots.specs.declared.Driver.{Driver}
 use Rattle.slots.specs.declared.Flaws.{Flaws}
-use Rattle.slots.specs.declared.Stage.TheVariants.{Going, Ended}
 use Rattle.slots.specs.Plans.{Asked, stated}
 use Rattle.slots.specs.Refusals.{flaws_in, early_refusal, call_refusal}
 use Rattle.slots.specs.Calls.{Out, Request, Secret, Open, Closed, refused, run, first_course, refusal_of, start_open, start_closed, ran, reached, count_of, delivered, out_from, answer_at, call_out, call_next}
@@ -48,24 +46,24 @@ use Rattle.runs.proofs.Steps.{run-asks}
 -- ---- refused
 module _ (a : Asked) (detail : Detail) (payload buffer script junk log held xs : List ℕ) where
   -- 1
-  pub refused_unknown : part_in (held_in held xs) ≡ Unknown → (r : Done) → r ≡ record { answer = Answers.Part; frames = 0; polls = 0; count = 0 }
+  pub refused_unknown : part_in (held_in held xs) ≡ None → (r : Done) → r ≡ record { answer = Answers.Part; frames = 0; polls = 0; count = 0 }
       → Promise (call a detail script payload junk log buffer) held xs r held xs log buffer
   unfolding out_of call_by next_of called_by number_of log_of
   refused_unknown e r d =
-      leaves_as (ap (λ (p : Part). call_by p a detail script payload junk log buffer (held_in held xs)) e)
-      (ap (λ (p : Part). called_by p a detail script payload junk log buffer (held_in held xs)) e) (leaves-refused Answers.Part held xs log buffer r refl d)
+      leaves_as (ap (λ (p : Option Geometry). call_by p a detail script payload junk log buffer (held_in held xs)) e)
+      (ap (λ (p : Option Geometry). called_by p a detail script payload junk log buffer (held_in held xs)) e) (leaves-refused Answers.Part held xs log buffer r refl d)
 
-  module _ (g : Geometry) (p : part_in (held_in held xs) ≡ Known g) where
+  module _ (g : Geometry) (p : part_in (held_in held xs) ≡ Some g) where
     pub out_known : out_of (call a detail script payload junk log buffer) (held_in held xs) ≡ call_out g (asks g a detail script payload junk log buffer) (secret payload detail junk buffer) (held_in held xs)
     unfolding out_of call_by
-    out_known = ap (λ (q : Part). call_by q a detail script payload junk log buffer (held_in held xs)) p
+    out_known = ap (λ (q : Option Geometry). call_by q a detail script payload junk log buffer (held_in held xs)) p
 
     pub next_known : next_of (call a detail script payload junk log buffer) (held_in held xs) ≡ call_next g (asks g a detail script payload junk log buffer) (secret payload detail junk buffer) (held_in held xs)
     unfolding next_of called_by
-    next_known = ap (λ (q : Part). called_by q a detail script payload junk log buffer (held_in held xs)) p
+    next_known = ap (λ (q : Option Geometry). called_by q a detail script payload junk log buffer (held_in held xs)) p
 
     -- what the tests ask
-    pub sized_known : (Sized g (length xs)) × (part_of (length xs) ≡ Known g)
+    pub sized_known : (Sized g (length xs)) × (part_of (length xs) ≡ Some g)
     sized_known =
         let o = (held_in held xs).registers.operation in
         (placed_sized (length xs) o g p, (placed_known (length xs) o g p).0)
@@ -86,9 +84,9 @@ module _ (a : Asked) (detail : Detail) (payload buffer script junk log held xs :
 -- a refusal that is not met is Done
 done : (z : Answer) → eqb (number_of z) 0 ≡ true → (limit : ℕ) → first_course z limit ≡ first_course Answers.Done limit
 unfolding first_course number_of
-done z e limit = λ i. record { place = 0; left = limit; stage = cond (e i) Going (Ended z); listed = false; guarded = false }
+done z e limit = λ i. record { place = 0; left = limit; stage = cond (e i) None (Some z); listed = false; guarded = false }
 
-module _ (a : Asked) (detail : Detail) (payload buffer script junk log held xs : List ℕ) (g : Geometry) (p : part_in (held_in held xs) ≡ Known g)
+module _ (a : Asked) (detail : Detail) (payload buffer script junk log held xs : List ℕ) (g : Geometry) (p : part_in (held_in held xs) ≡ Some g)
     {z : Answer} (f : z ≡ refusal_of g (length xs) (asks g a detail script payload junk log buffer)) (n : number_of z ≡ 0)
     {d : Driver} (e : d ≡ start_driver (length xs) a detail (length payload) (length buffer)) where
   abbrev flaws : Flaws
@@ -112,7 +110,7 @@ module _ (a : Asked) (detail : Detail) (payload buffer script junk log held xs :
         array = refl;
         verdict = refl;
         course =
-            ap (λ (q : Part). first_course (start_refusal q a detail (length payload) (length buffer)) a.limit) own
+            ap (λ (q : Option Geometry). first_course (start_refusal q a detail (length payload) (length buffer)) a.limit) own
             ∙ done (early_refusal g a flaws) (neither_applies (early_refusal g a flaws) _ passed).0 a.limit;
         accepted = ap (λ (t : Flaws). number_of (call_refusal g (length xs) a t (length log) script (length junk))) (sym none-met) ∙ ap number_of (sym f) ∙ n;
       })
@@ -131,7 +129,7 @@ module _ (a : Asked) (detail : Detail) (payload buffer script junk log held xs :
       (subst (λ (k : Driver). RunBy g k payload buffer script junk log held xs r kept ys l b) e w)
 
 -- ---- the run, and what comes behind it
-module _ (g : Geometry) (d : Driver) (payload buffer script junk log held xs : List ℕ) (p : part_in (held_in held xs) ≡ Known g)
+module _ (g : Geometry) (d : Driver) (payload buffer script junk log held xs : List ℕ) (p : part_in (held_in held xs) ≡ Some g)
     (w : Started g d xs script junk log) where
   abbrev v : Request
   v = asked_in d script junk log

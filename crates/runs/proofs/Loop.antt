@@ -1,6 +1,7 @@
 -- The call loop: the rest of the run from any turn on is the whole run. With as many steps left as frames may be left (crate slots, Bound), the log has
 -- room for each line, the loop ends, and a run that has ended stays.
 -- Assumes nothing.
+use Rattle.std.specs.Prelude.{Some}
 use mathlib.Core.Path.{◌≡◌, refl, sym, ap, subst, subst⁻¹, ◌∙◌}
 use mathlib.Core.Bool.{true, false}
 use mathlib.Core.List.{List}
@@ -10,7 +11,6 @@ use lib.ListN.{length, drop}
 use lib.Seq.{drop-drop}
 use borrow.Author.Tests.{eqb-true}
 use Rattle.geometry.specs.declared.Geometry.{Geometry}
-use Rattle.geometry.specs.declared.Part.TheVariants.{Known}
 use Rattle.geometry.specs.Parts.{part_of}
 use Rattle.registers.proofs.Places.{placed_known}
 use Rattle.state.specs.declared.Answer.TheVariants as Answers
@@ -62,7 +62,7 @@ pub record Along (g : Geometry) (t₀ : State) (s₀ : Session) (payload st₀ s
   pub polled : s.polls ≤ s.frames
   pub rest : drop (6 * s.frames) l ≡ drop (6 * s.frames) l₀
   pub room : length l ≡ length l₀
-  pub part : part_in t ≡ Known g
+  pub part : part_in t ≡ Some g
   pub long : length t.memory.array ≡ length t₀.memory.array
   pub cuts : s.cut ≡ true → has_cut script ≡ true
 

@@ -1,5 +1,6 @@
 -- A raw call: refused, or one frame with its script byte, and a cut behind it where that is 2.
 -- Assumes nothing.
+use Rattle.std.specs.Prelude.{None, Option, Some}
 use mathlib.Core.Path.{◌≡◌, refl, sym, ap, subst⁻¹, ◌∙◌}
 use mathlib.Core.Bool.{Bool, true, false, cond}
 use mathlib.Core.List.{List}
@@ -9,8 +10,6 @@ use lib.Dec.{eqb}
 use borrow.Author.Tests.{eq-eqb, ne_eqb}
 use Rattle.slices.proofs.Laws.{splice-zero}
 use Rattle.geometry.specs.declared.Geometry.{Geometry}
-use Rattle.geometry.specs.declared.Part.{Part}
-use Rattle.geometry.specs.declared.Part.TheVariants.{Known, Unknown}
 use Rattle.state.specs.declared.Answer.{Answer}
 use Rattle.state.specs.declared.Answer.TheVariants as Answers
 use Rattle.state.specs.Answers.{number_of}
@@ -39,21 +38,21 @@ module _ (f script junk log reply held xs : List ℕ) where
 
   -- ---- refused
 
-  pub raw_unknown : part_in (held_in held xs) ≡ Unknown → (r : Done) → r ≡ record { answer = Answers.Part; frames = 0; polls = 0; count = 0 }
+  pub raw_unknown : part_in (held_in held xs) ≡ None → (r : Done) → r ≡ record { answer = Answers.Part; frames = 0; polls = 0; count = 0 }
       → Promise (raw f script junk log reply) held xs r held xs log reply
   unfolding out_of raw_by next_of raw_left number_of log_of
   raw_unknown e r d =
-      leaves_as (ap (λ (p : Part). raw_by p f script junk log reply s) e) (ap (λ (p : Part). raw_left p f script junk log reply s) e)
+      leaves_as (ap (λ (p : Option Geometry). raw_by p f script junk log reply s) e) (ap (λ (p : Option Geometry). raw_left p f script junk log reply s) e)
       (leaves-refused Answers.Part held xs log reply r refl d)
 
-  module _ (g : Geometry) (p : part_in (held_in held xs) ≡ Known g) where
+  module _ (g : Geometry) (p : part_in (held_in held xs) ≡ Some g) where
     out_known : out_of (raw f script junk log reply) s ≡ raw_out g f script (length log) (length junk) reply s
     unfolding out_of raw_by
-    out_known = ap (λ (q : Part). raw_by q f script junk log reply s) p
+    out_known = ap (λ (q : Option Geometry). raw_by q f script junk log reply s) p
 
     next_known : next_of (raw f script junk log reply) s ≡ raw_next g f script (length log) junk (length reply) s
     unfolding next_of raw_left
-    next_known = ap (λ (q : Part). raw_left q f script junk log reply s) p
+    next_known = ap (λ (q : Option Geometry). raw_left q f script junk log reply s) p
 
     pub raw-refused : (z : Answer) (r : Done) → z ≡ raw_refusal g (length xs) f (length reply) (length log) script (length junk) → (number_of z ≡ 0 → ⊥)
         → r ≡ record { answer = z; frames = 0; polls = 0; count = 0 } → Promise (raw f script junk log reply) held xs r held xs log reply
@@ -116,9 +115,9 @@ module _ (f script junk log reply held xs : List ℕ) where
         two hb = z.state ∙ ap (λ (t : ℕ). state_after g t (sent_state g f s)) hb
 
         -- what the cut asks
-        pub raw-fits : b ≡ 2 → (part_in (held_in mid ys) ≡ Known g) × (cut_fits g (length ys) (length junk) ≡ true)
+        pub raw-fits : b ≡ 2 → (part_in (held_in mid ys) ≡ Some g) × (cut_fits g (length ys) (length junk) ≡ true)
         raw-fits hb = (
-          subst⁻¹ (λ (t : State). part_in t ≡ Known g) z.state (after-placed g f s b p),
+          subst⁻¹ (λ (t : State). part_in t ≡ Some g) z.state (after-placed g f s b p),
           ap (λ (t : ℕ). cut_fits g t (length junk)) (ap (λ (t : State). length t.memory.array) z.state ∙ after-long g f s b)
               ∙ junk-fits g (length xs) script (length junk) raw_taken.2 (has-cut script 0 (sym eb ∙ hb)),
         )

@@ -1,9 +1,8 @@
 -- Aid: a call under way as the code holds it, and what its parts promise: each turn of the loop is one step of the run that defines the call, and the
 -- loop is the whole run. The state is the one that block and array hold.
 -- Assumes nothing.
-use Rattle.std.specs.Prelude.{ℕ, ◌+◌, ◌*◌, ◌/◌, ◌≤◌, ◌<◌, ◌≡◌, true, false, cond, List, length, take, drop, eqb}
+use Rattle.std.specs.Prelude.{ℕ, ◌+◌, ◌*◌, ◌/◌, ◌≤◌, ◌<◌, ◌≡◌, true, false, cond, List, length, take, drop, eqb, Some}
 use Rattle.geometry.specs.declared.Geometry.{Geometry}
-use Rattle.geometry.specs.declared.Part.TheVariants.{Known}
 use Rattle.state.specs.declared.Answer.{Answer}
 use Rattle.state.specs.declared.Answer.TheVariants as Answers
 use Rattle.state.specs.Answers.{number_of}
@@ -42,7 +41,7 @@ bound_by s = stated s.driver.kind s.driver.limit
 -- ---- one turn
 
 pub record Going (g : Geometry) (t : State) (s : Session) (log : List ℕ) : Type 0 where
-  pub part : part_in t ≡ Known g
+  pub part : part_in t ≡ Some g
   pub sound : Sound g s.driver
   pub going : is_ended s.driver.course.stage ≡ false
   pub room : 6 * s.frames + 6 ≤ length log
@@ -59,13 +58,13 @@ pub record Turned (g : Geometry) (t : State) (s : Session) (payload staged scrip
   pub cut : r.cut ≡ eqb (scripted script s.frames) 2
   pub rest : drop (6 * r.frames) lines ≡ drop (6 * r.frames) log
   pub room : length lines ≡ length log
-  pub part : part_in u ≡ Known g
+  pub part : part_in u ≡ Some g
   pub long : length u.memory.array ≡ length t.memory.array
 
 -- ---- the loop
 
 pub record Starts (g : Geometry) (t : State) (s : Session) (log : List ℕ) : Type 0 where
-  pub part : part_in t ≡ Known g
+  pub part : part_in t ≡ Some g
   pub array : s.driver.array ≡ length t.memory.array
   pub slot : s.driver.slot < g.pages / 8
   pub least : 1 ≤ s.driver.limit
@@ -81,7 +80,7 @@ pub record Driven (g : Geometry) (t : State) (s : Session) (payload staged scrip
   pub rest : drop (6 * r.frames) lines ≡ drop (6 * r.frames) log
   pub room : 6 * r.frames ≤ length lines
   pub same : length lines ≡ length log
-  pub part : part_in u ≡ Known g
+  pub part : part_in u ≡ Some g
   pub long : length u.memory.array ≡ length t.memory.array
   pub cuts : r.cut ≡ true → has_cut script ≡ true
 

@@ -1,6 +1,7 @@
 -- A call ends within its bound: from every place on at most the plan's rest is sent, each wait up to its polls, and each frame makes
 -- that less.
 -- Assumes nothing.
+use Rattle.std.specs.Prelude.{None, Option, Some}
 use Prim.Native.Nat.{ℕ, zero, suc, ◌+◌, ◌-◌, ◌<◌, ◌≤◌}
 use mathlib.Core.Path.{◌≡◌, refl, sym, ap, subst, ◌∙◌}
 use mathlib.Core.Bool.{Bool, true, false, cond}
@@ -9,13 +10,10 @@ use native.Mathlib.Omega.{arith}
 use lib.ListN.{length}
 use lib.Dec.{eqb}
 use Rattle.geometry.specs.declared.Geometry.{Geometry}
-use Rattle.geometry.specs.declared.Part.{Part}
-use Rattle.geometry.specs.declared.Part.TheVariants.{Known, Unknown}
 use Rattle.state.specs.declared.Answer.{Answer}
 use Rattle.state.specs.declared.Answer.TheVariants as Answers
 use Rattle.state.specs.Answers.{number_of}
 use Rattle.slots.specs.declared.Course.{Course}
-use Rattle.slots.specs.declared.Stage.TheVariants.{Going, Ended}
 use Rattle.slots.specs.declared.Step.{Step}
 use Rattle.slots.specs.Plans.{plan_of, step_at, is_end, is_wait, frames_most, bound, stated}
 use Rattle.slots.specs.Driver.{Heard, ended, fewer, course_by, step_of, is_ended}
@@ -164,12 +162,12 @@ pub start_at : (g : Geometry) (array : ℕ) (v : Request) → eqb (number_of (re
     → first_course Answers.Done v.asked.limit ≡ first_course (refusal_of g array v) v.asked.limit
 unfolding first_course number_of
 start_at g array v e = λ i.
-    record { place = 0; left = v.asked.limit; stage = cond (sym e i) Going (Ended (refusal_of g array v)); listed = false; guarded = false }
+    record { place = 0; left = v.asked.limit; stage = cond (sym e i) None (Some (refusal_of g array v)); listed = false; guarded = false }
 
 pub start-ended : (g : Geometry) (array : ℕ) (v : Request) → eqb (number_of (refusal_of g array v)) 0 ≡ false
     → is_ended (first_course (refusal_of g array v) v.asked.limit).stage ≡ true
 unfolding first_course is_ended
-start-ended g array v e = ap (λ (b : Bool). is_ended (cond b Going (Ended (refusal_of g array v)))) e
+start-ended g array v e = ap (λ (b : Bool). is_ended (cond b None (Some (refusal_of g array v)))) e
 
 -- an accepted call's first course is in order
 pub begin_ok : (g : Geometry) (array : ℕ) (v : Request) → eqb (number_of (refusal_of g array v)) 0 ≡ true
@@ -217,14 +215,14 @@ raw-within g f script log junk reply s =
     (record { frames = omega arith; polls = omega arith }) (none 1 (raw_refusal g (length s.memory.array) f (length reply) log script junk) reply)
 
 -- any call or event, on any chip, sends at most the frames that are stated; polls are among them
-at_within : (p : Part) (o : Op) (s : State) → Within (bound_of o) (out_at p o s)
+at_within : (p : Option Geometry) (o : Op) (s : State) → Within (bound_of o) (out_at p o s)
 unfolding out_at bound_of call_by raw_by
-at_within (Known g) (call a detail script payload junk log lent) s =
+at_within (Some g) (call a detail script payload junk log lent) s =
     subst (λ (n : ℕ). Within n (call_out g (asks g a detail script payload junk log lent) (secret payload detail junk lent) s)) (bounds a.kind g a.slot a.limit)
     (call-within g (asks g a detail script payload junk log lent) (secret payload detail junk lent) s)
-at_within Unknown (call a detail script payload junk log lent) s = none (stated a.kind a.limit) Answers.Part lent
-at_within (Known g) (raw frame script junk log reply) s = raw-within g frame script (length log) (length junk) reply s
-at_within Unknown (raw frame script junk log reply) s = none 1 Answers.Part reply
+at_within None (call a detail script payload junk log lent) s = none (stated a.kind a.limit) Answers.Part lent
+at_within (Some g) (raw frame script junk log reply) s = raw-within g frame script (length log) (length junk) reply s
+at_within None (raw frame script junk log reply) s = none 1 Answers.Part reply
 at_within p (straight frame reply) s = none 0 (sent_by p s frame reply).answer (sent_by p s frame reply).reply
 at_within p (pin high) s = none 0 (pin_outcome high s).answer (pin_outcome high s).reply
 at_within p busy_end s = none 0 (ended_by p s).answer (ended_by p s).reply

@@ -1,6 +1,7 @@
 -- Whatever the replies and the script, the frames that the driver sends are its plan's in order, each wait up to B status frames, cut off
 -- where the call ended: for any machine that drives a plan.
 -- Assumes nothing.
+use Rattle.std.specs.Prelude.{None, Some}
 use Prim.Native.Nat.{ℕ, zero, suc, ◌+◌, ◌-◌, ◌/◌, ◌%◌, ◌<◌, ◌≤◌}
 use native.Mathlib.Omega.{arith}
 use mathlib.Core.Path.{◌≡◌, refl, sym, ap, subst, ◌∙◌}
@@ -17,7 +18,6 @@ use Rattle.state.specs.declared.Answer.TheVariants as Answers
 use Rattle.state.specs.Answers.{number_of}
 use Rattle.slots.specs.declared.Course.{Course}
 use Rattle.slots.specs.declared.Kind.{Kind}
-use Rattle.slots.specs.declared.Stage.TheVariants.{Going, Ended}
 use Rattle.slots.specs.declared.Step.{Step}
 use Rattle.slots.specs.declared.Step.TheVariants.{Wait, Protection, Lockdown, Read, Load, Send, End}
 use Rattle.slots.specs.Plans.{Asked, plan_of, sector_for, step_at, is_end, is_wait}
@@ -91,8 +91,8 @@ exchanges_on M (suc n) s = cond (is_ended (M.course s).stage) [] (M.exchange s �
 
 -- how a run comes to its end
 abbrev pub Ends : {g : Geometry} {a : Asked} (M : Machine g a) → Result → M.State → Type 0
-Ends M (finished h) s = ((M.course s).stage ≡ Ended Answers.Done) × (M.holding s ≡ h)
-Ends M (stopped n) s = ((M.course s).stage ≡ Ended n)
+Ends M (finished h) s = ((M.course s).stage ≡ Some Answers.Done) × (M.holding s ≡ h)
+Ends M (stopped n) s = ((M.course s).stage ≡ Some n)
 
 module _ (g : Geometry) (a : Asked) (M : Machine g a) where
   -- n steps from p and q, the course being c and the data h, follow what is left of the plan
@@ -148,7 +148,7 @@ module _ (g : Geometry) (a : Asked) (M : Machine g a) where
         }
 
     -- the call ends here
-    stop_lead : (o : Answer) (k : ℕ) → (M.course (M.step s)).stage ≡ Ended o → M.polls (M.step s) ≡ M.polls s + k
+    stop_lead : (o : Answer) (k : ℕ) → (M.course (M.step s)).stage ≡ Some o → M.polls (M.step s) ≡ M.polls s + k
         → Follows g a c.left (rest_at (plan_of g a) c.place) c.listed c.guarded (M.holding s) (e ∷ []) k (stopped o)
         → Led (suc n) s c (M.holding s)
     unfolding is_ended
@@ -169,14 +169,14 @@ module _ (g : Geometry) (a : Asked) (M : Machine g a) where
 
   -- a course from which a run can be led: still going, or at the plan's end
   abbrev pub Fine : Course → Type 0
-  Fine c = (is_ended c.stage ≡ false) ⊎ ((c.stage ≡ Ended Answers.Done) × (is_end (step_at (plan_of g a) c.place) ≡ true))
+  Fine c = (is_ended c.stage ≡ false) ⊎ ((c.stage ≡ Some Answers.Done) × (is_end (step_at (plan_of g a) c.place) ≡ true))
 
   moved_fine : (i : ℕ) (l : Course) → Fine (moved (step_at (plan_of g a) (suc l.place)) i l)
   unfolding is_ended
   moved_fine i l = go (is_end (step_at (plan_of g a) (suc l.place))) refl
     where
       go : (b : Bool) → is_end (step_at (plan_of g a) (suc l.place)) ≡ b
-          → (is_ended (cond b (Ended Answers.Done) Going) ≡ false) ⊎ ((cond b (Ended Answers.Done) Going ≡ Ended Answers.Done) × (is_end (step_at (plan_of g a) (suc l.place)) ≡ true))
+          → (is_ended (cond b (Some Answers.Done) None) ≡ false) ⊎ ((cond b (Some Answers.Done) None ≡ Some Answers.Done) × (is_end (step_at (plan_of g a) (suc l.place)) ≡ true))
       go true e = inr (refl, e)
       go false e = inl refl
 
@@ -307,7 +307,7 @@ module _ (g : Geometry) (a : Asked) (M : Machine g a) where
     step_led End f = never (sym f.some)
 
   -- a run that has come to the plan's end
-  end_led : (n : ℕ) (s : M.State) → (M.course s).stage ≡ Ended Answers.Done → is_end (step_at (plan_of g a) (M.course s).place) ≡ true
+  end_led : (n : ℕ) (s : M.State) → (M.course s).stage ≡ Some Answers.Done → is_end (step_at (plan_of g a) (M.course s).place) ≡ true
       → Led n s (M.course s) (M.holding s)
   unfolding is_ended
   end_led n s t e =

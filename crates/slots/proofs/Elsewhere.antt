@@ -1,6 +1,7 @@
 -- A call programs and erases in its own slot alone, and a get nowhere: of its frames only 83 and 50 start anything that writes, they name pages of the call's own slot,
 -- and a get sends neither. So every other page keeps its bytes, whatever the chip and the script; and read-back holds through calls elsewhere.
 -- Assumes nothing.
+use Rattle.std.specs.Prelude.{None, Option, Some}
 use Prim.Native.Nat.{ℕ, zero, suc, ◌+◌, ◌*◌, ◌/◌, ◌%◌, ◌<◌, ◌≤◌}
 use native.Mathlib.Omega.{arith}
 use mathlib.Core.Path.{◌≡◌, refl, sym, ap, subst, ◌∙◌}
@@ -12,8 +13,6 @@ use lib.Dec.{eqb}
 use borrow.Author.Tests.{eqb-true, eq-eqb, ne_eqb}
 use Rattle.slices.specs.Lists.{tabulate}
 use Rattle.geometry.specs.declared.Geometry.{Geometry}
-use Rattle.geometry.specs.declared.Part.{Part}
-use Rattle.geometry.specs.declared.Part.TheVariants.{Known, Unknown}
 use Rattle.geometry.specs.Parts.{part_of, address_at, page_at, page_of}
 use Rattle.geometry.specs.Sectors.{sector_of}
 use Rattle.geometry.proofs.Pages.{sized}
@@ -167,7 +166,7 @@ module _ (g : Geometry) (first end : ℕ) where
       (λ i. cases (λ (c : Decision). Spares g first end c.registers.operation) (sealed g r (sector_of g page)) {x = ignored r} {y = started r o}
       (idle_spares g first end r.operation i) u)
 
-  module _ (n : ℕ) (part : part_of n ≡ Known g) (r : Registers) (k : Kind) (h : Holding) where
+  module _ (n : ℕ) (part : part_of n ≡ Some g) (r : Registers) (k : Kind) (h : Holding) where
     -- the page that an 83 or a 50 names
     named : (opcode p : ℕ) → p < g.pages → page_at g (address_at (opcode ∷ g.field * p / 65536 % 256 ∷ g.field * p / 256 % 256 ∷ g.field * p % 256 ∷ []) 1) ≡ p
     named opcode p l = ap (page_at g) (address-bytes opcode (g.field * p) [] (addressed-few n g p part l)) ∙ page_address g p l (sized n g part).addressed
@@ -233,7 +232,7 @@ ended_quiet first end (suc n) g v p q e = (
 
 module _ (g : Geometry) (first end : ℕ) (v : Request) (x : Secret) (s : State) where
   -- what any step of the call starts
-  any_step : (n : ℕ) → part_of n ≡ Known g → 8 * v.asked.slot + 8 ≤ g.pages → Apart first end v.asked → (i : ℕ) (r : Registers) (h : Holding)
+  any_step : (n : ℕ) → part_of n ≡ Some g → 8 * v.asked.slot + 8 ≤ g.pages → Apart first end v.asked → (i : ℕ) (r : Registers) (h : Holding)
       → is_end (step_at (plan_of g v.asked) i) ≡ false → Spares g first end (started_by g r (frame_of g v.asked.kind h (step_at (plan_of g v.asked) i)))
   unfolding in_slot is_still
   any_step n part fits (inl e) i r h o =
@@ -243,7 +242,7 @@ module _ (g : Geometry) (first end : ℕ) (v : Request) (x : Secret) (s : State)
       step-spares g first end n part r v.asked.kind h v.asked.slot fits far (step_at (plan_of g v.asked) i) o
       (step-every (in_slot v.asked.slot) (plan_of g v.asked) i refl (plan_in v.asked.kind g v.asked.slot))
 
-  frames_quiet : (k : ℕ) → part_of k ≡ Known g → 8 * v.asked.slot + 8 ≤ g.pages → Apart first end v.asked → (n : ℕ) (p : Open) (q : Closed)
+  frames_quiet : (k : ℕ) → part_of k ≡ Some g → 8 * v.asked.slot + 8 ≤ g.pages → Apart first end v.asked → (n : ℕ) (p : Open) (q : Closed)
       → Ok (plan_of g v.asked) v.asked.limit n p.course → QuietFrames first end n g v p q
   frames_quiet k part fits far zero p q w = tt
   frames_quiet k part fits far (suc n) p q w = (
@@ -251,7 +250,7 @@ module _ (g : Geometry) (first end : ℕ) (v : Request) (x : Secret) (s : State)
     frames_quiet k part fits far n (step_open g v p q) (step_closed g v p q) (step_ok g v p q n w),
   )
 
-  pub call_quiet : part_in s ≡ Known g → Apart first end v.asked → QuietCall first end g v x s
+  pub call_quiet : part_in s ≡ Some g → Apart first end v.asked → QuietCall first end g v x s
   unfolding start_open
   call_quiet k far = go (eqb (number_of (refusal_of g n v)) 0) refl
     where
@@ -265,13 +264,13 @@ module _ (g : Geometry) (first end : ℕ) (v : Request) (x : Secret) (s : State)
 
 -- NOTHING ELSE IS TOUCHED: in any state and under any script, a call leaves every page outside its slot that the operation under way before it was not
 -- writing; and a get leaves those of its slot too
-pub call-spares : (a : Asked) (detail : Detail) (sc payload junk lg lent : List ℕ) (s : State) (g : Geometry) (p : ℕ) → part_in s ≡ Known g → p < g.pages
+pub call-spares : (a : Asked) (detail : Detail) (sc payload junk lg lent : List ℕ) (s : State) (g : Geometry) (p : ℕ) → part_in s ≡ Some g → p < g.pages
     → (a.kind ≡ Get) ⊎ (p / 8 ≡ a.slot → ⊥) → writes g s.registers.operation p ≡ false
     → page_of g p (next_of (call a detail sc payload junk lg lent) s).memory.array ≡ page_of g p s.memory.array
 call-spares a detail sc payload junk lg lent s g p k l far w =
     (op_kept g p (suc p) (λ q. page_of g q s.memory.array) (call a detail sc payload junk lg lent) s
     (record { part = k; fits = l; spares = λ q i j. let e : q ≡ p = omega arith in ap (writes g s.registers.operation) e ∙ w; bytes = λ q i j. refl })
-    (subst (λ (z : Part). QuietBy p (suc p) z (call a detail sc payload junk lg lent) s) (sym k)
+    (subst (λ (z : Option Geometry). QuietBy p (suc p) z (call a detail sc payload junk lg lent) s) (sym k)
     (call_quiet g p (suc p) (asks g a detail sc payload junk lg lent) (secret payload detail junk lent) s k (apart far)))
     ).bytes p (omega arith) (omega arith)
   where
@@ -292,17 +291,17 @@ abbrev pub AllElsewhere : ℕ → List Op → Type 0
 AllElsewhere slot [] = Unit {0}
 AllElsewhere slot (o ∷ os) = Elsewhere slot o × AllElsewhere slot os
 
-op_quiet : (slot : ℕ) (o : Op) (s : State) (p : Part) → part_in s ≡ p → Elsewhere slot o → QuietBy (8 * slot) (8 * slot + 8) p o s
-op_quiet slot o s Unknown k u = tt
-op_quiet slot o s (Known g) k (calls a detail sc payload junk lg lent far) =
+op_quiet : (slot : ℕ) (o : Op) (s : State) (p : Option Geometry) → part_in s ≡ p → Elsewhere slot o → QuietBy (8 * slot) (8 * slot + 8) p o s
+op_quiet slot o s None k u = tt
+op_quiet slot o s (Some g) k (calls a detail sc payload junk lg lent far) =
     call_quiet g (8 * slot) (8 * slot + 8) (asks g a detail sc payload junk lg lent) (secret payload detail junk lent) s k (apart far)
   where
     apart : (a.kind ≡ Get) ⊎ (a.slot ≡ slot → ⊥) → Apart (8 * slot) (8 * slot + 8) a
     apart (inl e) = inl e
     apart (inr f) = inr (λ q i j e. f (omega (arith, e)))
-op_quiet slot o s (Known g) k (pins high) = tt
-op_quiet slot o s (Known g) k ends = tt
-op_quiet slot o s (Known g) k (cuts junk) = tt
+op_quiet slot o s (Some g) k (pins high) = tt
+op_quiet slot o s (Some g) k ends = tt
+op_quiet slot o s (Some g) k (cuts junk) = tt
 
 pub elsewhere_quiet : (slot : ℕ) (os : List Op) (s : State) → AllElsewhere slot os → QuietIn slot os s
 elsewhere_quiet slot [] s u = tt

@@ -1,6 +1,7 @@
 -- A get of a slot reads it: while its frames go out nothing is started, so the slot keeps its bytes; after a ready status each D2 tells its page; and the
 -- bytes staged at its end are the slot's.
 -- Assumes nothing.
+use Rattle.std.specs.Prelude.{Some, None}
 use Prim.Native.Nat.{ℕ, zero, suc, ◌+◌, ◌-◌, ◌*◌, ◌/◌, ◌%◌, ◌<◌, ◌≤◌}
 use native.Mathlib.Omega.{arith}
 use native.Mathlib.Nat.{mul-le-mul_left, div-lt_iff_lt-mul, div-add-mod, mod-lt}
@@ -15,7 +16,6 @@ use Rattle.geometry.proofs.Pages.{sized}
 use Rattle.slices.specs.Lists.{tabulate, splice}
 use Rattle.slices.proofs.Laws.{length-tabulate, get_or-tabulate, length-splice, splice_at, splice_before}
 use Rattle.geometry.specs.declared.Geometry.{Geometry}
-use Rattle.geometry.specs.declared.Part.TheVariants.{Known}
 use Rattle.geometry.specs.Parts.{part_of, slot_room}
 use Rattle.registers.specs.declared.Registers.{Registers}
 use Rattle.registers.proofs.Places.{placed_known}
@@ -28,7 +28,6 @@ use Rattle.state.specs.Frames.{reply_of}
 use Rattle.state.specs.Completion.{completed_memory}
 use Rattle.slots.specs.declared.Course.{Course}
 use Rattle.slots.specs.declared.Kind.TheVariants.{Get}
-use Rattle.slots.specs.declared.Stage.TheVariants.{Going, Ended}
 use Rattle.slots.specs.declared.Step.{Step}
 use Rattle.slots.specs.declared.Step.TheVariants.{Wait, Read}
 use Rattle.slots.specs.declared.Verdict.{Verdict}
@@ -78,14 +77,14 @@ module _ (g : Geometry) (slot today : ℕ) (b : ℕ → ℕ) where
   abbrev facts : Facts
   facts =
       record {
-        Room = λ m. part_of (length m.array) ≡ Known g;
-        steady = array_steady (λ n. part_of n ≡ Known g);
+        Room = λ m. part_of (length m.array) ≡ Some g;
+        steady = array_steady (λ n. part_of n ≡ Some g);
         Know = Know;
         Holds = Holds;
         Lawful = Lawful;
       }
 
-  stays : (k : Know) (l d : Bool) (r : Registers) (m : Memory) (h : Holding) → part_of (length m.array) ≡ Known g → Holds k l d r m h
+  stays : (k : Know) (l d : Bool) (r : Registers) (m : Memory) (h : Holding) → part_of (length m.array) ≡ Some g → Holds k l d r m h
       → Holds k l d (completed g r) (completed_memory g r.operation m) h
   stays cold l d r m h e u = (end_kept u.0, u.1)
   stays (reading p) l d r m h e u = idle_stays g r m (λ t n. Holds (reading p) l d t n h) u.1.0 u
@@ -125,7 +124,7 @@ module _ (g : Geometry) (slot today : ℕ) (b : ℕ → ℕ) where
       judges v t true z = λ i. get_verdict g (u.day i) ((w ∙ ap (λ (n : ℕ). tabulate g.size (λ j. b (g.size * n + j))) (eqb-true (p % 8) 0 z)) i)
       judges v t false z = t (λ y. eqb-false (p % 8) 0 z (omega (arith, y)))
 
-  module _ (limit : ℕ) (plan : List Step) (c : Course) (r : Registers) (m : Memory) (h : Holding) (e : part_of (length m.array) ≡ Known g) (live : is_ended c.stage ≡ false) where
+  module _ (limit : ℕ) (plan : List Step) (c : Course) (r : Registers) (m : Memory) (h : Holding) (e : part_of (length m.array) ≡ Some g) (live : is_ended c.stage ≡ false) where
     turned : {x : Step} {k : Know} (S : ℕ) → is_end x ≡ false → rest_at plan c.place ≡ x ∷ rest_at plan (suc c.place) → Lawful k (x ∷ rest_at plan (suc c.place))
         → Holds k c.listed c.guarded r m h → Turned facts g Get S limit plan c r m h x
     unfolding heard course_by taken_by
@@ -175,7 +174,7 @@ module _ (g : Geometry) (slot limit : ℕ) (script : List ℕ) (log junk : ℕ) 
   asks = request (asking Get slot limit) script log junk flaws
 
   pub call-reads : (b : ℕ → ℕ) (x : Secret) (s : State) → 0 < g.size → KeptSlot g slot b s → eqb (number_of (refusal_of g (length s.memory.array) asks)) 0 ≡ true
-      → (ran g asks x s).0.course.stage ≡ Ended Answers.Done → Got g x.aim.today b (ran g asks x s).1.holding
+      → (ran g asks x s).0.course.stage ≡ Some Answers.Done → Got g x.aim.today b (ran g asks x s).1.holding
   unfolding ran start_open start_closed first_course is_ended slot_size
   call-reads b x s some k e stage =
       let today = x.aim.today in
@@ -193,7 +192,7 @@ module _ (g : Geometry) (slot limit : ℕ) (script : List ℕ) (log junk : ℕ) 
           subst (Lawful g slot today b cold) (sym (rest-zero plan)) (get_lawful g slot today b),
         );
         uncut = λ _. refl;
-        over = λ h. never (ap is_ended (sym (ap (λ (b : Bool). cond b Going (Ended (refusal_of g n asks))) e)) ∙ ap is_ended h);
+        over = λ h. never (ap is_ended (sym (ap (λ (b : Bool). cond b None (Some (refusal_of g n asks))) e)) ∙ ap is_ended h);
       }) in
       let z = ran g asks x s in
       let w = t.here (inr stage) in

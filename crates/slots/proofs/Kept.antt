@@ -1,6 +1,7 @@
 -- Pages in which nothing is programmed or erased keep their bytes: a frame leaves the array, and a busy end or a cut leaves the pages that the
 -- operation under way does not write. So what spares them at each frame spares them through every list.
 -- Assumes nothing.
+use Rattle.std.specs.Prelude.{Option, Some}
 use Prim.Native.Nat.{ℕ, zero, suc, ◌<◌}
 use Rattle.registers.proofs.Places.{placed_sized}
 use mathlib.Core.Path.{◌≡◌, refl, sym, ap, subst, ◌∙◌}
@@ -10,8 +11,6 @@ use native.Mathlib.Omega.{arith}
 use lib.ListN.{length}
 use lib.Dec.{eqb}
 use Rattle.geometry.specs.declared.Geometry.{Geometry}
-use Rattle.geometry.specs.declared.Part.{Part}
-use Rattle.geometry.specs.declared.Part.TheVariants.{Known}
 use Rattle.geometry.specs.Parts.{page_of}
 use Rattle.registers.specs.declared.Operation.{Operation}
 use Rattle.registers.specs.declared.Operation.TheVariants.{Idle}
@@ -149,7 +148,7 @@ module _ (g : Geometry) (first end : ℕ) (b : ℕ → List ℕ) where
 
   -- ---- every call and event, and lists of them
 
-  at_kept : (o : Op) (s : State) → KeptIn s → QuietBy first end (Known g) o s → KeptIn (next_at (Known g) o s)
+  at_kept : (o : Op) (s : State) → KeptIn s → QuietBy first end (Some g) o s → KeptIn (next_at (Some g) o s)
   unfolding next_at called_by raw_left raw_next state_after sent_by ended_by ended_state pin_outcome pinned_state cut_by
   at_kept (call a detail script payload junk log lent) s u w = call_kept (asks g a detail script payload junk log lent) (secret payload detail junk lent) s u w
   at_kept (raw frame script junk log reply) s u w =
@@ -166,7 +165,7 @@ module _ (g : Geometry) (first end : ℕ) (b : ℕ → List ℕ) where
   pub op_kept : (o : Op) (s : State) → KeptIn s → QuietBy first end (part_in s) o s → KeptIn (next_of o s)
   op_kept o s u w =
       subst KeptIn (sym (next_at_lem o s))
-      (subst (λ (p : Part). KeptIn (next_at p o s)) (sym u.part) (at_kept o s u (subst (λ (p : Part). QuietBy first end p o s) u.part w)))
+      (subst (λ (p : Option Geometry). KeptIn (next_at p o s)) (sym u.part) (at_kept o s u (subst (λ (p : Option Geometry). QuietBy first end p o s) u.part w)))
 
   pub list_kept : (os : List Op) (s : State) → KeptIn s → Quiet first end os s → KeptIn (left_by os s)
   unfolding left_by

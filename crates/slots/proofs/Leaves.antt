@@ -1,6 +1,8 @@
 -- WHAT A CALL LEAVES: an undisturbed call comes to its end, so its slot is written as `Stores` has it, every other page is spared, and byte by byte the array
 -- is the old one with the slot's bytes in their place.
 -- Assumes nothing.
+use Rattle.state.specs.declared.Answer.{Answer}
+use Rattle.std.specs.Prelude.{Option, Some}
 use Prim.Native.Nat.{ℕ, ◌+◌, ◌-◌, ◌*◌, ◌/◌, ◌%◌, ◌<◌, ◌≤◌}
 use native.Mathlib.Omega.{arith}
 use native.Mathlib.Nat.{mul_comm, add-mul, div-add-mod', mod-lt, mul-le-mul_left}
@@ -15,8 +17,6 @@ use borrow.Author.Tests.{eqb-true, eqb-false, ltb-true, ltb-false}
 use Rattle.slices.specs.Lists.{tabulate, splice}
 use Rattle.slices.proofs.Laws.{length-tabulate, get_or-tabulate, tabulate-same, tabulate-get_or, length-splice, splice_before, splice_in, splice-after}
 use Rattle.geometry.specs.declared.Geometry.{Geometry}
-use Rattle.geometry.specs.declared.Part.{Part}
-use Rattle.geometry.specs.declared.Part.TheVariants.{Known}
 use Rattle.geometry.specs.Parts.{Sized, page_of, page_start, slot_room}
 use Rattle.geometry.proofs.Pages.{sized_own, length-page_of, get_or-page_of, page_few, start_mono, start-next, start_add}
 use Rattle.geometry.specs.Sectors.{sector_of}
@@ -28,7 +28,6 @@ use Rattle.registers.proofs.Places.{placed_sized}
 use Rattle.state.specs.Answers.{number_of}
 use Rattle.slots.specs.declared.Kind.{Kind}
 use Rattle.slots.specs.declared.Kind.TheVariants.{Put, Patch, Get, Wipe}
-use Rattle.slots.specs.declared.Stage.{Stage}
 use Rattle.state.specs.Memory.{State, chip_in}
 use Rattle.state.specs.Outcomes.{part_in, cut_state}
 use Rattle.state.specs.Whole.{Whole}
@@ -146,7 +145,7 @@ module _ (g : Geometry) (slot : ℕ) where
 -- ---- an undisturbed call
 
 -- what the array holds of the slot, on an idle chip
-slot_kept : (g : Geometry) (slot : ℕ) (s : State) → part_in s ≡ Known g → s.registers.operation ≡ Idle → 8 * slot + 8 ≤ g.pages → KeptSlot g slot (slot_byte g slot s.memory.array) s
+slot_kept : (g : Geometry) (slot : ℕ) (s : State) → part_in s ≡ Some g → s.registers.operation ≡ Idle → 8 * slot + 8 ≤ g.pages → KeptSlot g slot (slot_byte g slot s.memory.array) s
 slot_kept g slot s k i fits =
     let n = length s.memory.array in
     record {
@@ -156,7 +155,7 @@ slot_kept g slot s k i fits =
       bytes = λ q l u. page_in_slot g slot s.memory.array q (placed_sized n s.registers.operation g k) fits l u;
     }
 
-module _ (g : Geometry) (slot limit : ℕ) (detail : Detail) (payload junk log lent : List ℕ) (s : State) (whole : Whole (chip_in s)) (k : part_in s ≡ Known g) where
+module _ (g : Geometry) (slot limit : ℕ) (detail : Detail) (payload junk log lent : List ℕ) (s : State) (whole : Whole (chip_in s)) (k : part_in s ≡ Some g) where
   abbrev n : ℕ
   n = length s.memory.array
 
@@ -192,7 +191,7 @@ module _ (g : Geometry) (slot limit : ℕ) (detail : Detail) (payload junk log l
     unfolding next_of called_by
     spared q l far =
         ap (λ (t : State). page_of g q t.memory.array) (sym next_is)
-        ∙ ap (λ (p : Part). page_of g q (called_by p (asking K slot limit) detail [] payload junk log lent s).memory.array) (sym k)
+        ∙ ap (λ (p : Option Geometry). page_of g q (called_by p (asking K slot limit) detail [] payload junk log lent s).memory.array) (sym k)
         ∙ call-spares (asking K slot limit) detail [] payload junk log lent s g q k l far
         (ap (λ (o : Operation). writes g o q) u.ready.0 ∙ writes_idle g q)
 
@@ -206,7 +205,7 @@ module _ (g : Geometry) (slot limit : ℕ) (detail : Detail) (payload junk log l
 
     answer_is : (call_out g (v K) x s).answer ≡ verdict_answer (ran g (v K) x s).1.holding.verdict
     unfolding call_out out_from told_by answer_in weighed number_of
-    answer_is = ap (λ (t : Stage). answer_in (told_by t (ran g (v K) x s).1.holding.verdict)) well.stage
+    answer_is = ap (λ (t : Option Answer). answer_in (told_by t (ran g (v K) x s).1.holding.verdict)) well.stage
 
     -- the run of a call that writes its slot
     stored : (W : Writer g K slot) → Lawful g K slot W fits few cold (plan_by K g slot) → W.Opens s.registers s.memory → W.Fresh (8 * slot) (start_closed x s.memory).holding
@@ -251,10 +250,10 @@ module _ (g : Geometry) (slot limit : ℕ) (detail : Detail) (payload junk log l
       }
 
 -- WHAT A CALL LEAVES, where it is undisturbed
-pub call-leaves : (g : Geometry) (a : Asked) (detail : Detail) (payload junk log lent : List ℕ) (s : State) → Whole (chip_in s) → part_in s ≡ Known g → Undisturbed g a s.registers
+pub call-leaves : (g : Geometry) (a : Asked) (detail : Detail) (payload junk log lent : List ℕ) (s : State) → Whole (chip_in s) → part_in s ≡ Some g → Undisturbed g a s.registers
     → eqb (number_of (refusal_of g (length s.memory.array) (asks g a detail [] payload junk log lent))) 0 ≡ true
     → Leaves g a (aim_of detail) payload s (out_of (call a detail [] payload junk log lent) s) (next_of (call a detail [] payload junk log lent) s)
 unfolding out_of call_by next_of called_by
 call-leaves g a detail payload junk log lent s w k u e =
-    subst (λ (p : Part). Leaves g a (aim_of detail) payload s (call_by p a detail [] payload junk log lent s) (called_by p a detail [] payload junk log lent s)) (sym k)
+    subst (λ (p : Option Geometry). Leaves g a (aim_of detail) payload s (call_by p a detail [] payload junk log lent s) (called_by p a detail [] payload junk log lent s)) (sym k)
     (leaves_by g a.slot a.limit detail payload junk log lent s w k a.kind u e)

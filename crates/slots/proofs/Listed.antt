@@ -1,6 +1,7 @@
 -- With an empty script, on an idle and awake chip, a call sends its plan step by step, each wait one D7: every frame leaves the registers
 -- as they were once its busy end has come, so each status tells ready, and the sector's bits are the registers'.
 -- Assumes nothing.
+use Rattle.std.specs.Prelude.{Some}
 use Prim.Native.Nat.{ℕ, zero, suc, ◌+◌, ◌/◌, ◌%◌, ◌<◌}
 use borrow.Author.Tests.{eqb-true}
 use native.Mathlib.Omega.{arith}
@@ -12,7 +13,6 @@ use lib.Dec.{eqb, lit<, lit≤}
 use Rattle.slices.specs.Lists.{tabulate}
 use Rattle.slices.proofs.Laws.{length-tabulate, tabulate-same, tabulate-get_or}
 use Rattle.geometry.specs.declared.Geometry.{Geometry}
-use Rattle.geometry.specs.declared.Part.TheVariants.{Known}
 use Rattle.registers.specs.declared.Registers.{Registers}
 use Rattle.registers.specs.Protection.{Roomed, has_bits, guarded, sealed}
 use Rattle.registers.proofs.Places.{placed_sized}
@@ -30,7 +30,6 @@ use Rattle.state.proofs.Replies.{status-byte, protection-byte, lockdown-byte}
 use Rattle.state.specs.declared.Answer.TheVariants as Answers
 use Rattle.slots.specs.declared.Kind.{Kind}
 use Rattle.slots.specs.declared.Kind.TheVariants.{Put, Patch, Get, Wipe}
-use Rattle.slots.specs.declared.Stage.TheVariants.{Ended}
 use Rattle.slots.specs.declared.Step.{Step}
 use Rattle.slots.specs.declared.Step.TheVariants.{Wait, Protection, Lockdown, Read, Load, Send, End}
 use Rattle.slots.specs.Plans.{Asked, pages, opening, is_asking, page_steps, run_by, plan_by, plan_of, sector_for, bound, is_end, is_wait, waits_in}
@@ -265,7 +264,7 @@ module _ (g : Geometry) (full : Roomed g) (a : Asked) (r : Registers) (y : Ready
 -- an accepted call that nothing disturbs comes to its plan's end
 pub record EndsWell (g : Geometry) (a : Asked) (v : Request) (x : Secret) (s : State) : Type 0 where
   pub listed : AsListed g a (start_closed x s.memory).holding (exchanges g v x s) (call_out g v x s)
-  pub stage : (ran g v x s).0.course.stage ≡ Ended Answers.Done
+  pub stage : (ran g v x s).0.course.stage ≡ Some Answers.Done
   pub registers : (ran g v x s).0.registers ≡ s.registers
   pub uncut : (ran g v x s).0.cut ≡ false
 
@@ -296,7 +295,7 @@ ends_well g full a log junk flaws x s u e =
     }
 
 -- FRAMES AS LISTED: it sends its plan, one D7 a wait
-pub frames_as_listed : (g : Geometry) (a : Asked) (log junk : ℕ) (flaws : Flaws) (x : Secret) (s : State) → part_in s ≡ Known g → Undisturbed g a s.registers
+pub frames_as_listed : (g : Geometry) (a : Asked) (log junk : ℕ) (flaws : Flaws) (x : Secret) (s : State) → part_in s ≡ Some g → Undisturbed g a s.registers
     → eqb (number_of (refusal_of g (length s.memory.array) (request a [] log junk flaws))) 0 ≡ true
     → AsListed g a (start_closed x s.memory).holding (exchanges g (request a [] log junk flaws) x s) (call_out g (request a [] log junk flaws) x s)
 frames_as_listed g a log junk flaws x s k u e =

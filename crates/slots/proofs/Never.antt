@@ -1,6 +1,7 @@
 -- NEVER 16: over the chip as modelled no call answers it. Where a call compares a page it has loaded, programmed and waited for it before (`Stores`), so that the
 -- 60 finds page and buffer alike; and no other call compares.
 -- Assumes nothing.
+use Rattle.std.specs.Prelude.{None, Option, Some}
 use Prim.Native.Nat.{ℕ, ◌+◌, ◌*◌, ◌≤◌, ◌<◌}
 use native.Mathlib.Omega.{arith}
 use mathlib.Core.Path.{◌≡◌, refl, sym, ap, subst, ◌∙◌}
@@ -9,8 +10,6 @@ use mathlib.Core.List.{List, [], ◌∷◌}
 use lib.ListN.{length, length-replicate}
 use lib.Dec.{eqb, leb, ltb}
 use Rattle.geometry.specs.declared.Geometry.{Geometry}
-use Rattle.geometry.specs.declared.Part.{Part}
-use Rattle.geometry.specs.declared.Part.TheVariants.{Known, Unknown}
 use Rattle.geometry.specs.Parts.{slot_room, Sized, page_of}
 use Rattle.geometry.proofs.Pages.{sized_own}
 use Rattle.registers.proofs.Places.{placed_sized}
@@ -25,7 +24,6 @@ use Rattle.state.proofs.Lengths.{completed-array-length}
 use Rattle.slots.specs.declared.Detail.{Detail}
 use Rattle.slots.specs.declared.Kind.{Kind}
 use Rattle.slots.specs.declared.Kind.TheVariants.{Put, Patch, Get, Wipe}
-use Rattle.slots.specs.declared.Stage.TheVariants.{Ended}
 use Rattle.slots.specs.declared.Verdict.{Verdict}
 use Rattle.slots.specs.declared.Verdict.TheVariants.{Good, Blank, Beyond}
 use Rattle.slots.specs.Plans.{plan_by}
@@ -76,7 +74,7 @@ refuses_other a Q.dates = by_number Answers.Dates refl
 
 -- ---- put, patch, get, wipe
 
-module _ (g : Geometry) (slot limit : ℕ) (detail : Detail) (script payload junk log lent : List ℕ) (s : State) (whole : Whole (chip_in s)) (k : part_in s ≡ Known g) where
+module _ (g : Geometry) (slot limit : ℕ) (detail : Detail) (script payload junk log lent : List ℕ) (s : State) (whole : Whole (chip_in s)) (k : part_in s ≡ Some g) where
   abbrev n : ℕ
   n = length s.memory.array
 
@@ -110,7 +108,7 @@ module _ (g : Geometry) (slot limit : ℕ) (detail : Detail) (script payload jun
   unfolding verdict_answer number_of
   good_other v e = subst (λ (w : Verdict). No16 (verdict_answer w)) (sym e) (by_number Answers.Done refl)
 
-  module _ (K : Kind) (e : eqb (number_of (refusal_of g n (v K))) 0 ≡ true) (stage : (ran g (v K) x s).0.course.stage ≡ Ended Answers.Done) where
+  module _ (K : Kind) (e : eqb (number_of (refusal_of g n (v K))) 0 ≡ true) (stage : (ran g (v K) x s).0.course.stage ≡ Some Answers.Done) where
     fits : 8 * slot + 8 ≤ g.pages
     fits = (accepted g n (v K) e).asked.fits
 
@@ -119,7 +117,7 @@ module _ (g : Geometry) (slot limit : ℕ) (detail : Detail) (script payload jun
     stored W law o f = call_stores g (v K) W x s k (omega (arith, sizes.most, whole.buffer1)) e fits few law o f stage
 
   -- a call that comes to its plan's end
-  finished_other : (K : Kind) → eqb (number_of (refusal_of g n (v K))) 0 ≡ true → (ran g (v K) x s).0.course.stage ≡ Ended Answers.Done
+  finished_other : (K : Kind) → eqb (number_of (refusal_of g n (v K))) 0 ≡ true → (ran g (v K) x s).0.course.stage ≡ Some Answers.Done
       → (K ≡ Get → No16 (verdict_answer (ran g (v K) x s).1.holding.verdict)) → No16 (verdict_answer (ran g (v K) x s).1.holding.verdict)
   unfolding put_writer patch_writer wipe_writer start_closed aim_of
   finished_other Put e t u =
@@ -167,22 +165,22 @@ met_other : (b : Bool) (x y : Left) → No16 x.answer → No16 y.answer → No16
 met_other true x y u w = u
 met_other false x y u w = w
 
-at_never : (p : Part) (o : Op) (s : State) → part_in s ≡ p → Whole (chip_in s) → No16 (out_at p o s).answer
+at_never : (p : Option Geometry) (o : Op) (s : State) → part_in s ≡ p → Whole (chip_in s) → No16 (out_at p o s).answer
 unfolding out_at call_by raw_by raw_out raw_sent sent_by ended_by pin_outcome cut_by number_of
-at_never (Known g) (call a d script payload junk log lent) s e w = call_never g a.slot a.limit d script payload junk log lent s w e a.kind
-at_never (Known g) (raw frame script junk log reply) s e w =
+at_never (Some g) (call a d script payload junk log lent) s e w = call_never g a.slot a.limit d script payload junk log lent s w e a.kind
+at_never (Some g) (raw frame script junk log reply) s e w =
     cases (λ (o : Out). No16 o.answer) (eqb (number_of (raw_refusal g (length s.memory.array) frame (length reply) (length log) script (length junk))) 0)
     (cases No16 (eqb (scripted script 0) 2) (by_number Answers.Cut refl) (by_number Answers.Done refl)) (raw_other g (length s.memory.array) (length reply) (length log) (length junk) frame script)
-at_never (Known g) (straight frame reply) s e w = met_other (framed (length frame) (length reply)) _ _ (by_number Answers.Done refl) (by_number Answers.Frame refl)
-at_never (Known g) (pin high) s e w = by_number Answers.Done refl
-at_never (Known g) busy_end s e w = by_number Answers.Done refl
-at_never (Known g) (cut junk) s e w = met_other (cut_fits g (length s.memory.array) (length junk)) _ _ (by_number Answers.Done refl) (by_number Answers.Script refl)
-at_never Unknown (call a d script payload junk log lent) s e w = by_number Answers.Part refl
-at_never Unknown (raw frame script junk log reply) s e w = by_number Answers.Part refl
-at_never Unknown (straight frame reply) s e w = by_number Answers.Part refl
-at_never Unknown (pin high) s e w = by_number Answers.Done refl
-at_never Unknown busy_end s e w = by_number Answers.Part refl
-at_never Unknown (cut junk) s e w = by_number Answers.Part refl
+at_never (Some g) (straight frame reply) s e w = met_other (framed (length frame) (length reply)) _ _ (by_number Answers.Done refl) (by_number Answers.Frame refl)
+at_never (Some g) (pin high) s e w = by_number Answers.Done refl
+at_never (Some g) busy_end s e w = by_number Answers.Done refl
+at_never (Some g) (cut junk) s e w = met_other (cut_fits g (length s.memory.array) (length junk)) _ _ (by_number Answers.Done refl) (by_number Answers.Script refl)
+at_never None (call a d script payload junk log lent) s e w = by_number Answers.Part refl
+at_never None (raw frame script junk log reply) s e w = by_number Answers.Part refl
+at_never None (straight frame reply) s e w = by_number Answers.Part refl
+at_never None (pin high) s e w = by_number Answers.Done refl
+at_never None busy_end s e w = by_number Answers.Part refl
+at_never None (cut junk) s e w = by_number Answers.Part refl
 
 pub op_never : (o : Op) (s : State) → Whole (chip_in s) → No16 (out_of o s).answer
 op_never o s w = subst (λ (x : Out). No16 x.answer) (sym (out_at_lem o s)) (at_never (part_in s) o s refl w)

@@ -1,14 +1,15 @@
 -- What calls and events do, by the part: it is looked up first, so a proof may go by it.
 -- Assumes nothing.
+use Rattle.geometry.specs.declared.Geometry.{Geometry}
+use Rattle.std.specs.Prelude.{Option}
 use mathlib.Core.Path.{◌≡◌, refl}
 use mathlib.Core.Bool.{Bool, true, false, cond}
-use Rattle.geometry.specs.declared.Part.{Part}
 use Rattle.state.specs.Memory.{State}
 use Rattle.state.specs.Outcomes.{part_in, sent_by, send_outcome, ended_by, end_outcome, pin_outcome, cut_by, cut_outcome}
 use Rattle.slots.specs.Calls.{Out}
 use Rattle.slots.specs.Lists.{Op, call, raw, straight, pin, busy_end, cut, met, call_by, raw_by, out_of, called_by, raw_left, next_of}
 
-unfoldable pub out_at : Part → Op → State → Out
+unfoldable pub out_at : Option Geometry → Op → State → Out
 out_at p (call a detail script payload junk log lent) s = call_by p a detail script payload junk log lent s
 out_at p (raw frame script junk log reply) s = raw_by p frame script junk log reply s
 out_at p (straight frame reply) s = met (sent_by p s frame reply)
@@ -16,7 +17,7 @@ out_at p (pin high) s = met (pin_outcome high s)
 out_at p busy_end s = met (ended_by p s)
 out_at p (cut junk) s = met (cut_by p junk s)
 
-unfoldable pub next_at : Part → Op → State → State
+unfoldable pub next_at : Option Geometry → Op → State → State
 next_at p (call a detail script payload junk log lent) s = called_by p a detail script payload junk log lent s
 next_at p (raw frame script junk log reply) s = raw_left p frame script junk log reply s
 next_at p (straight frame reply) s = (sent_by p s frame reply).state

@@ -1,5 +1,6 @@
 -- Places in a plan, and what a reply can do to a course, whatever the step: the one place where the transition is opened by steps.
 -- Assumes nothing.
+use Rattle.std.specs.Prelude.{None, Option, Some}
 use Prim.Native.Nat.{ℕ, zero, suc, ◌+◌, ◌-◌, ◌<◌}
 use mathlib.Core.Path.{◌≡◌, refl, sym, ap, subst, ◌∙◌}
 use mathlib.Core.Bool.{Bool, true, false, cond, not, ◌&&◌, ◌||◌}
@@ -14,8 +15,6 @@ use Rattle.state.specs.Answers.{number_of}
 use Rattle.slots.specs.declared.Course.{Course}
 use Rattle.slots.specs.declared.Kind.{Kind}
 use Rattle.slots.specs.declared.Kind.TheVariants.{Put, Patch, Get, Wipe}
-use Rattle.slots.specs.declared.Stage.{Stage}
-use Rattle.slots.specs.declared.Stage.TheVariants.{Going, Ended}
 use Rattle.slots.specs.declared.Step.{Step}
 use Rattle.slots.specs.declared.Step.TheVariants.{Wait, Protection, Lockdown, Read, Load, Send, End}
 use Rattle.slots.specs.Plans.{pages, opening, is_asking, page_steps, run_by, plan_by, step_at, is_end, is_wait}
@@ -108,7 +107,7 @@ rest-none (x ∷ xs) (suc i) e h = rest-none xs i (second (not (is_end x)) (ever
 -- the course on the next step, whatever is noted
 abbrev pub onward : Step → ℕ → Bool → Bool → Course → Course
 onward next limit l d c =
-    record { place = suc c.place; left = limit; stage = cond (is_end next) (Ended Answers.Done) Going; listed = l; guarded = d }
+    record { place = suc c.place; left = limit; stage = cond (is_end next) (Some Answers.Done) None; listed = l; guarded = d }
 
 -- the answers that end a call under way: 8 to 11
 abbrev pub Stops : Answer → Type 0
@@ -134,22 +133,22 @@ pub course_cases : (Q : Course → Type 0) (x next : Step) (limit : ℕ) (c : Co
 course_cases Q x next limit c o e u v w = course_ways Q x next limit c o (λ h. never (sym e ∙ h)) u v w
 
 -- a step that is gone on to is one
-pub onward_some : (next : Step) → is_ended (cond (is_end next) (Ended Answers.Done) Going) ≡ false → is_end next ≡ false
+pub onward_some : (next : Step) → is_ended (cond (is_end next) (Some Answers.Done) None) ≡ false → is_end next ≡ false
 unfolding is_ended
-onward_some next = known (λ (s : Stage). is_ended s ≡ false → is_end next ≡ false) (is_end next) (λ e h. never (sym h)) (λ e h. e)
+onward_some next = known (λ (s : Option Answer). is_ended s ≡ false → is_end next ≡ false) (is_end next) (λ e h. never (sym h)) (λ e h. e)
 
 -- they are not the plan's end
-pub not_done : {A : Type 0} (a : Answer) → Stops a → Ended a ≡ Ended Answers.Done → A
+pub not_done : {A : Type 0} (a : Answer) → Stops a → Some a ≡ Some Answers.Done → A
 unfolding number_of
 not_done a z e = let y : number_of a ≡ 0 = ap told e in absurd (omega (arith, y, z.0))
   where
-    told : Stage → ℕ
-    told Going = 0
-    told (Ended a) = number_of a
+    told : Option Answer → ℕ
+    told None = 0
+    told (Some a) = number_of a
 
 -- a call that has come to 0 is at the plan's end
 abbrev pub Over : List Step → Course → Type 0
-Over plan c = c.stage ≡ Ended Answers.Done → is_end (step_at plan c.place) ≡ true
+Over plan c = c.stage ≡ Some Answers.Done → is_end (step_at plan c.place) ≡ true
 
 pub course-over : (plan : List Step) (limit : ℕ) (c : Course) (o : Heard) → is_end (step_at plan c.place) ≡ false → is_ended c.stage ≡ false
     → Over plan (course_by (step_at plan c.place) (step_at plan (suc c.place)) limit c o)
@@ -157,4 +156,4 @@ unfolding is_ended
 course-over plan limit c o e live =
     course_cases (Over plan) (step_at plan c.place) (step_at plan (suc c.place)) limit c o e (λ a z h. not_done a z h)
     (λ _ _ h. never (sym live ∙ ap is_ended h))
-    (λ l d. known (λ (s : Stage). s ≡ Ended Answers.Done → is_end (step_at plan (suc c.place)) ≡ true) (is_end (step_at plan (suc c.place))) (λ z _. z) (λ z h. never (ap is_ended h)))
+    (λ l d. known (λ (s : Option Answer). s ≡ Some Answers.Done → is_end (step_at plan (suc c.place)) ≡ true) (is_end (step_at plan (suc c.place))) (λ z _. z) (λ z h. never (ap is_ended h)))

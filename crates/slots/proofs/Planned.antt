@@ -1,5 +1,6 @@
 -- FRAMES: a call's run on the chip is a machine that drives its plan, so its frames follow the plan in any state and under any script.
 -- Assumes nothing.
+use Rattle.std.specs.Prelude.{None, Option, Some}
 use Prim.Native.Nat.{ℕ, zero, suc, ◌+◌}
 use native.Mathlib.Omega.{arith}
 use mathlib.Core.Path.{◌≡◌, refl, sym, ap, subst, ◌∙◌}
@@ -13,8 +14,6 @@ use Rattle.state.specs.declared.Answer.{Answer}
 use Rattle.state.specs.declared.Answer.TheVariants as Answers
 use Rattle.state.specs.Answers.{number_of}
 use Rattle.slots.specs.declared.Course.{Course}
-use Rattle.slots.specs.declared.Stage.{Stage}
-use Rattle.slots.specs.declared.Stage.TheVariants.{Going, Ended}
 use Rattle.slots.specs.declared.Step.{Step}
 use Rattle.state.specs.Memory.{State}
 use Rattle.slots.specs.Plans.{Asked, plan_of, sector_for, bound, step_at, is_wait}
@@ -157,7 +156,7 @@ comes g v x s ok =
     let p = start_open g (length s.memory.array) v s.registers in
     let q = start_closed x s.memory in
     let n = bound g v.asked in
-    let go : is_ended p.course.stage ≡ false = ap (λ (b : Bool). is_ended (cond b Going (Ended (refusal_of g (length s.memory.array) v)))) ok in
+    let go : is_ended p.course.stage ≡ false = ap (λ (b : Bool). is_ended (cond b None (Some (refusal_of g (length s.memory.array) v)))) ok in
     let z = run_led g v.asked (on_chip g v) n (p, q) (begin_ok g (length s.memory.array) v ok) (inl go) in
     let l = run_logged n g v p q in
     let r = run_is g v n p q in
@@ -180,7 +179,7 @@ comes g v x s ok =
   where
     answered : (t : Result) → Ends (on_chip g v) t (ran g v x s) → Late t → answer_at (ran g v x s) ≡ answer_for t
     answered (finished h) u l = λ i. answer_in (told_by (u.0 i) (u.1 i).verdict)
-    answered (stopped n) u l = ap (λ (t : Stage). answer_in (told_by t (ran g v x s).1.holding.verdict)) u ∙ weighed_other n (ran g v x s).1.holding.verdict l
+    answered (stopped n) u l = ap (λ (t : Option Answer). answer_in (told_by t (ran g v x s).1.holding.verdict)) u ∙ weighed_other n (ran g v x s).1.holding.verdict l
 
 -- FRAMES: an accepted call's frames, in any state and under any script, follow its plan, and so do polls, log and answer
 pub frames_as_planned : (g : Geometry) (v : Request) (x : Secret) (s : State) → eqb (number_of (refusal_of g (length s.memory.array) v)) 0 ≡ true

@@ -2,6 +2,7 @@
 -- A put that answers 0 leaves the record in the slot (`put_holds`), what starts nothing in the slot leaves it there (`list_holds`), a get of a slot that
 -- holds a record returns it (`get_returns`); and a patch that answers 0 leaves the patched recipe (`patch-holds`).
 -- Assumes nothing.
+use Rattle.std.specs.Prelude.{None, Option, Some}
 use Prim.Native.Nat.{ℕ, ◌+◌, ◌*◌, ◌/◌, ◌%◌, ◌<◌, ◌≤◌}
 use native.Mathlib.Omega.{arith}
 use mathlib.Core.Path.{◌≡◌, refl, sym, ap, subst, ◌∙◌}
@@ -14,8 +15,6 @@ use borrow.Author.Tests.{ltb-false}
 use Rattle.slices.specs.Lists.{over, splice}
 use Rattle.slices.proofs.Laws.{get_or-tabulate, tabulate-same, length-splice, splice-zero, splice-part, over_nil}
 use Rattle.geometry.specs.declared.Geometry.{Geometry}
-use Rattle.geometry.specs.declared.Part.{Part}
-use Rattle.geometry.specs.declared.Part.TheVariants.{Known, Unknown}
 use Rattle.geometry.specs.Parts.{part_of, slot_room, Sized}
 use Rattle.geometry.proofs.Pages.{sized_own}
 use Rattle.registers.specs.declared.Operation.{Operation}
@@ -27,8 +26,6 @@ use Rattle.state.specs.declared.Answer.TheVariants as Answers
 use Rattle.state.specs.Answers.{number_of}
 use Rattle.state.specs.Memory.{State, chip_in}
 use Rattle.slots.specs.declared.Kind.TheVariants.{Put, Patch, Get}
-use Rattle.slots.specs.declared.Stage.{Stage}
-use Rattle.slots.specs.declared.Stage.TheVariants.{Going, Ended}
 use Rattle.slots.specs.declared.Verdict.{Verdict}
 use Rattle.slots.specs.declared.Verdict.TheVariants.{Good, Blank, Beyond, Outside, Miscompared}
 use Rattle.state.specs.Outcomes.{part_in, cut_state}
@@ -94,13 +91,13 @@ good_is Outside e = let z : ◌≡◌ {A = ℕ} 0 1 = cc in absurd (omega arith)
 good_is Miscompared e = let z : ◌≡◌ {A = ℕ} 0 1 = cc in absurd (omega arith)
 
 -- 0 is the plan's end, and a good verdict
-pub answer-done : (t : Stage) (v : Verdict) → answer_in (told_by t v) ≡ Answers.Done → (t ≡ Ended Answers.Done) × (v ≡ Good)
+pub answer-done : (t : Option Answer) (v : Verdict) → answer_in (told_by t v) ≡ Answers.Done → (t ≡ Some Answers.Done) × (v ≡ Good)
 unfolding answer_in told_by weighed number_of
-answer-done Going v e = let z : ◌≡◌ {A = ℕ} 0 1 = cc in absurd (omega arith)
-answer-done (Ended n) v e = go (eqb (number_of n) 0) refl e
+answer-done None v e = let z : ◌≡◌ {A = ℕ} 0 1 = cc in absurd (omega arith)
+answer-done (Some n) v e = go (eqb (number_of n) 0) refl e
   where
-    go : (b : Bool) → eqb (number_of n) 0 ≡ b → cond b (verdict_answer v) n ≡ Answers.Done → (Ended n ≡ Ended Answers.Done) × (v ≡ Good)
-    go true z h = (ap (λ (a : Answer). Ended a) (zero-done n z), good_is v h)
+    go : (b : Bool) → eqb (number_of n) 0 ≡ b → cond b (verdict_answer v) n ≡ Answers.Done → (Some n ≡ Some Answers.Done) × (v ≡ Good)
+    go true z h = (ap (λ (a : Answer). Some a) (zero-done n z), good_is v h)
     go false z h = never (sym z ∙ ap (λ (a : Answer). eqb (number_of a) 0) h)
 
 module _ (g : Geometry) (v : Request) (x : Secret) (s : State) where
@@ -114,24 +111,24 @@ module _ (g : Geometry) (v : Request) (x : Secret) (s : State) where
       go false e = ap (λ (a : Answer). eqb (number_of a) 0) (sym (ap (λ (o : Out). o.answer) (refused-call g v x s e).out) ∙ d)
 
   -- and came to its end
-  pub done-stage : (call_out g v x s).answer ≡ Answers.Done → ((ran g v x s).0.course.stage ≡ Ended Answers.Done) × ((ran g v x s).1.holding.verdict ≡ Good)
+  pub done-stage : (call_out g v x s).answer ≡ Answers.Done → ((ran g v x s).0.course.stage ≡ Some Answers.Done) × ((ran g v x s).1.holding.verdict ≡ Good)
   unfolding call_out out_from
   done-stage d = answer-done (ran g v x s).0.course.stage (ran g v x s).1.holding.verdict d
 
 -- a call that answers 0 has a known part
-known_part : (a : Asked) (detail : Detail) (sc payload junk lg lent : List ℕ) (s : State) → (out_of (call a detail sc payload junk lg lent) s).answer ≡ Answers.Done → (Q : Part → Type 0)
-    → ((g : Geometry) → part_in s ≡ Known g → (call_out g (asks g a detail sc payload junk lg lent) (secret payload detail junk lent) s).answer ≡ Answers.Done → Q (Known g)) → Q (part_in s)
+known_part : (a : Asked) (detail : Detail) (sc payload junk lg lent : List ℕ) (s : State) → (out_of (call a detail sc payload junk lg lent) s).answer ≡ Answers.Done → (Q : Option Geometry → Type 0)
+    → ((g : Geometry) → part_in s ≡ Some g → (call_out g (asks g a detail sc payload junk lg lent) (secret payload detail junk lent) s).answer ≡ Answers.Done → Q (Some g)) → Q (part_in s)
 unfolding out_of call_by
 known_part a detail sc payload junk lg lent s d Q on = go (part_in s) refl d
   where
-    go : (p : Part) → part_in s ≡ p → (call_by p a detail sc payload junk lg lent s).answer ≡ Answers.Done → Q p
-    go (Known g) e h = on g e h
-    go Unknown e h = let z : ◌≡◌ {A = ℕ} 0 1 = cc in absurd (omega arith)
+    go : (p : Option Geometry) → part_in s ≡ p → (call_by p a detail sc payload junk lg lent s).answer ≡ Answers.Done → Q p
+    go (Some g) e h = on g e h
+    go None e h = let z : ◌≡◌ {A = ℕ} 0 1 = cc in absurd (omega arith)
 
 -- ---- a written slot
 
 -- an idle chip has its part
-ready-placed : (n : ℕ) (o : Operation) (g : Geometry) → part_of n ≡ Known g → o ≡ Idle → placed n o ≡ Known g
+ready-placed : (n : ℕ) (o : Operation) (g : Geometry) → part_of n ≡ Some g → o ≡ Idle → placed n o ≡ Some g
 unfolding within
 ready-placed n o g e i = ap (λ (x : Operation). placed n x) i ∙ known_placed n Idle g e refl
 
@@ -289,7 +286,7 @@ pub get_returns : (sl : ℕ) (s : State) (period : Period) (recipe : List ℕ) �
     → Returns period (day_of today) recipe buffer (out_of (get sl lim today sc junk lg buffer) s)
 unfolding out_of call_by call_out out_from flaws_in is_over is_short verdict_answer aim_of
 get_returns sl s period recipe u lim today sc junk lg buffer =
-    subst (λ (p : Part). Returns period (day_of today) recipe buffer (call_by p (asking Get sl lim) (reading today) sc [] junk lg buffer s)) (sym u.kept.part) (go (eqb (number_of (refusal_of g n v)) 0) refl)
+    subst (λ (p : Option Geometry). Returns period (day_of today) recipe buffer (call_by p (asking Get sl lim) (reading today) sc [] junk lg buffer s)) (sym u.kept.part) (go (eqb (number_of (refusal_of g n v)) 0) refl)
   where
     g : Geometry
     g = u.geometry
@@ -335,12 +332,12 @@ pub patch-holds : (sl lim place : ℕ) (sc bytes junk lg : List ℕ) (period : P
     → (place + length bytes ≤ length recipe) × Holds sl period (splice place bytes recipe) (next_of (patch sl lim place sc bytes junk lg) s)
 unfolding out_of call_by next_of called_by patch_writer start_closed limit_of slot_size changed aim_of image
 patch-holds sl lim place sc bytes junk lg period recipe s w u d =
-    subst (λ (p : Part). (place + length bytes ≤ length recipe) × Holds sl period (splice place bytes recipe) (called_by p (asking Patch sl lim) (changing place) sc bytes junk lg [] s)) (sym u.kept.part)
+    subst (λ (p : Option Geometry). (place + length bytes ≤ length recipe) × Holds sl period (splice place bytes recipe) (called_by p (asking Patch sl lim) (changing place) sc bytes junk lg [] s)) (sym u.kept.part)
     (let g = u.geometry in
     let n = length s.memory.array in
     let v = asks g (asking Patch sl lim) (changing place) sc bytes junk lg [] in
     let x = secret bytes (changing place) junk [] in
-    let h = subst (λ (p : Part). (call_by p (asking Patch sl lim) (changing place) sc bytes junk lg [] s).answer ≡ Answers.Done) u.kept.part d in
+    let h = subst (λ (p : Option Geometry). (call_by p (asking Patch sl lim) (changing place) sc bytes junk lg [] s).answer ≡ Answers.Done) u.kept.part d in
     let e = done-accepted g v x s h in
     let a = (accepted g n v e).asked in
     let z = placed_sized n s.registers.operation g u.kept.part in

@@ -1,6 +1,7 @@
 -- DEMAND 1 over lists: every outcome's answer is a number of the table, and one of 1 to 7, or 14, means that nothing was sent and nothing changed. A refused
 -- call starts at its end, and a run never leaves its end; an accepted one can only end with 0, 8 to 13, 15 or 16.
 -- Assumes nothing.
+use Rattle.std.specs.Prelude.{None, Option, Some}
 use Prim.Native.Nat.{ℕ, zero, suc, ◌<◌, ◌≤◌}
 use mathlib.Core.Path.{◌≡◌, refl, sym, ap, subst, ◌∙◌}
 use mathlib.Core.Bool.{Bool, true, false, cond, ◌&&◌, ◌||◌}
@@ -10,16 +11,12 @@ use lib.Dec.{eqb, leb, lit≤}
 use borrow.Author.Tests.{lt-leb, ne_eqb}
 use Rattle.slices.specs.Lists.{over}
 use Rattle.geometry.specs.declared.Geometry.{Geometry}
-use Rattle.geometry.specs.declared.Part.{Part}
-use Rattle.geometry.specs.declared.Part.TheVariants.{Known, Unknown}
 use Rattle.state.specs.declared.Answer.{Answer}
 use Rattle.state.specs.declared.Answer.TheVariants as Answers
 use Rattle.state.specs.Answers.{number_of}
 use Rattle.state.specs.Outcomes.{framed, part_in, cut_state, sent_by, ended_by, pin_outcome, cut_fits, cut_by, left}
 use Rattle.slots.specs.declared.Course.{Course}
 use Rattle.slots.specs.declared.Kind.{Kind}
-use Rattle.slots.specs.declared.Stage.{Stage}
-use Rattle.slots.specs.declared.Stage.TheVariants.{Going, Ended}
 use Rattle.slots.specs.declared.Verdict.{Verdict}
 use Rattle.slots.specs.declared.Verdict.TheVariants.{Good, Blank, Beyond, Outside, Miscompared}
 use Rattle.state.specs.Memory.{State}
@@ -68,7 +65,7 @@ count_none k a staged e = ap (λ (b : Bool). cond b (count_by k staged) 0) e
 -- the open half of a call that starts at its end
 abbrev ended_open : Answer → Request → State → Open
 ended_open a v s =
-    record { registers = s.registers; course = record { place = 0; left = v.asked.limit; stage = Ended a; listed = false; guarded = false }; lines = []; frames = 0; polls = 0; cut = false }
+    record { registers = s.registers; course = record { place = 0; left = v.asked.limit; stage = Some a; listed = false; guarded = false }; lines = []; frames = 0; polls = 0; cut = false }
 
 start-refused : (g : Geometry) (v : Request) (s : State) → eqb (number_of (refusal_of g (length s.memory.array) v)) 0 ≡ false
     → start_open g (length s.memory.array) v s.registers ≡ ended_open (refusal_of g (length s.memory.array) v) v s
@@ -76,7 +73,7 @@ unfolding start_open first_course
 start-refused g v s e = λ i.
     record {
       registers = s.registers;
-      course = record { place = 0; left = v.asked.limit; stage = cond (e i) Going (Ended (refusal_of g (length s.memory.array) v)); listed = false; guarded = false };
+      course = record { place = 0; left = v.asked.limit; stage = cond (e i) None (Some (refusal_of g (length s.memory.array) v)); listed = false; guarded = false };
       lines = [];
       frames = 0;
       polls = 0;
@@ -130,9 +127,9 @@ late_is a h = (λ i. (leb 1 (number_of a) && lt-leb (number_of a) 7 h.0 i) || ne
     go false = refl
 
 -- a course that has not ended, or ended with none of 1 to 7 and 14
-abbrev Late : Stage → Type 0
-Late Going = Unit {0}
-Late (Ended a) = is_refusal a ≡ false
+abbrev Late : Option Answer → Type 0
+Late None = Unit {0}
+Late (Some a) = is_refusal a ≡ false
 
 abbrev LateCourse : Course → Type 0
 LateCourse c = Late c.stage
@@ -160,10 +157,10 @@ verdict_late Beyond = refl
 verdict_late Outside = refl
 verdict_late Miscompared = refl
 
-answer_late : (t : Stage) (v : Verdict) → Late t → is_refusal (answer_in (told_by t v)) ≡ false
+answer_late : (t : Option Answer) (v : Verdict) → Late t → is_refusal (answer_in (told_by t v)) ≡ false
 unfolding answer_in told_by weighed number_of
-answer_late Going v u = refl
-answer_late (Ended n) v u = cases (λ (a : Answer). is_refusal a ≡ false) (eqb (number_of n) 0) (verdict_late v) u
+answer_late None v u = refl
+answer_late (Some n) v u = cases (λ (a : Answer). is_refusal a ≡ false) (eqb (number_of n) 0) (verdict_late v) u
 
 -- a call that is not refused answers none of 1 to 7 and 14
 pub accepted_late : (g : Geometry) (v : Request) (x : Secret) (s : State) → eqb (number_of (refusal_of g (length s.memory.array) v)) 0 ≡ true
@@ -172,7 +169,7 @@ unfolding call_out out_from ran start_open first_course
 accepted_late g v x s e =
     answer_late (ran g v x s).0.course.stage (ran g v x s).1.holding.verdict
     (run_late (bound g v.asked) g v (start_open g (length s.memory.array) v s.registers) (start_closed x s.memory)
-    (subst (λ (b : Bool). Late (cond b Going (Ended (refusal_of g (length s.memory.array) v)))) (sym e) tt))
+    (subst (λ (b : Bool). Late (cond b None (Some (refusal_of g (length s.memory.array) v)))) (sym e) tt))
 
 -- ---- any call or event
 
@@ -204,21 +201,21 @@ unfolding number_of
 pick_met true lent reply s t a h = never h
 pick_met false lent reply s t a h = record { out = refl; next = refl }
 
-at_untouched : (p : Part) (o : Op) (s : State) → is_refusal (out_at p o s).answer ≡ true → Untouched (lent_to o) s (out_at p o s) (next_at p o s)
+at_untouched : (p : Option Geometry) (o : Op) (s : State) → is_refusal (out_at p o s).answer ≡ true → Untouched (lent_to o) s (out_at p o s) (next_at p o s)
 unfolding out_at next_at lent_to call_by raw_by called_by raw_left raw_out raw_next raw_sent sent_by ended_by pin_outcome cut_by number_of
-at_untouched (Known g) (call a detail script payload junk log lent) s h = call_untouched g (asks g a detail script payload junk log lent) (secret payload detail junk lent) s h
-at_untouched (Known g) (raw frame script junk log reply) s h =
+at_untouched (Some g) (call a detail script payload junk log lent) s h = call_untouched g (asks g a detail script payload junk log lent) (secret payload detail junk lent) s h
+at_untouched (Some g) (raw frame script junk log reply) s h =
     pick_untouched (eqb (number_of (raw_refusal g (length s.memory.array) frame (length reply) (length log) script (length junk))) 0) reply s _ _ _ (raw_late (eqb (scripted script 0) 2)) h
-at_untouched (Known g) (straight frame reply) s h = pick_met (framed (length frame) (length reply)) reply _ s _ Answers.Frame h
-at_untouched (Known g) (pin high) s h = never h
-at_untouched (Known g) busy_end s h = never h
-at_untouched (Known g) (cut junk) s h = pick_met (cut_fits g (length s.memory.array) (length junk)) [] [] s _ Answers.Script h
-at_untouched Unknown (call a detail script payload junk log lent) s h = record { out = refl; next = refl }
-at_untouched Unknown (raw frame script junk log reply) s h = record { out = refl; next = refl }
-at_untouched Unknown (straight frame reply) s h = record { out = refl; next = refl }
-at_untouched Unknown (pin high) s h = never h
-at_untouched Unknown busy_end s h = record { out = refl; next = refl }
-at_untouched Unknown (cut junk) s h = record { out = refl; next = refl }
+at_untouched (Some g) (straight frame reply) s h = pick_met (framed (length frame) (length reply)) reply _ s _ Answers.Frame h
+at_untouched (Some g) (pin high) s h = never h
+at_untouched (Some g) busy_end s h = never h
+at_untouched (Some g) (cut junk) s h = pick_met (cut_fits g (length s.memory.array) (length junk)) [] [] s _ Answers.Script h
+at_untouched None (call a detail script payload junk log lent) s h = record { out = refl; next = refl }
+at_untouched None (raw frame script junk log reply) s h = record { out = refl; next = refl }
+at_untouched None (straight frame reply) s h = record { out = refl; next = refl }
+at_untouched None (pin high) s h = never h
+at_untouched None busy_end s h = record { out = refl; next = refl }
+at_untouched None (cut junk) s h = record { out = refl; next = refl }
 
 -- DEMAND 1: 1 to 7 and 14 send nothing and change nothing
 pub refusals : (o : Op) (s : State) → is_refusal (out_of o s).answer ≡ true → Untouched (lent_to o) s (out_of o s) (next_of o s)

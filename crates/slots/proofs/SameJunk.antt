@@ -1,6 +1,7 @@
 -- The premise of two_runs can be met: lists with the same junk are alike along any two runs, whatever the recipes are. An example puts
 -- recipes of 1 and of 2,000 bytes.
 -- Assumes nothing.
+use Rattle.std.specs.Prelude.{None, Option, Some}
 use Prim.Native.Nat.{ℕ, ◌-◌, ◌*◌}
 use mathlib.Core.Path.{◌≡◌, refl, sym, ap, subst, ◌∙◌}
 use mathlib.Core.Bool.{Bool, true, false, cond, ◌&&◌}
@@ -9,8 +10,6 @@ use lib.ListN.{length, replicate}
 use lib.Dec.{eqb, ltb}
 use native.Mathlib.Omega.{arith}
 use Rattle.geometry.specs.declared.Geometry.{Geometry}
-use Rattle.geometry.specs.declared.Part.{Part}
-use Rattle.geometry.specs.declared.Part.TheVariants.{Known, Unknown}
 use Rattle.geometry.specs.Parts.{parts, part_of}
 use Rattle.geometry.proofs.Pages.{Each, known_case}
 use Rattle.registers.proofs.Places.{placed_known}
@@ -42,38 +41,38 @@ junk_in (pin high) = []
 junk_in busy_end = []
 junk_in (cut junk) = junk
 
-by_junk : (p : Part) {o u : Op} → Given o u → Flawed p o u → (s t : State) → Twins s t → junk_in o ≡ junk_in u
+by_junk : (p : Option Geometry) {o u : Op} → Given o u → Flawed p o u → (s t : State) → Twins s t → junk_in o ≡ junk_in u
     → junk_by p o s ≡ junk_by p u t
 unfolding junk_by junk_in oversize misdated call_junk raw_junk cut_junk
-by_junk (Known g) (calls a script {p} {q} {a = x} {b = y} {j} {k} {l} {m} {x = c} {y = d} ej el ex) e s t h z =
+by_junk (Some g) (calls a script {p} {q} {a = x} {b = y} {j} {k} {l} {m} {x = c} {y = d} ej el ex) e s t h z =
     let r = ran_blind g (request-same g a script p q x y j k l m c d (e.0 g refl) e.1 ej el ex) (secret x p j c) (secret y q k d) s t h in
     λ i. cond (r i).cut (reaching g (r i).registers.operation (z i)) []
-by_junk (Known g) (raws frame script {j} {k} {l} {m} {a} {b} ej el ea) e s t h z =
+by_junk (Some g) (raws frame script {j} {k} {l} {m} {a} {b} ej el ea) e s t h z =
     let r = raw_refusal_lem g frame script j k l m a b s t ej el ea h in
     λ i. cond (eqb (number_of (r i)) 0 && eqb (scripted script 0) 2) (reaching g (control g (h.registers i) frame).registers.operation (z i)) []
-by_junk (Known g) (straights frame ea) e s t h z = refl
-by_junk (Known g) (pins high) e s t h z = refl
-by_junk (Known g) ends e s t h z = refl
-by_junk (Known g) (cuts ej) e s t h z = λ i. cond (cut_fits g (h.size i) (ej i)) (reaching g (h.registers i).operation (z i)) []
-by_junk Unknown d e s t h z = refl
+by_junk (Some g) (straights frame ea) e s t h z = refl
+by_junk (Some g) (pins high) e s t h z = refl
+by_junk (Some g) ends e s t h z = refl
+by_junk (Some g) (cuts ej) e s t h z = λ i. cond (cut_fits g (h.size i) (ej i)) (reaching g (h.registers i).operation (z i)) []
+by_junk None d e s t h z = refl
 
 -- alike in all that is public, with the same junk; 5 is met in both or in neither, whatever the part is, and so is 14
 abbrev pub SameJunk : List Op → List Op → Type 0
 SameJunk [] [] = Unit {0}
 SameJunk [] (u ∷ us) = ⊥
 SameJunk (o ∷ os) [] = ⊥
-SameJunk (o ∷ os) (u ∷ us) = Given o u × ((n : ℕ) (g : Geometry) → part_of n ≡ Known g → oversize g o ≡ oversize g u) × (misdated o ≡ misdated u) × (junk_in o ≡ junk_in u) × SameJunk os us
+SameJunk (o ∷ os) (u ∷ us) = Given o u × ((n : ℕ) (g : Geometry) → part_of n ≡ Some g → oversize g o ≡ oversize g u) × (misdated o ≡ misdated u) × (junk_in o ≡ junk_in u) × SameJunk os us
 
-alike : (o u : Op) (s t : State) → Twins s t → Given o u → ((n : ℕ) (g : Geometry) → part_of n ≡ Known g → oversize g o ≡ oversize g u) → misdated o ≡ misdated u → junk_in o ≡ junk_in u → Alike o u s t
+alike : (o u : Op) (s t : State) → Twins s t → Given o u → ((n : ℕ) (g : Geometry) → part_of n ≡ Some g → oversize g o ≡ oversize g u) → misdated o ≡ misdated u → junk_in o ≡ junk_in u → Alike o u s t
 unfolding junk_of
 alike o u s t h d e f j =
-    let z : (g : Geometry) → part_in s ≡ Known g → oversize g o ≡ oversize g u =
+    let z : (g : Geometry) → part_in s ≡ Some g → oversize g o ≡ oversize g u =
     λ g k. e (length s.memory.array) g (placed_known (length s.memory.array) s.registers.operation g k).0 in
     record {
       given = d;
       size = z;
       dates = f;
-      junk = subst (λ (p : Part). junk_by (part_in s) o s ≡ junk_by p u t) (part_same s t h) (by_junk (part_in s) d (z, f) s t h j);
+      junk = subst (λ (p : Option Geometry). junk_by (part_in s) o s ≡ junk_by p u t) (part_same s t h) (by_junk (part_in s) d (z, f) s t h j);
     }
 
 alike_lists : (os us : List Op) (s t : State) → Twins s t → SameJunk os us → AlikeLists os us s t
@@ -90,7 +89,7 @@ two_runs_same-junk os us s t w z h a = two_runs os us s t w z h (alike_lists os 
 -- ---- an example
 
 -- every part takes a recipe of 1 byte without a term, and of 2,000 bytes with one
-both_fit : (n : ℕ) (g : Geometry) → part_of n ≡ Known g → ltb (8 * g.size - 3) 1 ≡ ltb (8 * g.size - 11) (length (replicate {A = ℕ} 2000 9))
+both_fit : (n : ℕ) (g : Geometry) → part_of n ≡ Some g → ltb (8 * g.size - 3) 1 ≡ ltb (8 * g.size - 11) (length (replicate {A = ℕ} 2000 9))
 unfolding parts Each
 both_fit n g e =
     (known_case (λ h. ltb (8 * h.size - 3) 1 ≡ ltb (8 * h.size - 11) (length (replicate {A = ℕ} 2000 9))) (refl, (refl, (refl, (refl, tt)))) n g e).0

@@ -1,6 +1,7 @@
 -- What the driver's frames do on the chip, in the words of the slot: a D2 tells a page of the slot, an 84 fills buffer 1, an 83 starts the
 -- program of a page, and the replies to 32 and 35 tell no sector free that the chip takes for sealed.
 -- Assumes nothing.
+use Rattle.std.specs.Prelude.{Some}
 use Prim.Native.Nat.{ℕ, zero, suc, ◌+◌, ◌-◌, ◌*◌, ◌/◌, ◌%◌, ◌≤◌, ◌<◌}
 use mathlib.Core.Path.{◌≡◌, refl, sym, ap, subst, ◌∙◌}
 use mathlib.Core.Bool.{Bool, true, false, cond, not, ◌&&◌}
@@ -14,7 +15,6 @@ use borrow.Author.Tests.{ne_eqb}
 use Rattle.slices.specs.Lists.{tabulate}
 use Rattle.slices.proofs.Laws.{length-tabulate, get_or-tabulate, tabulate_append, tabulate-same, tabulate-part}
 use Rattle.geometry.specs.declared.Geometry.{Geometry}
-use Rattle.geometry.specs.declared.Part.TheVariants.{Known, Unknown}
 use Rattle.geometry.specs.Parts.{part_of, register_room, Sized, address_at, page_at, page_of}
 use Rattle.geometry.specs.Sectors.{sector_of}
 use Rattle.geometry.proofs.Pages.{length-page_of, sized}
@@ -62,7 +62,7 @@ use Rattle.slots.proofs.Parts.{cases}
 -- ---- addresses
 
 -- a page of a known part is named by its address
-pub addressed-few : (n : ℕ) (g : Geometry) (page : ℕ) → part_of n ≡ Known g → page < g.pages → g.field * page < 16777216
+pub addressed-few : (n : ℕ) (g : Geometry) (page : ℕ) → part_of n ≡ Some g → page < g.pages → g.field * page < 16777216
 addressed-few n g page e l =
     let z = sized n g e in
     omega (arith, z.named, mul-lt-mul_of_pos_left {m = page} {n = g.pages} {k = g.field} l z.addressed)
@@ -112,7 +112,7 @@ take_all [] = refl
 take_all (x ∷ l) = ap (λ (t : List ℕ). x ∷ t) (take_all l)
 
 -- the D2 of a page on an idle, awake chip tells the page
-pub page_told : (g : Geometry) (r : Registers) (m : Memory) (k : Kind) (h : Holding) (p : ℕ) → Ready r → part_of (length m.array) ≡ Known g → p < g.pages
+pub page_told : (g : Geometry) (r : Registers) (m : Memory) (k : Kind) (h : Holding) (p : ℕ) → Ready r → part_of (length m.array) ≡ Some g → p < g.pages
     → tabulate g.size (λ i. get_or (reply_of g r m (frame_of g k h (Read p))) (8 + i) 255) ≡ page_of g p m.array
 unfolding shape_of
 page_told g r m k h p y e l =
@@ -168,7 +168,7 @@ module _ (g : Geometry) (r : Registers) (k : Kind) (h : Holding) (p : ℕ) (y : 
       subst (λ (d : Decision). Starts g r (named C.Compare) C.Compare d) (sym (by_row (frame_of g k h (Send C.Compare p)) 4 (E.Compare One) (decode_compare _ _ _ []))) (inl refl)
 
   -- the page is named by its address
-  pub send_named : (n : ℕ) (c : Command) → part_of n ≡ Known g → Sized g n → p < g.pages → named c ≡ p
+  pub send_named : (n : ℕ) (c : Command) → part_of n ≡ Some g → Sized g n → p < g.pages → named c ≡ p
   unfolding shape_of frame_byte tabulate
   send_named n c e z l = ap (page_at g) (address-bytes (opcode_of c) (g.field * p) [] (addressed-few n g p e l)) ∙ page_address g p l z.addressed
 

@@ -1,6 +1,7 @@
 -- What frames, busy ends, cuts and pin moves keep is kept by every call, event and list: a call is frames, each with its script byte, and a cut at its
 -- end. The lengths of array and buffers are such things.
 -- Assumes nothing.
+use Rattle.std.specs.Prelude.{None, Option, Some}
 use Prim.Native.Nat.{ℕ, zero, suc}
 use mathlib.Core.Path.{sym, ap, subst, ◌∙◌}
 use mathlib.Core.Bool.{Bool, true, false, cond}
@@ -8,8 +9,6 @@ use mathlib.Core.List.{List, [], ◌∷◌}
 use lib.ListN.{length}
 use lib.Dec.{eqb}
 use Rattle.geometry.specs.declared.Geometry.{Geometry}
-use Rattle.geometry.specs.declared.Part.{Part}
-use Rattle.geometry.specs.declared.Part.TheVariants.{Known, Unknown}
 use Rattle.registers.specs.declared.Registers.{Registers}
 use Rattle.registers.specs.Fields.{with_wp}
 use Rattle.control.specs.Control.{control}
@@ -101,21 +100,21 @@ module _ (Q : Registers → Memory → Type 0) (w : Steady Q) where
       (after_keeps g (scripted script 0) (sent_state g f s).registers (sent_state g f s).memory k))
       u
 
-  at_keeps : (p : Part) (o : Op) (s : State) → In s → In (next_at p o s)
+  at_keeps : (p : Option Geometry) (o : Op) (s : State) → In s → In (next_at p o s)
   unfolding next_at called_by raw_left sent_by ended_by pin_outcome pinned_state cut_by
-  at_keeps (Known g) (call a detail script payload junk log lent) s u = call_keeps g (asks g a detail script payload junk log lent) (secret payload detail junk lent) s u
-  at_keeps (Known g) (raw frame script junk log reply) s u = raw_keeps g frame script (length log) junk (length reply) s u
-  at_keeps (Known g) (straight frame reply) s u = cases (λ (l : Left). In l.state) (framed (length frame) (length reply)) (sent_keeps g frame s u) u
-  at_keeps (Known g) busy_end s u = end_keeps g s u
-  at_keeps (Known g) (cut junk) s u =
+  at_keeps (Some g) (call a detail script payload junk log lent) s u = call_keeps g (asks g a detail script payload junk log lent) (secret payload detail junk lent) s u
+  at_keeps (Some g) (raw frame script junk log reply) s u = raw_keeps g frame script (length log) junk (length reply) s u
+  at_keeps (Some g) (straight frame reply) s u = cases (λ (l : Left). In l.state) (framed (length frame) (length reply)) (sent_keeps g frame s u) u
+  at_keeps (Some g) busy_end s u = end_keeps g s u
+  at_keeps (Some g) (cut junk) s u =
       cases (λ (l : Left). In l.state) (cut_fits g (length s.memory.array) (length junk)) (cut_keeps g junk s u) u
-  at_keeps (Known g) (pin high) s u = w.pins high s.registers s.memory u
-  at_keeps Unknown (call a detail script payload junk log lent) s u = u
-  at_keeps Unknown (raw frame script junk log reply) s u = u
-  at_keeps Unknown (straight frame reply) s u = u
-  at_keeps Unknown (pin high) s u = w.pins high s.registers s.memory u
-  at_keeps Unknown busy_end s u = u
-  at_keeps Unknown (cut junk) s u = u
+  at_keeps (Some g) (pin high) s u = w.pins high s.registers s.memory u
+  at_keeps None (call a detail script payload junk log lent) s u = u
+  at_keeps None (raw frame script junk log reply) s u = u
+  at_keeps None (straight frame reply) s u = u
+  at_keeps None (pin high) s u = w.pins high s.registers s.memory u
+  at_keeps None busy_end s u = u
+  at_keeps None (cut junk) s u = u
 
   pub op_keeps : (o : Op) (s : State) → In s → In (next_of o s)
   op_keeps o s u = subst In (sym (next_at_lem o s)) (at_keeps (part_in s) o s u)

@@ -2,6 +2,7 @@
 -- open is open, so each 84 and 83, or the 50, is obeyed; and the next ready status tells that it has ended. The 60 then finds page and buffer
 -- alike, so that the wait after it hands up no compare bit.
 -- Assumes nothing.
+use Rattle.std.specs.Prelude.{Some, None}
 use Prim.Native.Nat.{ℕ, zero, suc, ◌+◌, ◌-◌, ◌*◌, ◌/◌, ◌%◌, ◌<◌, ◌≤◌}
 use native.Mathlib.Omega.{arith}
 use mathlib.Core.Path.{◌≡◌, refl, sym, ap, subst, ◌∙◌}
@@ -14,7 +15,6 @@ use borrow.Author.Tests.{eqb-true, eqb-false}
 use Rattle.slices.specs.Lists.{tabulate}
 use Rattle.slices.proofs.Laws.{length-tabulate, tabulate-same, tabulate_const}
 use Rattle.geometry.specs.declared.Geometry.{Geometry}
-use Rattle.geometry.specs.declared.Part.TheVariants.{Known}
 use Rattle.geometry.specs.Parts.{part_of, register_room, Sized, page_of, run}
 use Rattle.geometry.specs.Sectors.{sector_of}
 use Rattle.geometry.proofs.Pages.{sized}
@@ -40,7 +40,6 @@ use Rattle.state.proofs.Loads.{protection-memory, lockdown-memory, load_first, p
 use Rattle.slots.specs.declared.Course.{Course}
 use Rattle.slots.specs.declared.Kind.{Kind}
 use Rattle.slots.specs.declared.Command.TheVariants as C
-use Rattle.slots.specs.declared.Stage.TheVariants.{Going, Ended}
 use Rattle.slots.specs.declared.Step.{Step}
 use Rattle.slots.specs.declared.Step.TheVariants.{Wait, Protection, Lockdown, Read, Load, Send}
 use Rattle.state.specs.Outcomes.{part_in}
@@ -82,11 +81,11 @@ slot-inside g slot z h p l u =
 
 -- the memory is the part's, and buffer 1 holds a page
 abbrev pub Room : Geometry → Memory → Type 0
-Room g m = (part_of (length m.array) ≡ Known g) × (g.size ≤ length m.buffer1)
+Room g m = (part_of (length m.array) ≡ Some g) × (g.size ≤ length m.buffer1)
 
 pub room_steady : (g : Geometry) → Steady (λ r m. Room g m)
 room_steady g =
-    both_steady (λ r m. part_of (length m.array) ≡ Known g) (λ r m. g.size ≤ length m.buffer1) (array_steady (λ n. part_of n ≡ Known g)) (buffer_steady (λ n. g.size ≤ n))
+    both_steady (λ r m. part_of (length m.array) ≡ Some g) (λ r m. g.size ≤ length m.buffer1) (array_steady (λ n. part_of n ≡ Some g)) (buffer_steady (λ n. g.size ≤ n))
 
 -- what a call writes: whether it loads pages at all; byte i of the slot; what page p holds before it is programmed; what holds while the first wait lasts; and of the driver's data
 -- before a page's first frame, and before its 84
@@ -377,12 +376,12 @@ pub record Wrote (g : Geometry) (K : Kind) (slot : ℕ) (W : Writer g K slot) (z
   pub fresh : W.Fresh (8 * slot + 8) z.1.holding
 
 module _ (g : Geometry) (v : Request) (W : Writer g v.asked.kind v.asked.slot) where
-  pub call_stores : (x : Secret) (s : State) → part_in s ≡ Known g → g.size ≤ length s.memory.buffer1
+  pub call_stores : (x : Secret) (s : State) → part_in s ≡ Some g → g.size ≤ length s.memory.buffer1
       → eqb (number_of (refusal_of g (length s.memory.array) v)) 0 ≡ true
       → (fits : 8 * v.asked.slot + 8 ≤ g.pages) (few : Sized g (g.pages * g.size))
       → Lawful g v.asked.kind v.asked.slot W fits few cold (plan_of g v.asked)
       → W.Opens s.registers s.memory → W.Fresh (8 * v.asked.slot) (start_closed x s.memory).holding
-      → (ran g v x s).0.course.stage ≡ Ended Answers.Done → Wrote g v.asked.kind v.asked.slot W (ran g v x s)
+      → (ran g v x s).0.course.stage ≡ Some Answers.Done → Wrote g v.asked.kind v.asked.slot W (ran g v x s)
   unfolding ran start_open start_closed first_course is_ended
   call_stores x s p b e fits few law o f stage =
       let n = length s.memory.array in
@@ -395,7 +394,7 @@ module _ (g : Geometry) (v : Request) (W : Writer g v.asked.kind v.asked.slot) w
         room = (part, b);
         here = λ _. (cold, (o, f), subst (Lawful g v.asked.kind v.asked.slot W fits few cold) (sym (rest-zero (plan_of g v.asked))) law);
         uncut = λ _. refl;
-        over = λ h. never (ap is_ended (sym (ap (λ (b : Bool). cond b Going (Ended (refusal_of g n v))) e)) ∙ ap is_ended h);
+        over = λ h. never (ap is_ended (sym (ap (λ (b : Bool). cond b None (Some (refusal_of g n v))) e)) ∙ ap is_ended h);
       }) in
       let z = ran g v x s in
       let k = t.here (inr stage) in

@@ -1,6 +1,7 @@
 -- How to follow a call on the chip step by step: what is known between two steps (`Know`, `Holds`), which steps may come then (`Lawful`), and
 -- how each step takes one to the next. A wait keeps what is known while it lasts; a busy end must keep it always.
 -- Assumes nothing.
+use Rattle.std.specs.Prelude.{Some, Option}
 use Prim.Native.Nat.{ℕ, zero, suc, ◌<◌}
 use mathlib.Core.Path.{◌≡◌, refl, sym, subst, ◌∙◌}
 use mathlib.Core.Bool.{Bool, true, false, cond}
@@ -10,7 +11,6 @@ use lib.ListN.{length}
 use lib.Dec.{eqb, lit<}
 use Rattle.slices.specs.Lists.{tabulate}
 use Rattle.geometry.specs.declared.Geometry.{Geometry}
-use Rattle.geometry.specs.declared.Part.TheVariants.{Known}
 use Rattle.geometry.specs.Parts.{part_of}
 use Rattle.geometry.specs.Sectors.{sector_of}
 use Rattle.geometry.proofs.Pages.{sized}
@@ -34,8 +34,6 @@ use Rattle.state.proofs.Loads.{status-memory, idle_memory}
 use Rattle.slots.specs.declared.Course.{Course}
 use Rattle.slots.specs.declared.Kind.{Kind}
 use Rattle.slots.specs.declared.Command.{Command}
-use Rattle.slots.specs.declared.Stage.{Stage}
-use Rattle.slots.specs.declared.Stage.TheVariants.{Ended}
 use Rattle.slots.specs.declared.Step.{Step}
 use Rattle.slots.specs.declared.Step.TheVariants.{Wait, Send}
 use Rattle.slots.specs.Plans.{plan_of, sector_for, step_at, is_end}
@@ -48,8 +46,8 @@ use Rattle.slots.proofs.Bound.{Ok, step_ok}
 use Rattle.slots.proofs.Sent.{operation_of, send_starts, send_named, send_memory, poll_heard, waits}
 
 -- going, or at the plan's end
-abbrev pub Alive : Stage → Type 0
-Alive s = (is_ended s ≡ false) ⊎ (s ≡ Ended Answers.Done)
+abbrev pub Alive : Option Answer → Type 0
+Alive s = (is_ended s ≡ false) ⊎ (s ≡ Some Answers.Done)
 
 -- what is followed: what holds of the memory throughout, and what is known from step to step
 pub record Facts : Type 1 where
@@ -109,7 +107,7 @@ module _ (T : Facts) (g : Geometry) (K : Kind) (S limit : ℕ) (plan : List Step
       (λ _. (k, u, subst (T.Lawful k) (sym e) l)) (λ y _. (k', u' y, l'))))
 
   -- a frame that starts its operation
-  pub starting : (o : Command) (p : ℕ) → part_of (length m.array) ≡ Known g → Ready r → p < g.pages → sealed g r (sector_of g p) ≡ false
+  pub starting : (o : Command) (p : ℕ) → part_of (length m.array) ≡ Some g → Ready r → p < g.pages → sealed g r (sector_of g p) ≡ false
       → control g r (frame_of g K h (Send o p)) ≡ started r (operation_of o p)
   starting o p b y l s =
       let e = send_named g r K h p y (length m.array) o b (sized (length m.array) g b) l in
@@ -120,7 +118,7 @@ module _ (T : Facts) (g : Geometry) (K : Kind) (S limit : ℕ) (plan : List Step
       go (inl z) = z
       go (inr z) = never (sym s ∙ z.1)
 
-  pub sent-next : (o : Command) (p : ℕ) (k : T.Know) → part_of (length m.array) ≡ Known g → Ready r → p < g.pages → sealed g r (sector_of g p) ≡ false
+  pub sent-next : (o : Command) (p : ℕ) (k : T.Know) → part_of (length m.array) ≡ Some g → Ready r → p < g.pages → sealed g r (sector_of g p) ≡ false
       → T.Holds k c.listed c.guarded (with_operation r (operation_of o p)) m h → T.Lawful k rest → Turned (Send o p)
   unfolding taken_by course_by
   sent-next o p k b y l s u w = λ _. (
@@ -142,7 +140,7 @@ module _ (T : Facts) (g : Geometry) (v : Request) where
   pub record Tracked (p : Open) (q : Closed) : Type 0 where
     pub room : T.Room q.memory
     pub here : Next T plan₀ p.course p.registers q.memory q.holding
-    pub uncut : p.course.stage ≡ Ended Answers.Done → p.cut ≡ false
+    pub uncut : p.course.stage ≡ Some Answers.Done → p.cut ≡ false
     pub over : Over plan₀ p.course
 
   -- what a busy end keeps, and how a step goes on
@@ -160,7 +158,7 @@ module _ (T : Facts) (g : Geometry) (v : Request) where
     unfolding step_open step_closed open_after closed_after registers_after memory_after number_of
     live_tracked p q e some u =
         let z = subst (λ (b : Bool). Next T plan₀ (cond b p after₁).course (cond b p after₁).registers (cond b q kept).memory (cond b q kept).holding
-        × ((cond b p after₁).course.stage ≡ Ended Answers.Done → (cond b p after₁).cut ≡ false) × Over plan₀ (cond b p after₁).course)
+        × ((cond b p after₁).course.stage ≡ Some Answers.Done → (cond b p after₁).cut ≡ false) × Over plan₀ (cond b p after₁).course)
         (sym e) (go (eqb (scripted v.script p.frames) 2) (eqb (scripted v.script p.frames) 0), not-cut (eqb (scripted v.script p.frames) 2), at_end (eqb (scripted v.script p.frames) 2)) in
         record { room = step_keeps (λ r m. T.Room m) T.steady g v p q u.room; here = z.0; uncut = z.1; over = z.2 }
       where
@@ -199,7 +197,7 @@ module _ (T : Facts) (g : Geometry) (v : Request) where
             )
         go false false = turn
 
-        not-cut : (b : Bool) → (cond b (ended Answers.Cut p.course) on).stage ≡ Ended Answers.Done → b ≡ false
+        not-cut : (b : Bool) → (cond b (ended Answers.Cut p.course) on).stage ≡ Some Answers.Done → b ≡ false
         not-cut true z = not_done Answers.Cut (lit< tt, lit< tt) z
         not-cut false z = refl
 

@@ -2,6 +2,7 @@
 -- closed half (Blind), so alike inputs leave alike registers; the junk that reaches a register is alike, so a cut does too; and the
 -- list follows by induction. Of the answers control leaves 16 open too, and that never comes (Never).
 -- Assumes nothing.
+use Rattle.std.specs.Prelude.{None, Option, Some}
 use Prim.Native.Nat.{ℕ}
 use mathlib.Core.Path.{◌≡◌, refl, sym, ap, subst, ◌∙◌}
 use mathlib.Core.Bool.{Bool, true, false, cond, ◌&&◌, ◌||◌}
@@ -10,8 +11,6 @@ use mathlib.Core.Logic.{◌⊎◌, inl, inr}
 use lib.ListN.{length}
 use lib.Dec.{eqb}
 use Rattle.geometry.specs.declared.Geometry.{Geometry}
-use Rattle.geometry.specs.declared.Part.{Part}
-use Rattle.geometry.specs.declared.Part.TheVariants.{Known, Unknown}
 use Rattle.registers.specs.declared.Registers.{Registers}
 use Rattle.registers.specs.Fields.{with_wp}
 use Rattle.registers.specs.Operations.{placed}
@@ -22,8 +21,6 @@ use Rattle.state.specs.declared.Answer.{Answer}
 use Rattle.state.specs.declared.Answer.TheVariants as Answers
 use Rattle.state.specs.Answers.{number_of}
 use Rattle.state.specs.Outcomes.{framed, Left, part_in, sent_state, ended_state, pinned_state, cut_state, sent_by, ended_by, pin_outcome, cut_fits, cut_by}
-use Rattle.slots.specs.declared.Stage.{Stage}
-use Rattle.slots.specs.declared.Stage.TheVariants.{Going, Ended}
 use Rattle.slots.specs.declared.Verdict.{Verdict}
 use Rattle.slots.specs.declared.Verdict.TheVariants.{Good, Blank, Beyond, Outside, Miscompared}
 use Rattle.state.specs.Memory.{State, chip_in}
@@ -63,10 +60,10 @@ weighed_agree n v w = go (eqb (number_of n) 0)
     go true = inr (from_data v, from_data w)
     go false = inl refl
 
-answer_agree : (t : Stage) (v w : Verdict) → Agree (answer_in (told_by t v)) (answer_in (told_by t w))
+answer_agree : (t : Option Answer) (v w : Verdict) → Agree (answer_in (told_by t v)) (answer_in (told_by t w))
 unfolding told_by answer_in
-answer_agree Going v w = inl refl
-answer_agree (Ended n) v w = weighed_agree n v w
+answer_agree None v w = inl refl
+answer_agree (Some n) v w = weighed_agree n v w
 
 -- where neither is 16
 settled : (a b : Answer) → No16 a → No16 b → Agree a b → (a ≡ b) ⊎ (Soft a × Soft b)
@@ -169,8 +166,8 @@ met-same : (x y : Left) → x.answer ≡ y.answer → Near (met x) (met y)
 met-same x y e = refl-same refl refl refl e
 
 -- 5 is alike on a known part, and 14
-abbrev pub Flawed : Part → Op → Op → Type 0
-Flawed p o u = ((g : Geometry) → p ≡ Known g → oversize g o ≡ oversize g u) × (misdated o ≡ misdated u)
+abbrev pub Flawed : Option Geometry → Op → Op → Type 0
+Flawed p o u = ((g : Geometry) → p ≡ Some g → oversize g o ≡ oversize g u) × (misdated o ≡ misdated u)
 
 -- what each of the two is asked
 pub request-same : (g : Geometry) (a : Asked) (script : List ℕ) (p q : Detail) (x y j k l m c d : List ℕ) → is_over a.kind g p (length x) ≡ is_over a.kind g q (length y) → is_misdated a.kind p ≡ is_misdated a.kind q
@@ -179,43 +176,43 @@ unfolding flaws_in
 request-same g a script p q x y j k l m c d e f ej el ex = λ i. record { asked = a; script = script; log = el i; junk = ej i; flaws = record { size = e i || is_short a.kind g (ex i); dates = f i } }
 
 module _ (s t : State) (h : Twins s t) where
-  out-same : (p : Part) {o u : Op} → Given o u → Flawed p o u → Near (out_at p o s) (out_at p u t)
+  out-same : (p : Option Geometry) {o u : Op} → Given o u → Flawed p o u → Near (out_at p o s) (out_at p u t)
   unfolding out_at call_by raw_by oversize misdated sent_by ended_by pin_outcome cut_by
-  out-same (Known g) (calls a script {p} {q} {a = x} {b = y} {j} {k} {l} {m} {x = c} {y = d} ej el ex) e =
+  out-same (Some g) (calls a script {p} {q} {a = x} {b = y} {j} {k} {l} {m} {x = c} {y = d} ej el ex) e =
       call_same g (request-same g a script p q x y j k l m c d (e.0 g refl) e.1 ej el ex) (secret x p j c) (secret y q k d) s t h
-  out-same (Known g) (raws frame script {j} {k} {l} {m} {a} {b} ej el ea) e = raw_same g frame script j k l m a b s t ej el ea h
-  out-same (Known g) (straights frame {a} {b} ea) e =
-      met-same (sent_by (Known g) s frame a) (sent_by (Known g) t frame b)
+  out-same (Some g) (raws frame script {j} {k} {l} {m} {a} {b} ej el ea) e = raw_same g frame script j k l m a b s t ej el ea h
+  out-same (Some g) (straights frame {a} {b} ea) e =
+      met-same (sent_by (Some g) s frame a) (sent_by (Some g) t frame b)
       (pick_answer (framed (length frame) (length a)) _ _ ∙ (λ i. cond (framed (length frame) (ea i)) Answers.Done Answers.Frame) ∙ sym (pick_answer (framed (length frame) (length b)) _ _))
-  out-same (Known g) (pins high) e = met-same (pin_outcome high s) (pin_outcome high t) refl
-  out-same (Known g) ends e = met-same (ended_by (Known g) s) (ended_by (Known g) t) refl
-  out-same (Known g) (cuts {j} {k} ej) e =
-      met-same (cut_by (Known g) j s) (cut_by (Known g) k t)
+  out-same (Some g) (pins high) e = met-same (pin_outcome high s) (pin_outcome high t) refl
+  out-same (Some g) ends e = met-same (ended_by (Some g) s) (ended_by (Some g) t) refl
+  out-same (Some g) (cuts {j} {k} ej) e =
+      met-same (cut_by (Some g) j s) (cut_by (Some g) k t)
       (pick_answer (cut_fits g (length s.memory.array) (length j)) _ _ ∙ (λ i. cond (cut_fits g (h.size i) (ej i)) Answers.Done Answers.Script)
       ∙ sym (pick_answer (cut_fits g (length t.memory.array) (length k)) _ _))
-  out-same Unknown (calls a script ej el ex) e = refl-same refl refl refl refl
-  out-same Unknown (raws frame script ej el ea) e = refl-same refl refl refl refl
-  out-same Unknown (straights frame ea) e = refl-same refl refl refl refl
-  out-same Unknown (pins high) e = refl-same refl refl refl refl
-  out-same Unknown ends e = refl-same refl refl refl refl
-  out-same Unknown (cuts ej) e = refl-same refl refl refl refl
+  out-same None (calls a script ej el ex) e = refl-same refl refl refl refl
+  out-same None (raws frame script ej el ea) e = refl-same refl refl refl refl
+  out-same None (straights frame ea) e = refl-same refl refl refl refl
+  out-same None (pins high) e = refl-same refl refl refl refl
+  out-same None ends e = refl-same refl refl refl refl
+  out-same None (cuts ej) e = refl-same refl refl refl refl
 
-  registers-same : (p : Part) {o u : Op} → Given o u → Flawed p o u → junk_by p o s ≡ junk_by p u t → (next_at p o s).registers ≡ (next_at p u t).registers
+  registers-same : (p : Option Geometry) {o u : Op} → Given o u → Flawed p o u → junk_by p o s ≡ junk_by p u t → (next_at p o s).registers ≡ (next_at p u t).registers
   unfolding next_at called_by raw_left raw_next raw_junk cut_junk oversize misdated junk_by sent_by ended_by pin_outcome pinned_state cut_by sent_state ended_state cut_state
-  registers-same (Known g) (calls a script {p} {q} {a = x} {b = y} {j} {k} {l} {m} {x = c} {y = d} ej el ex) e z =
+  registers-same (Some g) (calls a script {p} {q} {a = x} {b = y} {j} {k} {l} {m} {x = c} {y = d} ej el ex) e z =
       call-registers g (request-same g a script p q x y j k l m c d (e.0 g refl) e.1 ej el ex) (secret x p j c) (secret y q k d) s t h z
-  registers-same (Known g) (raws frame script {j} {k} {l} {m} {a} {b} ej el ea) e z =
+  registers-same (Some g) (raws frame script {j} {k} {l} {m} {a} {b} ej el ea) e z =
       let r = raw_refusal_lem g frame script j k l m a b s t ej el ea h in
       raw-registers (eqb (number_of (raw_refusal g (length s.memory.array) frame (length a) (length l) script (length j))) 0) (eqb (scripted script 0) 2) g (scripted script 0) frame j s
       ∙ (λ i. cond (eqb (number_of (r i)) 0) (cond (eqb (scripted script 0) 2) (lost g (control g (h.registers i) frame).registers (z i)) (registers_after g (scripted script 0) (control g (h.registers i) frame).registers)) (h.registers i))
       ∙ sym (raw-registers (eqb (number_of (raw_refusal g (length t.memory.array) frame (length b) (length m) script (length k))) 0) (eqb (scripted script 0) 2) g (scripted script 0) frame k t)
-  registers-same (Known g) (straights frame {a} {b} ea) e z =
+  registers-same (Some g) (straights frame {a} {b} ea) e z =
       pick_state (framed (length frame) (length a)) _ _
       ∙ (λ i. cond (framed (length frame) (ea i)) (control g (h.registers i) frame).registers (h.registers i))
       ∙ sym (pick_state (framed (length frame) (length b)) _ _)
-  registers-same (Known g) (pins high) e z = λ i. with_wp (h.registers i) high
-  registers-same (Known g) ends e z = λ i. completed g (h.registers i)
-  registers-same (Known g) (cuts {j} {k} ej) e z =
+  registers-same (Some g) (pins high) e z = λ i. with_wp (h.registers i) high
+  registers-same (Some g) ends e z = λ i. completed g (h.registers i)
+  registers-same (Some g) (cuts {j} {k} ej) e z =
       pick_state (cut_fits g (length s.memory.array) (length j)) _ _
       ∙ cut-kept (cut_fits g (length s.memory.array) (length j)) s.registers (reaching g s.registers.operation j)
       ∙ (λ i. cond (cut_fits g (h.size i) (ej i)) (lost g (h.registers i) (z i)) (h.registers i))
@@ -226,12 +223,12 @@ module _ (s t : State) (h : Twins s t) where
       cut-kept : (b : Bool) (r : Registers) (w : List ℕ) → cond b (lost g r w) r ≡ cond b (lost g r (cond b w [])) r
       cut-kept true r w = refl
       cut-kept false r w = refl
-  registers-same Unknown (calls a script ej el ex) e z = h.registers
-  registers-same Unknown (raws frame script ej el ea) e z = h.registers
-  registers-same Unknown (straights frame ea) e z = h.registers
-  registers-same Unknown (pins high) e z = λ i. with_wp (h.registers i) high
-  registers-same Unknown ends e z = h.registers
-  registers-same Unknown (cuts ej) e z = h.registers
+  registers-same None (calls a script ej el ex) e z = h.registers
+  registers-same None (raws frame script ej el ea) e z = h.registers
+  registers-same None (straights frame ea) e z = h.registers
+  registers-same None (pins high) e z = λ i. with_wp (h.registers i) high
+  registers-same None ends e z = h.registers
+  registers-same None (cuts ej) e z = h.registers
 
 -- the part is looked up from what the two runs share
 pub part_same : (s t : State) → Twins s t → part_in s ≡ part_in t
@@ -243,7 +240,7 @@ op_same o u s t w z h a =
     let n : Near (out_of o s) (out_of u t) =
     subst (λ (x : Out). Near x (out_of u t)) (sym (out_at_lem o s))
     (subst (λ (y : Out). Near (out_at (part_in s) o s) y) (sym (out_at_lem u t))
-    (subst (λ (p : Part). Near (out_at (part_in s) o s) (out_at p u t)) (part_same s t h) (out-same s t h (part_in s) a.given (a.size, a.dates)))) in
+    (subst (λ (p : Option Geometry). Near (out_at (part_in s) o s) (out_at p u t)) (part_same s t h) (out-same s t h (part_in s) a.given (a.size, a.dates)))) in
     record {
       lines = n.lines;
       frames = n.frames;
@@ -259,8 +256,8 @@ next_twins o u s t h a =
     record {
       registers =
           ap (λ (x : State). x.registers) (next_at_lem o s)
-          ∙ subst (λ (q : Part). (next_at (part_in s) o s).registers ≡ (next_at q u t).registers) p
-          (registers-same s t h (part_in s) a.given (a.size, a.dates) (subst (λ (q : Part). junk_by (part_in s) o s ≡ junk_by q u t) (sym p) a.junk))
+          ∙ subst (λ (q : Option Geometry). (next_at (part_in s) o s).registers ≡ (next_at q u t).registers) p
+          (registers-same s t h (part_in s) a.given (a.size, a.dates) (subst (λ (q : Option Geometry). junk_by (part_in s) o s ≡ junk_by q u t) (sym p) a.junk))
           ∙ ap (λ (x : State). x.registers) (sym (next_at_lem u t));
       size =
           op_keeps (λ r m. length m.array ≡ n) (array_steady (λ x. x ≡ n)) o s h.size

@@ -1,9 +1,7 @@
 -- What demand 3 says of two runs: which inputs are alike, and which outcomes are the same.
 -- Assumes nothing.
-use Rattle.std.specs.Prelude.{ℕ, ◌≡◌, Bool, false, cond, ◌&&◌, List, [], ◌∷◌, ◌⊎◌, length, eqb}
+use Rattle.std.specs.Prelude.{ℕ, ◌≡◌, Bool, false, cond, ◌&&◌, List, [], ◌∷◌, ◌⊎◌, length, eqb, None, Option, Some}
 use Rattle.geometry.specs.declared.Geometry.{Geometry}
-use Rattle.geometry.specs.declared.Part.{Part}
-use Rattle.geometry.specs.declared.Part.TheVariants.{Known, Unknown}
 use Rattle.control.specs.Control.{control}
 use Rattle.control.specs.PowerLoss.{reaching}
 use Rattle.state.specs.declared.Answer.{Answer}
@@ -71,14 +69,14 @@ unfoldable pub cut_junk : Geometry → List ℕ → State → List ℕ
 cut_junk g junk s = cond (cut_fits g (length s.memory.array) (length junk)) (reaching g s.registers.operation junk) []
 
 -- (14.20) in any call or event
-unfoldable pub junk_by : Part → Op → State → List ℕ
-junk_by (Known g) (call a d script payload junk log lent) s = call_junk g (asks g a d script payload junk log lent) (secret payload d junk lent) s
-junk_by (Known g) (raw frame script junk log reply) s = raw_junk g frame script junk log reply s
-junk_by (Known g) (straight frame reply) s = []
-junk_by (Known g) (pin high) s = []
-junk_by (Known g) busy_end s = []
-junk_by (Known g) (cut junk) s = cut_junk g junk s
-junk_by Unknown o s = []
+unfoldable pub junk_by : Option Geometry → Op → State → List ℕ
+junk_by (Some g) (call a d script payload junk log lent) s = call_junk g (asks g a d script payload junk log lent) (secret payload d junk lent) s
+junk_by (Some g) (raw frame script junk log reply) s = raw_junk g frame script junk log reply s
+junk_by (Some g) (straight frame reply) s = []
+junk_by (Some g) (pin high) s = []
+junk_by (Some g) busy_end s = []
+junk_by (Some g) (cut junk) s = cut_junk g junk s
+junk_by None o s = []
 
 -- (14.20) looked up along the run
 unfoldable pub junk_of : Op → State → List ℕ
@@ -88,7 +86,7 @@ junk_of o s = junk_by (part_in s) o s
 -- (14.20) and the junk that reaches a register is equal
 pub record Alike (o u : Op) (s t : State) : Type 0 where
   pub given : Given o u
-  pub size : (g : Geometry) → part_in s ≡ Known g → oversize g o ≡ oversize g u
+  pub size : (g : Geometry) → part_in s ≡ Some g → oversize g o ≡ oversize g u
   pub dates : misdated o ≡ misdated u
   pub junk : junk_of o s ≡ junk_of u t
 

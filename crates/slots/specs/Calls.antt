@@ -1,7 +1,7 @@
 -- The calls run on the chip, one frame after another, each with its script byte. A run's state has a half that the wire may show (`Open`) and one that it
 -- may not (`Closed`).
 -- Assumes nothing.
-use Rattle.std.specs.Prelude.{ℕ, zero, suc, ◌+◌, ◌/◌, ◌%◌, Bool, false, cond, List, [], ◌∷◌, ◌++◌, length, get_or, take, drop, replicate, eqb}
+use Rattle.std.specs.Prelude.{ℕ, zero, suc, ◌+◌, ◌/◌, ◌%◌, Bool, false, cond, List, [], ◌∷◌, ◌++◌, length, get_or, take, drop, replicate, eqb, None, Option, Some}
 use Rattle.geometry.specs.Parts.{slot_room}
 use Rattle.slices.specs.Lists.{over}
 use Rattle.geometry.specs.declared.Geometry.{Geometry}
@@ -19,9 +19,6 @@ use Rattle.slots.specs.declared.Course.{Course}
 use Rattle.slots.specs.declared.Flaws.{Flaws}
 use Rattle.slots.specs.declared.Kind.{Kind}
 use Rattle.slots.specs.declared.Kind.TheVariants.{Put, Patch, Get, Wipe}
-use Rattle.slots.specs.declared.Stage.TheVariants.{Going, Ended}
-use Rattle.slots.specs.declared.Told.{Told}
-use Rattle.slots.specs.declared.Told.TheVariants.{Running, Answered}
 use Rattle.slots.specs.declared.Verdict.TheVariants.{Good}
 use Rattle.state.specs.Outcomes.{sent_state, cut_state}
 use Rattle.slots.specs.Plans.{Asked, bound, is_wait, sector_for}
@@ -153,7 +150,7 @@ run (suc n) g v p q = run n g v (step_open g v p q) (step_closed g v p q)
 -- (11.10) where a call starts: its first wait, or already ended if it is refused
 unfoldable pub first_course : Answer → ℕ → Course
 first_course refusal limit =
-    record { place = 0; left = limit; stage = cond (eqb (number_of refusal) 0) Going (Ended refusal); listed = false; guarded = false }
+    record { place = 0; left = limit; stage = cond (eqb (number_of refusal) 0) None (Some refusal); listed = false; guarded = false }
 
 -- Aid: the refusal of what is asked; Done where there is none
 abbrev pub refusal_of : Geometry → ℕ → Request → Answer
@@ -207,9 +204,9 @@ out_from v x z a =
     }
 
 -- Aid: a call's answer. A run always comes to an end, so that the first row is never met (`call_ends`)
-unfoldable pub answer_in : Told → Answer
-answer_in Running = Answers.Busy
-answer_in (Answered a) = a
+unfoldable pub answer_in : Option Answer → Answer
+answer_in None = Answers.Busy
+answer_in (Some a) = a
 
 -- (11.11) the answer of a run
 abbrev pub answer_at : Open × Closed → Answer

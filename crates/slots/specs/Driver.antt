@@ -1,7 +1,7 @@
 -- The slot driver: a reply goes in, the next frame or the end comes out. Its control state (`Course`) is a place in the call's plan and goes by `Heard`
 -- alone; its data (`Holding`) take the whole reply and reach a frame only as the data of an 84.
 -- Assumes nothing.
-use Rattle.std.specs.Prelude.{ℕ, suc, ◌+◌, ◌-◌, ◌*◌, ◌/◌, ◌%◌, Bool, true, false, cond, not, ◌&&◌, ◌||◌, List, length, get_or, eqb, leb}
+use Rattle.std.specs.Prelude.{ℕ, suc, ◌+◌, ◌-◌, ◌*◌, ◌/◌, ◌%◌, Bool, true, false, cond, not, ◌&&◌, ◌||◌, List, length, get_or, eqb, leb, None, Option, Some}
 use Rattle.geometry.specs.Parts.{page_room}
 use Rattle.slices.specs.Lists.{tabulate, splice}
 use Rattle.geometry.specs.declared.Geometry.{Geometry}
@@ -17,10 +17,6 @@ use Rattle.slots.specs.declared.Command.{Command}
 use Rattle.slots.specs.declared.Command.TheVariants.{Program, Erase, Compare}
 use Rattle.slots.specs.declared.Step.{Step}
 use Rattle.slots.specs.declared.Step.TheVariants.{Wait, Protection, Lockdown, Read, Load, Send, End}
-use Rattle.slots.specs.declared.Stage.{Stage}
-use Rattle.slots.specs.declared.Stage.TheVariants.{Going, Ended}
-use Rattle.slots.specs.declared.Told.{Told}
-use Rattle.slots.specs.declared.Told.TheVariants.{Running, Answered}
 use Rattle.slots.specs.declared.Verdict.{Verdict}
 use Rattle.slots.specs.declared.Verdict.TheVariants.{Good, Blank, Beyond, Outside, Miscompared}
 use Rattle.slots.specs.Records.{head_size, version_in, image, changed, get_verdict, patch_verdict}
@@ -132,13 +128,13 @@ heard g End sector reply = register_heard false
 
 -- (12.16) the call ends here
 abbrev pub ended : Answer → Course → Course
-ended n c = record { place = c.place; left = c.left; stage = Ended n; listed = c.listed; guarded = c.guarded }
+ended n c = record { place = c.place; left = c.left; stage = Some n; listed = c.listed; guarded = c.guarded }
 
 -- (10.15) the next step has all B polls
 -- (10.18) the plan's end is the call's
 abbrev pub moved : Step → ℕ → Course → Course
 moved next limit c =
-    record { place = suc c.place; left = limit; stage = cond (is_end next) (Ended Answers.Done) Going; listed = c.listed; guarded = c.guarded }
+    record { place = suc c.place; left = limit; stage = cond (is_end next) (Some Answers.Done) None; listed = c.listed; guarded = c.guarded }
 
 -- (10.16) whether the sector is listed, by the reply to 32
 abbrev pub noted : Bool → Course → Course
@@ -226,9 +222,9 @@ taken_by End g k h reply = h
 -- ---- the end
 
 -- Aid: it is at its end
-unfoldable pub is_ended : Stage → Bool
-is_ended Going = false
-is_ended (Ended n) = true
+unfoldable pub is_ended : Option Answer → Bool
+is_ended None = false
+is_ended (Some n) = true
 
 -- (10.21) the answer of a verdict
 unfoldable pub verdict_answer : Verdict → Answer
@@ -243,6 +239,6 @@ unfoldable pub weighed : Answer → Verdict → Answer
 weighed n v = cond (eqb (number_of n) 0) (verdict_answer v) n
 
 -- (10.22) what a driver tells: one that has not ended has no answer
-unfoldable pub told_by : Stage → Verdict → Told
-told_by Going v = Running
-told_by (Ended n) v = Answered (weighed n v)
+unfoldable pub told_by : Option Answer → Verdict → Option Answer
+told_by None v = None
+told_by (Some n) v = Some (weighed n v)

@@ -1,11 +1,9 @@
 -- Calls and events, and lists of them: each is done on what the one before it left.
 -- Assumes nothing.
-use Rattle.std.specs.Prelude.{ℕ, ◌≡◌, Bool, ◌&&◌, ◌||◌, List, [], ◌∷◌, length, eqb, leb}
+use Rattle.std.specs.Prelude.{ℕ, ◌≡◌, Bool, ◌&&◌, ◌||◌, List, [], ◌∷◌, length, eqb, leb, None, Option, Some}
 use Rattle.dates.specs.declared.Date.{Date}
 use Rattle.dates.specs.declared.Term.{Term}
 use Rattle.geometry.specs.declared.Geometry.{Geometry}
-use Rattle.geometry.specs.declared.Part.{Part}
-use Rattle.geometry.specs.declared.Part.TheVariants.{Known, Unknown}
 use Rattle.state.specs.declared.Answer.{Answer}
 use Rattle.state.specs.declared.Answer.TheVariants as Answers
 use Rattle.state.specs.Answers.{number_of}
@@ -71,15 +69,15 @@ abbrev pub met : Left → Out
 met o = refused o.answer o.reply
 
 -- (12.10) a call by a plan: 1 on an array of no part
-unfoldable pub call_by : Part → Asked → Detail → (script payload junk log lent : List ℕ) → State → Out
-call_by (Known g) a d script payload junk log lent s =
+unfoldable pub call_by : Option Geometry → Asked → Detail → (script payload junk log lent : List ℕ) → State → Out
+call_by (Some g) a d script payload junk log lent s =
     call_out g (asks g a d script payload junk log lent) (secret payload d junk lent) s
-call_by Unknown a d script payload junk log lent s = refused Answers.Part lent
+call_by None a d script payload junk log lent s = refused Answers.Part lent
 
 -- (12.10) raw, likewise
-unfoldable pub raw_by : Part → (frame script junk log reply : List ℕ) → State → Out
-raw_by (Known g) frame script junk log reply s = raw_out g frame script (length log) (length junk) reply s
-raw_by Unknown frame script junk log reply s = refused Answers.Part reply
+unfoldable pub raw_by : Option Geometry → (frame script junk log reply : List ℕ) → State → Out
+raw_by (Some g) frame script junk log reply s = raw_out g frame script (length log) (length junk) reply s
+raw_by None frame script junk log reply s = refused Answers.Part reply
 
 -- (11.16) what a call or an event answers and hands back
 unfoldable pub out_of : Op → State → Out
@@ -93,15 +91,15 @@ out_of (cut junk) s = met (cut_outcome junk s)
 -- ---- states
 
 -- (12.10) the state after a call by a plan
-unfoldable pub called_by : Part → Asked → Detail → (script payload junk log lent : List ℕ) → State → State
-called_by (Known g) a d script payload junk log lent s =
+unfoldable pub called_by : Option Geometry → Asked → Detail → (script payload junk log lent : List ℕ) → State → State
+called_by (Some g) a d script payload junk log lent s =
     call_next g (asks g a d script payload junk log lent) (secret payload d junk lent) s
-called_by Unknown a d script payload junk log lent s = s
+called_by None a d script payload junk log lent s = s
 
 -- (12.10) after raw
-unfoldable pub raw_left : Part → (frame script junk log reply : List ℕ) → State → State
-raw_left (Known g) frame script junk log reply s = raw_next g frame script (length log) junk (length reply) s
-raw_left Unknown frame script junk log reply s = s
+unfoldable pub raw_left : Option Geometry → (frame script junk log reply : List ℕ) → State → State
+raw_left (Some g) frame script junk log reply s = raw_next g frame script (length log) junk (length reply) s
+raw_left None frame script junk log reply s = s
 
 -- (11.16) the state after a call or an event
 unfoldable pub next_of : Op → State → State

@@ -1,11 +1,9 @@
 -- What demand 2 says of a recipe that a put stored: it comes back from every later get, until a frame programs or erases in its slot. Said of any run
 -- of pages: those from page `first` up to page `end`.
 -- Assumes nothing.
-use Rattle.std.specs.Prelude.{ℕ, zero, suc, ◌+◌, ◌*◌, ◌%◌, ◌≤◌, ◌<◌, ◌≡◌, Bool, true, false, cond, List, [], ◌∷◌, ◌⊎◌, length, take, eqb}
+use Rattle.std.specs.Prelude.{ℕ, zero, suc, ◌+◌, ◌*◌, ◌%◌, ◌≤◌, ◌<◌, ◌≡◌, Bool, true, false, cond, List, [], ◌∷◌, ◌⊎◌, length, take, eqb, None, Option, Some}
 use Rattle.slices.specs.Lists.{tabulate}
 use Rattle.geometry.specs.declared.Geometry.{Geometry}
-use Rattle.geometry.specs.declared.Part.{Part}
-use Rattle.geometry.specs.declared.Part.TheVariants.{Known, Unknown}
 use Rattle.geometry.specs.Parts.{page_of}
 use Rattle.registers.specs.declared.Operation.{Operation}
 use Rattle.registers.specs.declared.Operation.TheVariants.{Idle}
@@ -33,7 +31,7 @@ Spares g first end o = (p : ℕ) → first ≤ p → p < end → writes g o p �
 
 -- (14.5) the part has the pages, page p holds b p, and what is under way writes none of them
 pub record Kept (g : Geometry) (first end : ℕ) (b : ℕ → List ℕ) (r : Registers) (m : Memory) : Type 0 where
-  pub part : placed (length m.array) r.operation ≡ Known g
+  pub part : placed (length m.array) r.operation ≡ Some g
   pub fits : end ≤ g.pages
   pub spares : Spares g first end r.operation
   pub bytes : (p : ℕ) → first ≤ p → p < end → page_of g p m.array ≡ b p
@@ -78,17 +76,17 @@ QuietCall first end g v x s =
     QuietFrames first end (bound g v.asked) g v (start_open g (length s.memory.array) v s.registers) (start_closed x s.memory)
 
 -- (14.6) no obeyed frame of this call, if it is not refused, starts an operation that writes one of the pages; an event sends none
-abbrev pub QuietBy : ℕ → ℕ → Part → Op → State → Type 0
-QuietBy first end (Known g) (call a d script payload junk log lent) s =
+abbrev pub QuietBy : ℕ → ℕ → Option Geometry → Op → State → Type 0
+QuietBy first end (Some g) (call a d script payload junk log lent) s =
     QuietCall first end g (asks g a d script payload junk log lent) (secret payload d junk lent) s
-QuietBy first end (Known g) (raw frame script junk log reply) s =
+QuietBy first end (Some g) (raw frame script junk log reply) s =
     eqb (number_of (raw_refusal g (length s.memory.array) frame (length reply) (length log) script (length junk))) 0 ≡ true
     → Spares g first end (started_by g s.registers frame)
-QuietBy first end (Known g) (straight frame reply) s = framed (length frame) (length reply) ≡ true → Spares g first end (started_by g s.registers frame)
-QuietBy first end (Known g) (pin high) s = Unit {0}
-QuietBy first end (Known g) busy_end s = Unit {0}
-QuietBy first end (Known g) (cut junk) s = Unit {0}
-QuietBy first end Unknown o s = Unit {0}
+QuietBy first end (Some g) (straight frame reply) s = framed (length frame) (length reply) ≡ true → Spares g first end (started_by g s.registers frame)
+QuietBy first end (Some g) (pin high) s = Unit {0}
+QuietBy first end (Some g) busy_end s = Unit {0}
+QuietBy first end (Some g) (cut junk) s = Unit {0}
+QuietBy first end None o s = Unit {0}
 
 -- (14.6) nor does any of a list
 abbrev pub Quiet : ℕ → ℕ → List Op → State → Type 0

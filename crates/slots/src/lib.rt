@@ -34,27 +34,14 @@ pub enum Step {
     End,
 }
 
-// Still going, or ended with an answer.
-#[derive(Clone, Copy)]
-pub enum Stage {
-    Going,
-    Ended { answer: Answer },
-}
-
-// What a driver tells of its call: nothing while it is running, then the answer.
-#[derive(Clone, Copy)]
-pub enum Told {
-    Running,
-    Answered { answer: Answer },
-}
-
 // The driver's control state: the place in the plan, how many polls are left, and what was heard of the sector: whether it is listed, and
 // status bit 1.
 #[derive(Clone, Copy)]
 pub struct Course {
     pub place: usize,
     pub left: usize,
-    pub stage: Stage,
+    // None while the call goes on, then the answer that it has ended with.
+    pub stage: Option<Answer>,
     pub listed: bool,
     pub guarded: bool,
 }

@@ -2,7 +2,7 @@
 // Internal to this repository: a caller here meets each `requires`; no entry point is in this crate.
 #![tactic(auto)]
 
-ghost use Rattle.std.specs.Prelude.{◌≡◌, ◌<◌, cond, ◌||◌, length, eqb};
+ghost use Rattle.std.specs.Prelude.{◌≡◌, ◌<◌, cond, ◌||◌, length, eqb, Some, None};
 ghost use Rattle.geometry.specs.declared.Geometry.{Geometry};
 ghost use Rattle.geometry.specs.Parts.{part_of};
 ghost use Rattle.state.specs.Answers.{number_of};
@@ -14,8 +14,8 @@ ghost use Rattle.records.specs.Held.{Pages};
 ghost use Rattle.worlds.specs.Start.{start_refusal, start_driver};
 
 use dates::{Date, Term};
-use geometry::{Geometry, Part};
-use slots::{Aim, Course, Detail, Driver, Flaws, Kind, Period, Stage, Verdict};
+use geometry::Geometry;
+use slots::{Aim, Course, Detail, Driver, Flaws, Kind, Period, Verdict};
 use state::Answer;
 
 // ---- what each call is told
@@ -176,7 +176,7 @@ fn refusal_on(
     lent: usize,
 ) -> Answer
     requires { Pages g }
-    ensures { result ≡ start_refusal (Part.Known g) (asking kind slot limit) detail n lent }
+    ensures { result ≡ start_refusal (Some g) (asking kind slot limit) detail n lent }
 {
     let flaws = flaws_in(g, kind, detail, n, lent);
     early_refusal(g, kind, slot, limit, flaws)
@@ -195,18 +195,18 @@ pub fn refusal(
 {
     let p = geometry::part_of(array);
     match p {
-        Part::Known(g) => refusal_on(g, kind, slot, limit, detail, n, lent),
-        Part::Unknown => Answer::Part,
+        Some(g) => refusal_on(g, kind, slot, limit, detail, n, lent),
+        None => Answer::Part,
     }
 }
 
-pub fn first_stage(refusal: Answer) -> Stage
-    ensures { result ≡ cond (eqb (number_of refusal) 0) Stage.Going (Stage.Ended refusal) }
+pub fn first_stage(refusal: Answer) -> Option<Answer>
+    ensures { result ≡ cond (eqb (number_of refusal) 0) None (Some refusal) }
 {
     if state::number(refusal) == 0 {
-        return Stage::Going;
+        return None;
     }
-    Stage::Ended { answer: refusal }
+    Some(refusal)
 }
 
 // A call by its kind: `n` is the length of recipe or patch, `lent` that of the get buffer.

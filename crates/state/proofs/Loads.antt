@@ -2,6 +2,7 @@
 -- busy end makes a page of the buffer, that of a 60 finds page and buffer alike where they are, and D7, 32, 35, D2, 83 and 50 leave the memory as it is; a
 -- busy end of an idle chip changes nothing.
 -- Assumes nothing.
+use Rattle.std.specs.Prelude.{Some}
 use mathlib.Core.Path.{◌≡◌, refl, sym, ap, subst, ◌∙◌}
 use mathlib.Core.Bool.{Bool, true, false, cond, not}
 use mathlib.Core.List.{List, [], ◌∷◌}
@@ -13,7 +14,6 @@ use Rattle.slices.specs.Lists.{over, ring_write, same}
 use Rattle.slices.proofs.Laws.{splice-zero, splice-part, same_refl}
 use Rattle.slices.proofs.Rings.{ring_write-splice, ring_write-whole}
 use Rattle.geometry.specs.declared.Geometry.{Geometry}
-use Rattle.geometry.specs.declared.Part.TheVariants.{Known}
 use Rattle.geometry.specs.Parts.{Sized, address_at, page_at, byte_at, page_of, run}
 use Rattle.geometry.specs.Sectors.{sector_of}
 use Rattle.commands.specs.declared.Buffer.{Buffer}
@@ -143,7 +143,7 @@ pub idle_memory : (g : Geometry) (o : Operation) (m : Memory) → o ≡ Idle →
 unfolding completed_memory
 idle_memory g o m e = λ i. completed_memory g (e i) m
 
-pub end_idle : (s : State) (g : Geometry) → part_in s ≡ Known g → s.registers.operation ≡ Idle → end_outcome s ≡ left Answers.Done s []
+pub end_idle : (s : State) (g : Geometry) → part_in s ≡ Some g → s.registers.operation ≡ Idle → end_outcome s ≡ left Answers.Done s []
 unfolding ended_state
 end_idle s g p e =
     end-done s g p

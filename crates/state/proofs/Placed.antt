@@ -1,13 +1,13 @@
 -- A chip stays of its part: the array keeps its length, and neither a frame, a busy end, a cut nor a pin move leaves an operation that names
 -- something beyond the part.
 -- Assumes nothing.
+use Rattle.std.specs.Prelude.{Some}
 use mathlib.Core.Path.{◌≡◌, refl, sym, ap, ◌∙◌}
 use mathlib.Core.Bool.{Bool}
 use mathlib.Core.List.{List}
 use Prim.Native.Nat.{ℕ}
 use lib.ListN.{length}
 use Rattle.geometry.specs.declared.Geometry.{Geometry}
-use Rattle.geometry.specs.declared.Part.TheVariants.{Known}
 use Rattle.registers.specs.declared.Operation.{Operation}
 use Rattle.registers.specs.declared.Operation.TheVariants.{Idle}
 use Rattle.registers.specs.declared.Registers.{Registers}
@@ -25,19 +25,19 @@ use Rattle.state.proofs.Lengths.{sent-array, completed-array-length, lost-array-
 
 -- ---- of registers and an array's length
 module _ (n : ℕ) (g : Geometry) where
-  idle_placed : (o u : Operation) → u ≡ Idle → placed n o ≡ Known g → placed n u ≡ Known g
+  idle_placed : (o u : Operation) → u ≡ Idle → placed n o ≡ Some g → placed n u ≡ Some g
   unfolding within
   idle_placed o u e p = known_placed n u g (placed_known n o g p).0 (ap (within g) e)
 
-  pub control-placed : (r : Registers) (f : List ℕ) → placed n r.operation ≡ Known g → placed n (control g r f).registers.operation ≡ Known g
+  pub control-placed : (r : Registers) (f : List ℕ) → placed n r.operation ≡ Some g → placed n (control g r f).registers.operation ≡ Some g
   control-placed r f p =
       known_placed n (control g r f).registers.operation g (placed_known n r.operation g p).0
       (control-within g n r f (placed_sized n r.operation g p) (placed_known n r.operation g p).1)
 
-  pub completed-placed : (r : Registers) → placed n r.operation ≡ Known g → placed n (completed g r).operation ≡ Known g
+  pub completed-placed : (r : Registers) → placed n r.operation ≡ Some g → placed n (completed g r).operation ≡ Some g
   completed-placed r p = idle_placed r.operation (completed g r).operation (completed-operation g r) p
 
-  pub lost-placed : (r : Registers) (w : List ℕ) → placed n r.operation ≡ Known g → placed n (lost g r w).operation ≡ Known g
+  pub lost-placed : (r : Registers) (w : List ℕ) → placed n r.operation ≡ Some g → placed n (lost g r w).operation ≡ Some g
   lost-placed r w p = idle_placed r.operation (lost g r w).operation (lost-operation g r w) p
 
 -- ---- of the entry points, refused or not

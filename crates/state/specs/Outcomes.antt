@@ -1,9 +1,7 @@
 -- What each entry point answers and leaves, for accepted and refused input: a refusal changes nothing.
 -- Assumes nothing.
-use Rattle.std.specs.Prelude.{ℕ, ◌+◌, ◌*◌, ◌≡◌, Bool, true, false, cond, ◌&&◌, List, [], length, replicate, eqb, leb}
+use Rattle.std.specs.Prelude.{ℕ, ◌+◌, ◌*◌, ◌≡◌, Bool, true, false, cond, ◌&&◌, List, [], length, replicate, eqb, leb, None, Option, Some}
 use Rattle.geometry.specs.declared.Geometry.{Geometry}
-use Rattle.geometry.specs.declared.Part.{Part}
-use Rattle.geometry.specs.declared.Part.TheVariants.{Known, Unknown}
 use Rattle.geometry.specs.Parts.{register_room, part_of}
 use Rattle.registers.specs.declared.Operation.TheVariants.{Idle}
 use Rattle.registers.specs.declared.Registers.{Registers}
@@ -37,8 +35,8 @@ pub record Leaves (o : Left) (r : Outcome) (xs ys : List ℕ) : Type 0 where
   pub array : xs ≡ o.state.memory.array
   pub reply : ys ≡ o.reply
 
--- (12.3) the part, by the array's length and the operation under way; Unknown is answer 1
-abbrev pub part_in : State → Part
+-- (12.3) the part, by the array's length and the operation under way; None is answer 1
+abbrev pub part_in : State → Option Geometry
 part_in s = placed (length s.memory.array) s.registers.operation
 
 -- ---- fresh
@@ -68,9 +66,9 @@ fresh_state factory xs =
 
 -- (2.14) its array, FFh throughout
 -- (12.15) answer 1 for an array of no part
-unfoldable pub fresh_by : Part → List ℕ → List ℕ → Left
-fresh_by Unknown factory xs = left Answers.Part (fresh_state factory xs) []
-fresh_by (Known g) factory xs = left Answers.Done (fresh_state factory (replicate (length xs) 255)) []
+unfoldable pub fresh_by : Option Geometry → List ℕ → List ℕ → Left
+fresh_by None factory xs = left Answers.Part (fresh_state factory xs) []
+fresh_by (Some g) factory xs = left Answers.Done (fresh_state factory (replicate (length xs) 255)) []
 
 -- (12.15) the part looked up, by the array's length alone
 unfoldable pub fresh_outcome : List ℕ → List ℕ → Left
@@ -87,9 +85,9 @@ unfoldable pub sent_state : Geometry → List ℕ → State → State
 sent_state g f s = record { registers = (control g s.registers f).registers; memory = sent_memory g s.registers f s.memory }
 
 -- (12.11) answer 1, answer 2, or the frame's reply
-unfoldable pub sent_by : Part → State → List ℕ → List ℕ → Left
-sent_by Unknown s f reply = left Answers.Part s reply
-sent_by (Known g) s f reply =
+unfoldable pub sent_by : Option Geometry → State → List ℕ → List ℕ → Left
+sent_by None s f reply = left Answers.Part s reply
+sent_by (Some g) s f reply =
     cond (framed (length f) (length reply))
     (left Answers.Done (sent_state g f s) (reply_of g s.registers s.memory f))
     (left Answers.Frame s reply)
@@ -105,9 +103,9 @@ unfoldable pub ended_state : Geometry → State → State
 ended_state g s = record { registers = completed g s.registers; memory = completed_memory g s.registers.operation s.memory }
 
 -- (12.12) answer 1, or the busy end
-unfoldable pub ended_by : Part → State → Left
-ended_by Unknown s = left Answers.Part s []
-ended_by (Known g) s = left Answers.Done (ended_state g s) []
+unfoldable pub ended_by : Option Geometry → State → Left
+ended_by None s = left Answers.Part s []
+ended_by (Some g) s = left Answers.Done (ended_state g s) []
 
 -- (12.12) the part looked up, busy or idle
 unfoldable pub end_outcome : State → Left
@@ -138,9 +136,9 @@ unfoldable pub cut_fits : Geometry → ℕ → ℕ → Bool
 cut_fits g array junk = eqb junk (2 * g.size + array)
 
 -- (12.14) answer 1, answer 7, or the cut
-unfoldable pub cut_by : Part → List ℕ → State → Left
-cut_by Unknown junk s = left Answers.Part s []
-cut_by (Known g) junk s =
+unfoldable pub cut_by : Option Geometry → List ℕ → State → Left
+cut_by None junk s = left Answers.Part s []
+cut_by (Some g) junk s =
     cond (cut_fits g (length s.memory.array) (length junk)) (left Answers.Done (cut_state g junk s) []) (left Answers.Script s [])
 
 -- (12.14) the part looked up

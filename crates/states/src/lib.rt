@@ -2,15 +2,15 @@
 // Internal to this repository: a caller here meets each `requires`; no entry point is in this crate.
 #![tactic(auto)]
 
-ghost use Rattle.std.specs.Prelude.{◌≡◌, ◌<◌, ◌*◌};
+ghost use Rattle.std.specs.Prelude.{◌≡◌, ◌<◌, ◌*◌, Some};
 ghost use Rattle.geometry.specs.declared.Geometry.{Geometry};
 ghost use Rattle.geometry.specs.Parts.{part_of};
 ghost use Rattle.slots.specs.Driver.{is_ended};
 ghost use Rattle.slots.specs.declared.Stage.{Stage};
 ghost use Rattle.worlds.specs.Step.{stray_refusal, fault_by, stage_by};
 
-use geometry::{Geometry, Part};
-use slots::{Driver, Flaws, Stage};
+use geometry::Geometry;
+use slots::{Driver, Flaws};
 use state::Answer;
 
 // The polls left, and the place.
@@ -33,8 +33,8 @@ fn stray_refusal(d: Driver) -> Answer
 }
 
 fn fault_on(g: Geometry, d: Driver) -> Answer
-    requires { part_of d.array ≡ Part.Known g }
-    ensures { result ≡ fault_by (Part.Known g) d }
+    requires { part_of d.array ≡ Some g }
+    ensures { result ≡ fault_by (Some g) d }
 {
     let k = d.kind;
     let flaws = Flaws {
@@ -48,18 +48,18 @@ fn fault_on(g: Geometry, d: Driver) -> Answer
     stray_refusal(d)
 }
 
-fn fault(p: Part, d: Driver) -> Answer
+fn fault(p: Option<Geometry>, d: Driver) -> Answer
     requires { p ≡ part_of d.array }
     ensures { result ≡ fault_by p d }
 {
     match p {
-        Part::Known(g) => fault_on(g, d),
-        Part::Unknown => Answer::Part,
+        Some(g) => fault_on(g, d),
+        None => Answer::Part,
     }
 }
 
 // The stage as it counts.
-pub fn stage(p: Part, d: Driver) -> Stage
+pub fn stage(p: Option<Geometry>, d: Driver) -> Option<Answer>
     requires { p ≡ part_of d.array }
     ensures { result ≡ stage_by p d }
 {
@@ -72,9 +72,9 @@ pub fn stage(p: Part, d: Driver) -> Stage
 }
 
 pub fn is_over_on(g: Geometry, d: Driver) -> bool
-    requires { part_of d.array ≡ Part.Known g }
-    ensures { result ≡ is_ended (stage_by (Part.Known g) d) }
+    requires { part_of d.array ≡ Some g }
+    ensures { result ≡ is_ended (stage_by (Some g) d) }
 {
-    let s = stage(Part::Known(g), d);
+    let s = stage(Some(g), d);
     courses::has_ended(s)
 }

@@ -8,7 +8,7 @@ ghost use Rattle.slots.specs.Calls.{count_of};
 ghost use Rattle.slots.specs.declared.Stage.{Stage};
 ghost use Rattle.worlds.specs.Turns.{with};
 
-use slots::{Kind, Stage, Told, Verdict};
+use slots::{Kind, Verdict};
 use state::Answer;
 
 fn verdict_answer(v: Verdict) -> Answer
@@ -34,14 +34,12 @@ fn weigh(a: Answer, v: Verdict) -> Answer
 }
 
 // What a stage tells with a verdict.
-pub fn tell(s: Stage, v: Verdict) -> Told
+pub fn tell(s: Option<Answer>, v: Verdict) -> Option<Answer>
     ensures { result ≡ told_by s v }
 {
     match s {
-        Stage::Going => Told::Running,
-        Stage::Ended { answer: a } => Told::Answered {
-            answer: weigh(a, v),
-        },
+        None => None,
+        Some(a) => Some(weigh(a, v)),
     }
 }
 

@@ -1,6 +1,7 @@
 -- WHAT PEOPLE CALL: the driver's functions called in turn do what the driver of the definitions does, so the outlines go by what is heard alone; and any
 -- state at all, made up or damaged, comes to an end within its bound and gives frames of its own plan only.
 -- Assumes nothing.
+use Rattle.std.specs.Prelude.{None, Option, Some}
 use Prim.Native.Nat.{ℕ, zero, suc, ◌+◌, ◌≤◌}
 use native.Mathlib.Omega.{arith}
 use mathlib.Core.Path.{◌≡◌, refl, sym, ap, subst, ◌∙◌}
@@ -8,12 +9,9 @@ use mathlib.Core.Bool.{Bool, true, false, cond, not, ◌&&◌, ◌||◌}
 use mathlib.Core.List.{List, [], ◌∷◌, ◌++◌}
 use lib.ListN.{length}
 use Rattle.geometry.specs.declared.Geometry.{Geometry}
-use Rattle.geometry.specs.declared.Part.{Part}
-use Rattle.geometry.specs.declared.Part.TheVariants.{Known, Unknown}
 use Rattle.geometry.specs.Parts.{part_of}
 use Rattle.slots.specs.declared.Driver.{Driver}
 use Rattle.slots.specs.declared.Kind.{Kind}
-use Rattle.slots.specs.declared.Stage.{Stage}
 use Rattle.slots.specs.declared.Step.{Step}
 use Rattle.slots.specs.declared.Step.TheVariants.{Wait, Protection, Lockdown, Read, Load, Send, End}
 use Rattle.slots.specs.declared.Verdict.TheVariants.{Good}
@@ -21,7 +19,6 @@ use Rattle.slots.specs.Plans.{Asked, plan_of, bound, stated, is_wait, frames_mos
 use Rattle.slots.specs.Refusals.{is_over, is_short, flaws_in}
 use Rattle.slots.specs.Driver.{Holding, frame_of, compare_in, marred, taken_by, read_in, is_ended, told_by}
 use Rattle.slots.specs.Exchanges.{Exchange, MiscompareExactly}
-use Rattle.slots.specs.declared.Told.TheVariants.{Answered}
 use Rattle.state.specs.declared.Answer.{Answer}
 use Rattle.slots.specs.Calls.{outline, first_course}
 use Rattle.slots.proofs.Places.{never, rest_at, rest-step}
@@ -81,10 +78,10 @@ module _ (g : Geometry) (payload : List ℕ) (replies : ℕ → List ℕ) where
         polls = z.polls + cond (is_wait (step_in g z.driver)) 1 0;
       }
 
-  module _ (z : Chain) (p : part_of z.driver.array ≡ Known g) where
-    counts_as : stage_in z.driver ≡ stage_by (Known g) z.driver
+  module _ (z : Chain) (p : part_of z.driver.array ≡ Some g) where
+    counts_as : stage_in z.driver ≡ stage_by (Some g) z.driver
     unfolding stage_in
-    counts_as = ap (λ (q : Part). stage_by q z.driver) p
+    counts_as = ap (λ (q : Option Geometry). stage_by q z.driver) p
 
     pub link_ended : is_ended (stage_in z.driver) ≡ true → linked payload replies z ≡ z
     unfolding linked
@@ -94,16 +91,16 @@ module _ (g : Geometry) (payload : List ℕ) (replies : ℕ → List ℕ) where
     unfolding linked staged_in staged_by frame_in frame_by poll_in poll_by
     link_going e =
         let d = z.driver in
-        let f : is_ended (stage_by (Known g) d) ≡ false = ap is_ended (sym counts_as) ∙ e in
+        let f : is_ended (stage_by (Some g) d) ≡ false = ap is_ended (sym counts_as) ∙ e in
         other (is_ended (stage_in d)) z _ e
         ∙ (λ i.
         record {
           driver = took_going g d payload z.staged (replies z.frames) p f i;
           staged =
-              (ap (λ (q : Part). staged_by q d payload z.staged (replies z.frames)) p ∙ other (is_ended (stage_by (Known g) d)) z.staged _ f) i;
-          lines = z.lines ++ outline ((ap (λ (q : Part). frame_by q d payload z.staged) p ∙ other (is_ended (stage_by (Known g) d)) [] _ f) i);
+              (ap (λ (q : Option Geometry). staged_by q d payload z.staged (replies z.frames)) p ∙ other (is_ended (stage_by (Some g) d)) z.staged _ f) i;
+          lines = z.lines ++ outline ((ap (λ (q : Option Geometry). frame_by q d payload z.staged) p ∙ other (is_ended (stage_by (Some g) d)) [] _ f) i);
           frames = z.frames + 1;
-          polls = z.polls + cond ((ap (λ (q : Part). poll_by q d) p ∙ ap (λ (b : Bool). not b && is_wait (step_in g d)) f) i) 1 0;
+          polls = z.polls + cond ((ap (λ (q : Option Geometry). poll_by q d) p ∙ ap (λ (b : Bool). not b && is_wait (step_in g d)) f) i) 1 0;
         })
 
   link_talked : (z : Chain) → Sane g z.driver → talk_of payload (linked payload replies z) ≡ talked g (asked_of z.driver) replies (talk_of payload z)
@@ -128,7 +125,7 @@ module _ (g : Geometry) (payload : List ℕ) (replies : ℕ → List ℕ) where
           })
           ∙ sym (other (is_ended z.driver.course.stage) (talk_of payload z) _ e)
 
-  link_asked : (z : Chain) → part_of z.driver.array ≡ Known g
+  link_asked : (z : Chain) → part_of z.driver.array ≡ Some g
       → (asked_of (linked payload replies z).driver ≡ asked_of z.driver) × ((linked payload replies z).driver.array ≡ z.driver.array)
   link_asked z p = go (is_ended (stage_in z.driver)) refl
     where
@@ -170,12 +167,12 @@ agree_heard (suc n) g payload replies others z w h = (
 )
 
 -- the definitions' driver at the start of the same call
-start-talk : (g : Geometry) (array : ℕ) (a : Asked) (d : Detail) (lent : ℕ) (payload staged : List ℕ) → part_of array ≡ Known g
+start-talk : (g : Geometry) (array : ℕ) (a : Asked) (d : Detail) (lent : ℕ) (payload staged : List ℕ) → part_of array ≡ Some g
     → talk_of payload (begun (start_driver array a d (length payload) lent) staged)
     ≡ opened g a (flaws_in a.kind g d (length payload) lent) (record { payload = payload; aim = aim_of d; staged = staged; verdict = Good })
 unfolding start_driver start_refusal opened
 start-talk g array a d lent payload staged p = λ i.
-    talk_of payload (begun (record { array = array; slot = a.slot; limit = a.limit; aim = aim_of d; kind = a.kind; verdict = Good; course = ap (λ (q : Part). first_course (start_refusal q a d (length payload) lent) a.limit) p i }) staged)
+    talk_of payload (begun (record { array = array; slot = a.slot; limit = a.limit; aim = aim_of d; kind = a.kind; verdict = Good; course = ap (λ (q : Option Geometry). first_course (start_refusal q a d (length payload) lent) a.limit) p i }) staged)
 
 chain_same : (payload others : List ℕ) {g : Geometry} {y z : Chain} → Sane g y.driver → Sane g z.driver
     → SameTalk (talk_of payload y) (talk_of others z) → SameChain y z
@@ -186,14 +183,14 @@ chain_same payload others {g} {y} {z} u v s =
       frames = s.frames;
       polls = s.polls;
       stage = ap is_ended (sane_stage u) ∙ s.stage ∙ ap is_ended (sym (sane_stage v));
-      answer = λ a b e f. s.answer a b (ap (λ (t : Stage). told_by t y.driver.verdict) (sym (sane_stage u)) ∙ e)
-          (ap (λ (t : Stage). told_by t z.driver.verdict) (sym (sane_stage v)) ∙ f);
+      answer = λ a b e f. s.answer a b (ap (λ (t : Option Answer). told_by t y.driver.verdict) (sym (sane_stage u)) ∙ e)
+          (ap (λ (t : Option Answer). told_by t z.driver.verdict) (sym (sane_stage v)) ∙ f);
     }
 
 -- ANY WORLD, over the driver's functions: one call on one part, with any two recipes, patches or places, terms and dates of which 5 and 14 are alike, and any two
 -- sequences of replies that agree in what is heard
 pub any_world_called : (n : ℕ) (g : Geometry) (array : ℕ) (a : Asked) (d there : Detail) (lent room : ℕ) (payload other staged bytes : List ℕ)
-    (replies others : ℕ → List ℕ) → part_of array ≡ Known g
+    (replies others : ℕ → List ℕ) → part_of array ≡ Some g
     → flaws_in a.kind g d (length payload) lent ≡ flaws_in a.kind g there (length other) room
     → AgreeIn n g payload replies others (begun (start_driver array a d (length payload) lent) staged)
     → SameChain (chain n payload replies (begun (start_driver array a d (length payload) lent) staged))
@@ -239,16 +236,16 @@ exchanged-talk (suc n) g payload replies z w =
         → (b : Bool) → is_ended d.course.stage ≡ b → exchanged (suc n) payload replies z ≡ exchanges_in (suc n) g (asked_of d) replies (talk_of payload z)
     go rest true e = picked (is_ended (stage_in d)) [] _ (stands_so ∙ e) ∙ sym (picked (is_ended d.course.stage) [] _ e)
     go rest false e =
-        let f : is_ended (stage_by (Known g) d) ≡ false = ap is_ended (sym (counts_as g payload replies z w.part)) ∙ stands_so ∙ e in
+        let f : is_ended (stage_by (Some g) d) ≡ false = ap is_ended (sym (counts_as g payload replies z w.part)) ∙ stands_so ∙ e in
         other (is_ended (stage_in d)) [] _ (stands_so ∙ e)
         ∙ (λ i.
-        record { frame = (ap (λ (q : Part). frame_by q d payload z.staged) w.part ∙ other (is_ended (stage_by (Known g) d)) [] (frame_of g d.kind h (step_in g d)) f) i; reply = replies z.frames; byte = 1 }
+        record { frame = (ap (λ (q : Option Geometry). frame_by q d payload z.staged) w.part ∙ other (is_ended (stage_by (Some g) d)) [] (frame_of g d.kind h (step_in g d)) f) i; reply = replies z.frames; byte = 1 }
         ∷ rest i)
         ∙ sym (other (is_ended d.course.stage) [] _ e)
 
 -- EXACTLY 16, over the driver's functions: a call on a part, whatever it is told and lent, and any sequence of replies
-pub miscompares_called : (g : Geometry) (array : ℕ) (a : Asked) (d : Detail) (lent : ℕ) (payload staged : List ℕ) (replies : ℕ → List ℕ) → part_of array ≡ Known g → (x : Answer)
-    → told_in (chain (bound g a) payload replies (begun (start_driver array a d (length payload) lent) staged)).driver ≡ Answered x
+pub miscompares_called : (g : Geometry) (array : ℕ) (a : Asked) (d : Detail) (lent : ℕ) (payload staged : List ℕ) (replies : ℕ → List ℕ) → part_of array ≡ Some g → (x : Answer)
+    → told_in (chain (bound g a) payload replies (begun (start_driver array a d (length payload) lent) staged)).driver ≡ Some x
     → MiscompareExactly (exchanged (bound g a) payload replies (begun (start_driver array a d (length payload) lent) staged)) x
 unfolding told_in start_driver
 miscompares_called g array a d lent payload staged replies p x e =
@@ -260,7 +257,7 @@ miscompares_called g array a d lent payload staged replies p x e =
     let k = c.0 ∙ ap (talk n g a replies) t in
     subst (λ (es : List Exchange). MiscompareExactly es x) (sym (exchanged-talk n g payload replies z s ∙ ap (exchanges_in n g a replies) t))
     (any_miscompares g a (flaws_in a.kind g d (length payload) lent) _ replies refl x
-    (ap (λ (y : Talk). told_by y.course.stage y.holding.verdict) (sym k) ∙ ap (λ (y : Stage). told_by y (chain n payload replies z).driver.verdict) (sym (sane_stage c.1)) ∙ e))
+    (ap (λ (y : Talk). told_by y.course.stage y.holding.verdict) (sym k) ∙ ap (λ (y : Option Answer). told_by y (chain n payload replies z).driver.verdict) (sym (sane_stage c.1)) ∙ e))
 
 -- ---- any state at all
 
@@ -313,7 +310,7 @@ any_state-ends d payload staged replies = go (is_ended (stage_in d)) refl (part_
     stopped : is_ended (stage_in d) ≡ true → is_ended (stage_in (chain n payload replies (begun d staged)).driver) ≡ true
     stopped e = ap (λ (z : Chain). is_ended (stage_in z.driver)) (chain-ended n payload replies (begun d staged) e) ∙ e
 
-    going : (g : Geometry) → part_of d.array ≡ Known g → is_ended (stage_by (Known g) d) ≡ false → is_ended (stage_in (chain n payload replies (begun d staged)).driver) ≡ true
+    going : (g : Geometry) → part_of d.array ≡ Some g → is_ended (stage_by (Some g) d) ≡ false → is_ended (stage_in (chain n payload replies (begun d staged)).driver) ≡ true
     going g p e =
         let f = going-facts g d e in
         let w : Sane g d = record { part = p; facts = λ _. f.1 } in
@@ -321,7 +318,7 @@ any_state-ends d payload staged replies = go (is_ended (stage_in d)) refl (part_
         ap is_ended (sane_stage t.1) ∙ ap (λ (t : Talk). is_ended t.course.stage) t.0
         ∙ talk-ends g (asked_of d) replies n (talk_of payload (begun d staged)) (facts_ok g d f.1)
 
-    go : (b : Bool) → is_ended (stage_in d) ≡ b → (p : Part) → part_of d.array ≡ p → is_ended (stage_in (chain n payload replies (begun d staged)).driver) ≡ true
+    go : (b : Bool) → is_ended (stage_in d) ≡ b → (p : Option Geometry) → part_of d.array ≡ p → is_ended (stage_in (chain n payload replies (begun d staged)).driver) ≡ true
     go true e p q = stopped e
-    go false e (Known g) q = going g q (ap is_ended (sym (counts_as g payload replies (begun d staged) q)) ∙ e)
-    go false e Unknown q = never (sym e ∙ ended_off d q)
+    go false e (Some g) q = going g q (ap is_ended (sym (counts_as g payload replies (begun d staged) q)) ∙ e)
+    go false e None q = never (sym e ∙ ended_off d q)

@@ -2,6 +2,8 @@
 -- after a 60, if only after the last page's, the answer is 16 and all frames are sent; in an earlier poll of that wait, or in the wait after an 83, it is not
 -- looked at. Computed.
 -- Assumes nothing.
+use Rattle.state.specs.declared.Answer.{Answer}
+use Rattle.std.specs.Prelude.{Option, Some}
 use Prim.Native.Nat.{ℕ, ◌-◌, ◌%◌}
 use mathlib.Core.Path.{◌≡◌, refl}
 use mathlib.Core.Bool.{false, cond, ◌||◌}
@@ -17,8 +19,6 @@ use Rattle.state.specs.Answers.{number_of}
 use Rattle.state.specs.declared.Answer.TheVariants.{Done, Miscompare}
 use Rattle.slots.specs.declared.Kind.TheVariants.{Put}
 use Rattle.slots.specs.declared.Period.TheVariants.{Always}
-use Rattle.slots.specs.declared.Told.{Told}
-use Rattle.slots.specs.declared.Told.TheVariants.{Answered}
 use Rattle.slots.specs.declared.Verdict.TheVariants.{Good}
 use Rattle.slots.specs.Plans.{is_asking, page_steps, run_by, pages, plan_by, step_at, is_end, is_wait}
 use Rattle.slots.specs.Refusals.{early_refusal}
@@ -51,17 +51,17 @@ held = record { payload = 65 ∷ []; aim = record { place = 0; period = Always; 
 abbrev ran : ℕ → (ℕ → ℕ) → Talk
 ran limit status = talk 60 short (asking Put 0 limit) (λ n. reply (status n)) (opened short (asking Put 0 limit) (record { size = false; dates = false }) held)
 
-abbrev told : Talk → Told
+abbrev told : Talk → Option Answer
 told t = told_by t.course.stage t.holding.verdict
 
 -- by the frame's number, with one poll a wait: of a page 84, 83, D7, 60, D7 from frame 3 on; with two polls 84, 83, D7, D7, 60, D7, D7 from frame 4 on
 pub record Compares : Type 0 where
-  pub every : told (ran 1 (λ n. differs)) ≡ Answered Miscompare
+  pub every : told (ran 1 (λ n. differs)) ≡ Some Miscompare
   pub sent : (ran 1 (λ n. differs)).frames ≡ 43
-  pub last : told (ran 1 (λ n. cond (eqb n 42) differs ready)) ≡ Answered Miscompare
-  pub none : told (ran 1 (λ n. ready)) ≡ Answered Done
-  pub programmed : told (ran 1 (λ n. cond (eqb ((n - 3) % 5) 2) differs ready)) ≡ Answered Done
-  pub earlier : told (ran 2 (λ n. cond (eqb n 0 || (eqb ((n - 4) % 7) 2 || eqb ((n - 4) % 7) 5)) busy ready)) ≡ Answered Done
+  pub last : told (ran 1 (λ n. cond (eqb n 42) differs ready)) ≡ Some Miscompare
+  pub none : told (ran 1 (λ n. ready)) ≡ Some Done
+  pub programmed : told (ran 1 (λ n. cond (eqb ((n - 3) % 5) 2) differs ready)) ≡ Some Done
+  pub earlier : told (ran 2 (λ n. cond (eqb n 0 || (eqb ((n - 4) % 7) 2 || eqb ((n - 4) % 7) 5)) busy ready)) ≡ Some Done
 
 pub compares : Compares
 unfolding tabulate sector_of has_bits bits_of number_of is_asking page_steps run_by pages plan_by step_at is_end is_wait early_refusal first_course register_in heard course_by compare_in miscomparing taken_by is_ended weighed verdict_answer told_by opened talked talk

@@ -1,5 +1,6 @@
 -- `wipe 2` on a fresh short part with B 1, as the program `outline` shows it, driven by replies alone: each frame, and the end.
 -- Assumes nothing.
+use Rattle.std.specs.Prelude.{Some}
 use Prim.Native.Nat.{ℕ}
 use mathlib.Core.Path.{◌≡◌, refl}
 use mathlib.Core.List.{List, [], ◌∷◌}
@@ -12,7 +13,6 @@ use Rattle.state.specs.Answers.{number_of}
 use Rattle.slots.specs.declared.Kind.TheVariants.{Wipe}
 use Rattle.state.specs.declared.Answer.TheVariants.{Done}
 use Rattle.slots.specs.declared.Driver.{Driver}
-use Rattle.slots.specs.declared.Told.TheVariants.{Answered}
 use Rattle.slots.specs.Plans.{is_asking, page_steps, run_by, pages, plan_by, step_at, is_end}
 use Rattle.slots.specs.Refusals.{is_over, is_short, early_refusal, or_else, flaws_in, is_misdated}
 use Rattle.slots.specs.Calls.{first_course}
@@ -58,7 +58,7 @@ pub record WipeTwo : Type 0 where
   pub fourth : frame_in locked [] [] ≡ 0x50 ∷ 0x00 ∷ 0x20 ∷ 0x00 ∷ []
   pub fifth : frame_in erasing [] [] ≡ 0xD7 ∷ 0 ∷ []
   pub none : frame_in done [] [] ≡ []
-  pub answer : told_in done ≡ Answered Done
+  pub answer : told_in done ≡ Some Done
 
 pub wipe_two_lem : WipeTwo
 unfolding start_driver start_refusal early_refusal flaws_in is_over is_short is_misdated or_else first_course number_of parts part_among part_of stray_refusal fault_by stage_by stage_in is_asking page_steps run_by pages plan_by step_at is_end frame_in frame_by tabulate opcode_of shape_of frame_byte loaded took_in took_by taken_by course_by heard register_in has_bits bits_of sector_of is_ended told_in told_by weighed verdict_answer

@@ -1,5 +1,6 @@
 -- WHATEVER THE STATE, its frame is that of a step of its call's plan, or none: the frame is looked up in the plan.
 -- Assumes nothing.
+use Rattle.std.specs.Prelude.{None, Option, Some}
 use Prim.Native.Nat.{ℕ, zero, suc}
 use mathlib.Core.Path.{◌≡◌, refl, sym, ap, ◌∙◌}
 use mathlib.Core.Bool.{Bool, true, false}
@@ -8,8 +9,6 @@ use mathlib.Core.Logic.{◌⊎◌, inl, inr}
 use lib.ListN.{get_or}
 use Rattle.slices.proofs.Laws.{get_or-tabulate}
 use Rattle.geometry.specs.declared.Geometry.{Geometry}
-use Rattle.geometry.specs.declared.Part.{Part}
-use Rattle.geometry.specs.declared.Part.TheVariants.{Known, Unknown}
 use Rattle.geometry.specs.Parts.{part_of}
 use Rattle.slots.specs.declared.Driver.{Driver}
 use Rattle.slots.specs.declared.Kind.{Kind}
@@ -29,7 +28,7 @@ use Rattle.worlds.proofs.Shapes.{shape_some}
 -- the frame is that of the step at the place
 pub record Own (d : Driver) (payload staged : List ℕ) : Type 0 where
   pub geometry : Geometry
-  pub part : part_of d.array ≡ Known geometry
+  pub part : part_of d.array ≡ Some geometry
   pub step : is_end (step_at (plan_of geometry (asked_of d)) d.course.place) ≡ false
   pub frame : frame_in d payload staged ≡ frame_of geometry d.kind (holding_of d payload staged) (step_in geometry d)
 
@@ -37,19 +36,19 @@ pub own_plan : (d : Driver) (payload staged : List ℕ) → (frame_in d payload 
 unfolding frame_in frame_by
 own_plan d payload staged = go (part_of d.array) refl
   where
-    on : (g : Geometry) → part_of d.array ≡ Known g → (b : Bool) → is_ended (stage_by (Known g) d) ≡ b → (frame_in d payload staged ≡ []) ⊎ Own d payload staged
-    on g p true e = inl (ap (λ (q : Part). frame_by q d payload staged) p ∙ picked (is_ended (stage_by (Known g) d)) [] _ e)
+    on : (g : Geometry) → part_of d.array ≡ Some g → (b : Bool) → is_ended (stage_by (Some g) d) ≡ b → (frame_in d payload staged ≡ []) ⊎ Own d payload staged
+    on g p true e = inl (ap (λ (q : Option Geometry). frame_by q d payload staged) p ∙ picked (is_ended (stage_by (Some g) d)) [] _ e)
     on g p false e =
         inr (record {
           geometry = g;
           part = p;
           step = (going-facts g d e).1.step;
-          frame = ap (λ (q : Part). frame_by q d payload staged) p ∙ other (is_ended (stage_by (Known g) d)) [] _ e;
+          frame = ap (λ (q : Option Geometry). frame_by q d payload staged) p ∙ other (is_ended (stage_by (Some g) d)) [] _ e;
         })
 
-    go : (p : Part) → part_of d.array ≡ p → (frame_in d payload staged ≡ []) ⊎ Own d payload staged
-    go (Known g) p = on g p (is_ended (stage_by (Known g) d)) refl
-    go Unknown p = inl (ap (λ (q : Part). frame_by q d payload staged) p)
+    go : (p : Option Geometry) → part_of d.array ≡ p → (frame_in d payload staged ≡ []) ⊎ Own d payload staged
+    go (Some g) p = on g p (is_ended (stage_by (Some g) d)) refl
+    go None p = inl (ap (λ (q : Option Geometry). frame_by q d payload staged) p)
 
 -- ---- opcodes
 

@@ -1,5 +1,6 @@
 -- A state that a call comes to counts as it stands, and stays so: its place has a step, and its polls left are 1 to B. Any other counts as ended.
 -- Assumes nothing.
+use Rattle.std.specs.Prelude.{None, Option, Some}
 use Prim.Native.Nat.{ℕ, suc, ◌-◌, ◌/◌, ◌≤◌}
 use native.Mathlib.Omega.{arith}
 use mathlib.Core.Path.{◌≡◌, refl, sym, ap, subst, ◌∙◌}
@@ -8,16 +9,12 @@ use mathlib.Core.List.{List}
 use lib.Dec.{eqb, leb}
 use borrow.Author.Tests.{leb-true, le-leb, lt-leb}
 use Rattle.geometry.specs.declared.Geometry.{Geometry}
-use Rattle.geometry.specs.declared.Part.{Part}
-use Rattle.geometry.specs.declared.Part.TheVariants.{Known, Unknown}
 use Rattle.geometry.specs.Parts.{part_of}
 use Rattle.state.specs.declared.Answer.{Answer}
 use Rattle.state.specs.declared.Answer.TheVariants as Answers
 use Rattle.state.specs.Answers.{number_of}
 use Rattle.slots.specs.declared.Course.{Course}
 use Rattle.slots.specs.declared.Driver.{Driver}
-use Rattle.slots.specs.declared.Stage.{Stage}
-use Rattle.slots.specs.declared.Stage.TheVariants.{Going, Ended}
 use Rattle.slots.specs.Plans.{Asked, plan_of, sector_for, step_at, is_end}
 use Rattle.slots.specs.Refusals.{is_over, is_short, early_refusal, or_else, flaws_in}
 use Rattle.slots.specs.Driver.{Heard, heard, after, is_ended}
@@ -39,7 +36,7 @@ pub record Facts (g : Geometry) (d : Driver) : Type 0 where
 
 -- a state that a call comes to
 pub record Sane (g : Geometry) (d : Driver) : Type 0 where
-  pub part : part_of d.array ≡ Known g
+  pub part : part_of d.array ≡ Some g
   pub facts : is_ended d.course.stage ≡ false → Facts g d
 
 -- ---- what the test of a state tells
@@ -49,7 +46,7 @@ range n limit true true e f h = (leb-true 1 n e, leb-true n limit f)
 range n limit true false e f h = never (sym h)
 range n limit false b e f h = never (sym h)
 
-fault_facts : (g : Geometry) (d : Driver) → eqb (number_of (fault_by (Known g) d)) 0 ≡ true → Facts g d
+fault_facts : (g : Geometry) (d : Driver) → eqb (number_of (fault_by (Some g) d)) 0 ≡ true → Facts g d
 unfolding fault_by stray_refusal number_of
 fault_facts g d e =
     let z = neither_applies (early_refusal g (asked_of d) flawless) (stray_refusal g d) e in
@@ -63,7 +60,7 @@ unfolding early_refusal
 early_none g a w =
     simp (lt-leb (g.pages / 8) a.slot (omega (arith, w.fits)), le-leb 1 a.limit w.some, le-leb a.limit 1000 w.most)
 
-facts_fault : (g : Geometry) (d : Driver) → Facts g d → fault_by (Known g) d ≡ Answers.Done
+facts_fault : (g : Geometry) (d : Driver) → Facts g d → fault_by (Some g) d ≡ Answers.Done
 unfolding fault_by stray_refusal or_else number_of
 facts_fault g d w =
     (λ i. or_else (early_none g (asked_of d) w.asked i) (stray_refusal g d))
@@ -71,38 +68,38 @@ facts_fault g d w =
 
 -- ---- the stage as it counts
 
-pub stage-ended : (p : Part) (d : Driver) → is_ended d.course.stage ≡ true → stage_by p d ≡ d.course.stage
+pub stage-ended : (p : Option Geometry) (d : Driver) → is_ended d.course.stage ≡ true → stage_by p d ≡ d.course.stage
 unfolding stage_by
 stage-ended p d e = picked (is_ended d.course.stage) d.course.stage _ e
 
-not-ended : (s : Stage) → is_ended s ≡ false → s ≡ Going
+not-ended : (s : Option Answer) → is_ended s ≡ false → s ≡ None
 unfolding is_ended
-not-ended Going e = refl
-not-ended (Ended a) e = never (sym e)
+not-ended None e = refl
+not-ended (Some a) e = never (sym e)
 
-pub stage-facts : (g : Geometry) (d : Driver) → is_ended d.course.stage ≡ false → Facts g d → stage_by (Known g) d ≡ d.course.stage
+pub stage-facts : (g : Geometry) (d : Driver) → is_ended d.course.stage ≡ false → Facts g d → stage_by (Some g) d ≡ d.course.stage
 unfolding stage_by number_of
 stage-facts g d e w =
     other (is_ended d.course.stage) d.course.stage _ e
-    ∙ ap (λ (a : Answer). cond (eqb (number_of a) 0) Going (Ended a)) (facts_fault g d w) ∙ sym (not-ended d.course.stage e)
+    ∙ ap (λ (a : Answer). cond (eqb (number_of a) 0) None (Some a)) (facts_fault g d w) ∙ sym (not-ended d.course.stage e)
 
 -- a state that counts as going goes, and the facts hold of it
-pub going-facts : (g : Geometry) (d : Driver) → is_ended (stage_by (Known g) d) ≡ false → (is_ended d.course.stage ≡ false) × Facts g d
+pub going-facts : (g : Geometry) (d : Driver) → is_ended (stage_by (Some g) d) ≡ false → (is_ended d.course.stage ≡ false) × Facts g d
 unfolding stage_by is_ended
-going-facts g d = go (is_ended d.course.stage) refl (eqb (number_of (fault_by (Known g) d)) 0) refl
+going-facts g d = go (is_ended d.course.stage) refl (eqb (number_of (fault_by (Some g) d)) 0) refl
   where
-    go : (b : Bool) → is_ended d.course.stage ≡ b → (f : Bool) → eqb (number_of (fault_by (Known g) d)) 0 ≡ f
-        → is_ended (cond b d.course.stage (cond f Going (Ended (fault_by (Known g) d)))) ≡ false → (is_ended d.course.stage ≡ false) × Facts g d
+    go : (b : Bool) → is_ended d.course.stage ≡ b → (f : Bool) → eqb (number_of (fault_by (Some g) d)) 0 ≡ f
+        → is_ended (cond b d.course.stage (cond f None (Some (fault_by (Some g) d)))) ≡ false → (is_ended d.course.stage ≡ false) × Facts g d
     go true e f h z = never (sym z ∙ e)
     go false e true h z = (e, fault_facts g d h)
     go false e false h z = never (sym z)
 
 pub sane_stage : {g : Geometry} {d : Driver} → Sane g d → stage_in d ≡ d.course.stage
 unfolding stage_in
-sane_stage {g} {d} w = ap (λ (p : Part). stage_by p d) w.part ∙ go (is_ended d.course.stage) refl
+sane_stage {g} {d} w = ap (λ (p : Option Geometry). stage_by p d) w.part ∙ go (is_ended d.course.stage) refl
   where
-    go : (b : Bool) → is_ended d.course.stage ≡ b → stage_by (Known g) d ≡ d.course.stage
-    go true e = stage-ended (Known g) d e
+    go : (b : Bool) → is_ended d.course.stage ≡ b → stage_by (Some g) d ≡ d.course.stage
+    go true e = stage-ended (Some g) d e
     go false e = stage-facts g d e (w.facts e)
 
 -- ---- a reply keeps it
@@ -125,7 +122,7 @@ module _ (g : Geometry) (d : Driver) (w : Facts g d) where
       (step_at (plan_of g (asked_of d)) (suc d.course.place)) d.limit d.course o w.step (λ a _ h. never (sym h)) (λ _ _ _. w.step)
       (λ _ _ h. onward_some (step_at (plan_of g (asked_of d)) (suc d.course.place)) h)
 
-  took_sane : (payload staged reply : List ℕ) → part_of d.array ≡ Known g → is_ended d.course.stage ≡ false → Sane g (took_on g d payload staged reply)
+  took_sane : (payload staged reply : List ℕ) → part_of d.array ≡ Some g → is_ended d.course.stage ≡ false → Sane g (took_on g d payload staged reply)
   took_sane payload staged reply p e =
       let o = heard g (step_in g d) (sector_for g (asked_of d)) reply in
       record {
@@ -133,21 +130,21 @@ module _ (g : Geometry) (d : Driver) (w : Facts g d) where
         facts = λ h. record { asked = w.asked; some = (after-few o).0; most = (after-few o).1; step = after-step o e h };
       }
 
-pub took_going : (g : Geometry) (d : Driver) (payload staged reply : List ℕ) → part_of d.array ≡ Known g → is_ended (stage_by (Known g) d) ≡ false
+pub took_going : (g : Geometry) (d : Driver) (payload staged reply : List ℕ) → part_of d.array ≡ Some g → is_ended (stage_by (Some g) d) ≡ false
     → took_in d payload staged reply ≡ took_on g d payload staged reply
 unfolding took_in took_by
-took_going g d payload staged reply p e = ap (λ (q : Part). took_by q d payload staged reply) p ∙ other (is_ended (stage_by (Known g) d)) _ _ e
+took_going g d payload staged reply p e = ap (λ (q : Option Geometry). took_by q d payload staged reply) p ∙ other (is_ended (stage_by (Some g) d)) _ _ e
 
-pub took_ended : (g : Geometry) (d : Driver) (payload staged reply : List ℕ) → part_of d.array ≡ Known g → is_ended (stage_by (Known g) d) ≡ true
-    → took_in d payload staged reply ≡ with d d.verdict (staged_at (stage_by (Known g) d) d.course)
+pub took_ended : (g : Geometry) (d : Driver) (payload staged reply : List ℕ) → part_of d.array ≡ Some g → is_ended (stage_by (Some g) d) ≡ true
+    → took_in d payload staged reply ≡ with d d.verdict (staged_at (stage_by (Some g) d) d.course)
 unfolding took_in took_by
-took_ended g d payload staged reply p e = ap (λ (q : Part). took_by q d payload staged reply) p ∙ picked (is_ended (stage_by (Known g) d)) _ _ e
+took_ended g d payload staged reply p e = ap (λ (q : Option Geometry). took_by q d payload staged reply) p ∙ picked (is_ended (stage_by (Some g) d)) _ _ e
 
 -- any state is one that a call comes to after a reply
-pub took_keeps : (g : Geometry) (d : Driver) (payload staged reply : List ℕ) → part_of d.array ≡ Known g → Sane g (took_in d payload staged reply)
-took_keeps g d payload staged reply p = go (is_ended (stage_by (Known g) d)) refl
+pub took_keeps : (g : Geometry) (d : Driver) (payload staged reply : List ℕ) → part_of d.array ≡ Some g → Sane g (took_in d payload staged reply)
+took_keeps g d payload staged reply p = go (is_ended (stage_by (Some g) d)) refl
   where
-    go : (b : Bool) → is_ended (stage_by (Known g) d) ≡ b → Sane g (took_in d payload staged reply)
+    go : (b : Bool) → is_ended (stage_by (Some g) d) ≡ b → Sane g (took_in d payload staged reply)
     go true e =
         subst (Sane g) (sym (took_ended g d payload staged reply p e)) (record { part = p; facts = λ h. never (sym h ∙ e) })
     go false e =
@@ -156,15 +153,15 @@ took_keeps g d payload staged reply p = go (is_ended (stage_by (Known g) d)) ref
 
 -- ---- where a call starts
 
-pub start_sane : (g : Geometry) (array : ℕ) (a : Asked) (d : Detail) (payload lent : ℕ) → part_of array ≡ Known g → Sane g (start_driver array a d payload lent)
+pub start_sane : (g : Geometry) (array : ℕ) (a : Asked) (d : Detail) (payload lent : ℕ) → part_of array ≡ Some g → Sane g (start_driver array a d payload lent)
 unfolding start_driver start_refusal first_course is_ended
 start_sane g array a d payload lent p = record { part = p; facts = λ h. go (eqb (number_of (start_refusal (part_of array) a d payload lent)) 0) refl h }
   where
     none : eqb (number_of (start_refusal (part_of array) a d payload lent)) 0 ≡ true → Early g a (flaws_in a.kind g d payload lent)
-    none e = early g a _ (ap (λ (q : Part). eqb (number_of (start_refusal q a d payload lent)) 0) (sym p) ∙ e)
+    none e = early g a _ (ap (λ (q : Option Geometry). eqb (number_of (start_refusal q a d payload lent)) 0) (sym p) ∙ e)
 
     go : (b : Bool) → eqb (number_of (start_refusal (part_of array) a d payload lent)) 0 ≡ b
-        → is_ended (cond b Going (Ended (start_refusal (part_of array) a d payload lent))) ≡ false → Facts g (start_driver array a d payload lent)
+        → is_ended (cond b None (Some (start_refusal (part_of array) a d payload lent))) ≡ false → Facts g (start_driver array a d payload lent)
     go true e h =
         let w = none e in
         record {
@@ -176,10 +173,10 @@ start_sane g array a d payload lent p = record { part = p; facts = λ h. go (eqb
     go false e h = never (sym h)
 
 -- without a part every state has ended
-pub ended_off : (d : Driver) → part_of d.array ≡ Unknown → is_ended (stage_in d) ≡ true
+pub ended_off : (d : Driver) → part_of d.array ≡ None → is_ended (stage_in d) ≡ true
 unfolding stage_in stage_by fault_by number_of is_ended
-ended_off d p = ap (λ (q : Part). is_ended (stage_by q d)) p ∙ go (is_ended d.course.stage) refl
+ended_off d p = ap (λ (q : Option Geometry). is_ended (stage_by q d)) p ∙ go (is_ended d.course.stage) refl
   where
-    go : (b : Bool) → is_ended d.course.stage ≡ b → is_ended (cond b d.course.stage (Ended Answers.Part)) ≡ true
+    go : (b : Bool) → is_ended d.course.stage ≡ b → is_ended (cond b d.course.stage (Some Answers.Part)) ≡ true
     go true e = e
     go false e = refl

@@ -1,6 +1,7 @@
 -- THE DRIVER IN FRONT OF ANY CHIP: control goes by what is heard alone, and a frame shows nothing of the data, so two worlds that agree in what is heard
 -- see the same outlines; and whatever comes back, the frames follow the plan to an end within the bound.
 -- Assumes nothing.
+use Rattle.std.specs.Prelude.{Some, None, Option}
 use Prim.Native.Nat.{ℕ, zero, suc, ◌+◌, ◌/◌, ◌≤◌}
 use native.Mathlib.Omega.{arith}
 use mathlib.Core.Path.{◌≡◌, refl, sym, ap, subst, ◌∙◌}
@@ -13,9 +14,6 @@ use Rattle.state.specs.declared.Answer.{Answer}
 use Rattle.state.specs.declared.Answer.TheVariants as Answers
 use Rattle.state.specs.Answers.{number_of}
 use Rattle.slots.specs.declared.Course.{Course}
-use Rattle.slots.specs.declared.Stage.{Stage}
-use Rattle.slots.specs.declared.Stage.TheVariants.{Going, Ended}
-use Rattle.slots.specs.declared.Told.TheVariants.{Answered}
 use Rattle.slots.specs.declared.Verdict.{Verdict}
 use Rattle.slots.specs.declared.Verdict.TheVariants.{Good}
 use Rattle.slots.specs.Plans.{Asked, plan_of, sector_for, bound, is_wait}
@@ -77,10 +75,10 @@ module _ (g : Geometry) (a : Asked) where
   talk_open zero replies others t u e h = e
   talk_open (suc n) replies others t u e h = talk_open n replies others (talked g a replies t) (talked g a others u) (talked_open replies others t u e h.0) h.1
 
-told_agree : (s : Stage) (v w : Verdict) (a b : Answer) → told_by s v ≡ Answered a → told_by s w ≡ Answered b → Agree a b
+told_agree : (s : Option Answer) (v w : Verdict) (a b : Answer) → told_by s v ≡ Some a → told_by s w ≡ Some b → Agree a b
 unfolding told_by
-told_agree Going v w a b e f = let z : ◌≡◌ {A = ℕ} 0 1 = cc in absurd (omega arith)
-told_agree (Ended n) v w a b e f =
+told_agree None v w a b e f = let z : ◌≡◌ {A = ℕ} 0 1 = cc in absurd (omega arith)
+told_agree (Some n) v w a b e f =
     let x : weighed n v ≡ a = cc in
     let y : weighed n w ≡ b = cc in
     subst (λ (z : Answer). Agree z b) x (subst (Agree (weighed n v)) y (weighed_agree n v w))
@@ -167,7 +165,7 @@ accepted-course : (g : Geometry) (a : Asked) (flaws : Flaws) → eqb (number_of 
     → first_course Answers.Done a.limit ≡ first_course (early_refusal g a flaws) a.limit
 unfolding first_course number_of
 accepted-course g a flaws e = λ i.
-    record { place = 0; left = a.limit; stage = cond (sym e i) Going (Ended (early_refusal g a flaws)); listed = false; guarded = false }
+    record { place = 0; left = a.limit; stage = cond (sym e i) None (Some (early_refusal g a flaws)); listed = false; guarded = false }
 
 module _ (g : Geometry) (a : Asked) (flaws : Flaws) (h : Holding) (replies : ℕ → List ℕ) where
   opened_ok : eqb (number_of (early_refusal g a flaws)) 0 ≡ true → Ok (plan_of g a) a.limit (bound g a) (opened g a flaws h).course
@@ -183,13 +181,13 @@ module _ (g : Geometry) (a : Asked) (flaws : Flaws) (h : Holding) (replies : ℕ
     where
       go : (b : Bool) → eqb (number_of (early_refusal g a flaws)) 0 ≡ b → is_ended (talk (bound g a) g a replies (opened g a flaws h)).course.stage ≡ true
       go true e = talk-ends g a replies (bound g a) (opened g a flaws h) (opened_ok e)
-      go false e = stays_ended g a replies (bound g a) (opened g a flaws h) (ap (λ (b : Bool). is_ended (cond b Going (Ended (early_refusal g a flaws)))) e)
+      go false e = stays_ended g a replies (bound g a) (opened g a flaws h) (ap (λ (b : Bool). is_ended (cond b None (Some (early_refusal g a flaws)))) e)
 
   -- ANY REPLIES: its frames follow its plan
   pub any_replies : eqb (number_of (early_refusal g a flaws)) 0 ≡ true → Led g a (alone g a replies) (bound g a) (opened g a flaws h) (opened g a flaws h).course h
   unfolding opened first_course is_ended
   any_replies e =
-      run_led g a (alone g a replies) (bound g a) (opened g a flaws h) (opened_ok e) (inl (ap (λ (b : Bool). is_ended (cond b Going (Ended (early_refusal g a flaws)))) e))
+      run_led g a (alone g a replies) (bound g a) (opened g a flaws h) (opened_ok e) (inl (ap (λ (b : Bool). is_ended (cond b None (Some (early_refusal g a flaws)))) e))
 
 -- ---- 16
 
@@ -217,7 +215,7 @@ early_other g a flaws =
 
 -- EXACTLY 16: for any sequence of replies, the answer is 16 exactly if none of 8 to 13 is due and a wait after a 60 ended on a status with bit 6 set
 pub any_miscompares : (g : Geometry) (a : Asked) (flaws : Flaws) (h : Holding) (replies : ℕ → List ℕ) → h.verdict ≡ Good → (x : Answer)
-    → told_by (talk (bound g a) g a replies (opened g a flaws h)).course.stage (talk (bound g a) g a replies (opened g a flaws h)).holding.verdict ≡ Answered x
+    → told_by (talk (bound g a) g a replies (opened g a flaws h)).course.stage (talk (bound g a) g a replies (opened g a flaws h)).holding.verdict ≡ Some x
     → MiscompareExactly (exchanges_in (bound g a) g a replies (opened g a flaws h)) x
 unfolding told_by opened first_course is_ended weighed number_of miscompared
 any_miscompares g a flaws h replies good x e = go (eqb (number_of (early_refusal g a flaws)) 0) refl
@@ -228,12 +226,12 @@ any_miscompares g a flaws h replies good x e = go (eqb (number_of (early_refusal
     z : Talk
     z = talk (bound g a) g a replies t
 
-    told_of_lem : (y : Answer) → told_by z.course.stage z.holding.verdict ≡ Answered y → y ≡ x
-    told_of_lem y f = let w : Answered y ≡ Answered x = sym f ∙ e in cc
+    told_of_lem : (y : Answer) → told_by z.course.stage z.holding.verdict ≡ Some y → y ≡ x
+    told_of_lem y f = let w : Some y ≡ Some x = sym f ∙ e in cc
 
     finish : (r : Result) → Ends (alone g a replies) r z → Late r → answer_for r ≡ x
     finish (finished k) w l = told_of_lem (verdict_answer k.verdict) (λ i. told_by (w.0 i) (w.1 i).verdict)
-    finish (stopped n) w l = told_of_lem n (ap (λ (s : Stage). told_by s z.holding.verdict) w ∙ ap (λ (b : Bool). Answered (cond b (verdict_answer z.holding.verdict) n)) l)
+    finish (stopped n) w l = told_of_lem n (ap (λ (s : Option Answer). told_by s z.holding.verdict) w ∙ ap (λ (b : Bool). Some (cond b (verdict_answer z.holding.verdict) n)) l)
 
     go : (b : Bool) → eqb (number_of (early_refusal g a flaws)) 0 ≡ b → MiscompareExactly (exchanges_in (bound g a) g a replies t) x
     go true f =
@@ -245,10 +243,10 @@ any_miscompares g a flaws h replies good x e = go (eqb (number_of (early_refusal
         (miscompares_exactly g a
         (subst (λ (xs : List Step). Follows g a t.course.left xs t.course.listed t.course.guarded h (exchanges_on (alone g a replies) (bound g a) t) l.polls l.result) (rest-zero (plan_of g a)) l.follows) good))
     go false f =
-        let over : is_ended t.course.stage ≡ true = ap (λ (b : Bool). is_ended (cond b Going (Ended (early_refusal g a flaws)))) f in
+        let over : is_ended t.course.stage ≡ true = ap (λ (b : Bool). is_ended (cond b None (Some (early_refusal g a flaws)))) f in
         let n = ended-none g a replies (bound g a) t over in
         let refusal : early_refusal g a flaws ≡ x = told_of_lem (early_refusal g a flaws)
         (ap (λ (y : Talk). told_by y.course.stage y.holding.verdict) n.0
-        ∙ (λ i. told_by (cond (f i) Going (Ended (early_refusal g a flaws))) h.verdict) ∙ ap (λ (b : Bool). Answered (cond b (verdict_answer h.verdict) (early_refusal g a flaws))) f) in
+        ∙ (λ i. told_by (cond (f i) None (Some (early_refusal g a flaws))) h.verdict) ∙ ap (λ (b : Bool). Some (cond b (verdict_answer h.verdict) (early_refusal g a flaws))) f) in
         subst (λ (es : List Exchange). MiscompareExactly es x) (sym n.1)
         (record { only = λ y. absurd (early_other g a flaws (refusal ∙ y)); due = λ y. never y })

@@ -1,10 +1,9 @@
 -- The driver's functions called in turn, each on the state that the one before left: frame, reply, frame, and so on to the end.
 -- Assumes nothing.
-use Rattle.std.specs.Prelude.{ℕ, zero, suc, ◌+◌, ◌≡◌, false, cond, List, [], ◌∷◌, ◌++◌, ◌⊎◌}
+use Rattle.std.specs.Prelude.{ℕ, zero, suc, ◌+◌, ◌≡◌, false, cond, List, [], ◌∷◌, ◌++◌, ◌⊎◌, Some}
 use Rattle.geometry.specs.declared.Geometry.{Geometry}
 use Rattle.state.specs.declared.Answer.{Answer}
 use Rattle.slots.specs.declared.Driver.{Driver}
-use Rattle.slots.specs.declared.Told.TheVariants.{Answered}
 use Rattle.slots.specs.Plans.{sector_for}
 use Rattle.slots.specs.Driver.{Heard, heard, is_ended}
 use Rattle.slots.specs.Calls.{outline}
@@ -69,4 +68,4 @@ pub record SameChain (y z : Chain) : Type 0 where
   pub frames : y.frames ≡ z.frames
   pub polls : y.polls ≡ z.polls
   pub stage : is_ended (stage_in y.driver) ≡ is_ended (stage_in z.driver)
-  pub answer : (a b : Answer) → told_in y.driver ≡ Answered a → told_in z.driver ≡ Answered b → (a ≡ b) ⊎ (FromData a × FromData b)
+  pub answer : (a b : Answer) → told_in y.driver ≡ Some a → told_in z.driver ≡ Some b → (a ≡ b) ⊎ (FromData a × FromData b)

@@ -1,11 +1,10 @@
 -- The driver in front of anything that answers, a real chip say: reply i is what came back for frame i, any bytes of any number. No chip is in it.
 -- Assumes nothing.
-use Rattle.std.specs.Prelude.{ℕ, zero, suc, ◌+◌, ◌≡◌, Bool, false, cond, List, [], ◌∷◌, ◌++◌, ◌⊎◌}
+use Rattle.std.specs.Prelude.{ℕ, zero, suc, ◌+◌, ◌≡◌, Bool, false, cond, List, [], ◌∷◌, ◌++◌, ◌⊎◌, Some}
 use Rattle.geometry.specs.declared.Geometry.{Geometry}
 use Rattle.state.specs.declared.Answer.{Answer}
 use Rattle.slots.specs.declared.Course.{Course}
 use Rattle.slots.specs.declared.Flaws.{Flaws}
-use Rattle.slots.specs.declared.Told.TheVariants.{Answered}
 use Rattle.slots.specs.Plans.{Asked, sector_for, is_wait}
 use Rattle.slots.specs.Driver.{Heard, Holding, frame_of, heard, after, taken_by, step_of, is_ended, told_by}
 use Rattle.slots.specs.Refusals.{early_refusal}
@@ -67,5 +66,5 @@ pub record SameTalk (t u : Talk) : Type 0 where
   pub frames : t.frames ≡ u.frames
   pub polls : t.polls ≡ u.polls
   pub stage : is_ended t.course.stage ≡ is_ended u.course.stage
-  pub answer : (a b : Answer) → told_by t.course.stage t.holding.verdict ≡ Answered a → told_by u.course.stage u.holding.verdict ≡ Answered b
+  pub answer : (a b : Answer) → told_by t.course.stage t.holding.verdict ≡ Some a → told_by u.course.stage u.holding.verdict ≡ Some b
       → (a ≡ b) ⊎ (FromData a × FromData b)

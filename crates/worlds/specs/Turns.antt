@@ -1,8 +1,7 @@
 -- Aid: the driver's state as the definitions of crate slots have it, and one reply taken in.
 -- Assumes nothing.
-use Rattle.std.specs.Prelude.{ℕ, ◌/◌, ◌<◌, ◌≡◌, false, List}
+use Rattle.std.specs.Prelude.{ℕ, ◌/◌, ◌<◌, ◌≡◌, false, List, Some}
 use Rattle.geometry.specs.declared.Geometry.{Geometry}
-use Rattle.geometry.specs.declared.Part.TheVariants.{Known}
 use Rattle.geometry.specs.Parts.{part_of}
 use Rattle.slots.specs.declared.Course.{Course}
 use Rattle.slots.specs.declared.Driver.{Driver}
@@ -40,6 +39,6 @@ took_on g d payload staged reply = with d (data_after g d payload staged reply).
 
 -- ---- Aid: what a turn's code goes by: the array's length is the part's, the slot is one of its, and the plan has a step at the place
 pub record Sound (g : Geometry) (d : Driver) : Type 0 where
-  pub part : part_of d.array ≡ Known g
+  pub part : part_of d.array ≡ Some g
   pub slot : d.slot < g.pages / 8
   pub step : is_end (step_in g d) ≡ false

@@ -1,20 +1,19 @@
 -- `commands::lookup` meets its contract: each arm is a row of the table; an opcode that is none of them has no row (`passed`).
 -- Assumes nothing.
+use Rattle.std.specs.Prelude.{None, Option, Some}
 use mathlib.Core.Path.{◌≡◌, refl, sym, ap, ◌∙◌}
 use mathlib.Core.Bool.{Bool, cond}
 use Prim.Native.Nat.{ℕ}
 use borrow.Author.Tests.{ne_eqb}
 use lib.Dec.{eqb}
 use Rattle.commands.specs.declared.Command.{Command}
-use Rattle.commands.specs.declared.Found.{Found}
-use Rattle.commands.specs.declared.Found.TheVariants.{Row, Missing}
 use Rattle.commands.specs.Table.{commands}
 use Rattle.commands.specs.Decode.{lookup_in, lookup_of}
 use Rattle.commands.proofs.lookup.Goals as goal
 
 -- a row that the opcode is not
-passed : (c : Command) (f : Found) (o : ℕ) → (o ≡ c.0 → ⊥) → Missing ≡ f → Missing ≡ cond (eqb c.0 o) (Row c) f
-passed c f o h e = e ∙ ap (λ (b : Bool). cond b (Row c) f) (sym (ne_eqb c.0 o (λ k. h (sym k))))
+passed : (c : Command) (f : Option Command) (o : ℕ) → (o ≡ c.0 → ⊥) → None ≡ f → None ≡ cond (eqb c.0 o) (Some c) f
+passed c f o h e = e ∙ ap (λ (b : Bool). cond b (Some c) f) (sym (ne_eqb c.0 o (λ k. h (sym k))))
 
 pub returns-in-210 : goal.returns-in-210
 unfolding lookup_of lookup_in commands

@@ -4,10 +4,10 @@ use Rattle.slots.specs.Driver.{is_ended}
 use borrow.Author.Rules.{rules}
 use Rattle.courses.proofs.has_ended.Goals as goal
 
-pub returns-in-Going : goal.returns-in-Going
+pub returns-in-None : goal.returns-in-None
 unfolding is_ended
-returns-in-Going c = search rules
+returns-in-None c = search rules
 
-pub returns-in-Ended : goal.returns-in-Ended
+pub returns-in-Some : goal.returns-in-Some
 unfolding is_ended
-returns-in-Ended c = search rules
+returns-in-Some c = search rules

@@ -1,10 +1,11 @@
 -- `driver::take_on` meets its contract: a state that counts as ended takes nothing in, any other goes by its step.
 -- Assumes nothing.
+use Rattle.state.specs.declared.Answer.{Answer}
+use Rattle.geometry.specs.declared.Geometry.{Geometry}
+use Rattle.std.specs.Prelude.{Option}
 use mathlib.Core.Bool.{Bool, false}
 use mathlib.Core.Path.{◌≡◌, sym, ap, ◌∙◌}
-use Rattle.geometry.specs.declared.Part.{Part}
 use Rattle.slots.specs.declared.Driver.{Driver}
-use Rattle.slots.specs.declared.Stage.{Stage}
 use Rattle.slots.specs.Driver.{is_ended}
 use Rattle.turns.proofs.Turns.{sound-slot}
 use Rattle.worlds.specs.Step.{stage_by}
@@ -13,7 +14,7 @@ use Rattle.driver.proofs.States.{ended_took, going_took}
 use Rattle.driver.proofs.take_on.Goals as goal
 
 -- behind the test the state counts as going
-going : (p : Part) (d : Driver) {s : Stage} {b : Bool} → s ≡ stage_by p d → b ≡ is_ended s → b ≡ false → is_ended (stage_by p d) ≡ false
+going : (p : Option Geometry) (d : Driver) {s : Option Answer} {b : Bool} → s ≡ stage_by p d → b ≡ is_ended s → b ≡ false → is_ended (stage_by p d) ≡ false
 going p d s b e = ap is_ended (sym s) ∙ sym b ∙ e
 
 pub stage-s-requires : goal.stage-s-requires

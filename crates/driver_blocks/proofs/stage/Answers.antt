@@ -1,8 +1,8 @@
 -- `driver_blocks::stage` meets its contract: the tests come in the definition's order. Assumes nothing.
+use Rattle.std.specs.Prelude.{Some}
 use mathlib.Core.Bool.{true, false}
 use mathlib.Core.Path.{◌≡◌, ap}
 use borrow.Author.Tests.{eq-eqb, ne_eqb, not-true, not-false}
-use Rattle.slots.specs.declared.Stage.TheVariants.{Ended}
 use Rattle.driver_blocks.specs.Block.{stage_of}
 use Rattle.driver_blocks.proofs.stage.Goals as goal
 
@@ -22,4 +22,4 @@ pub returns : goal.returns
 unfolding stage_of
 returns c =
     let e : c.args.ours ≡ true = not-false c.args.ours c.if-not-ours.false-raw in
-    simp (e, ne_eqb c.args.n 0 c.if-n-eq0.false) (ap Ended c.answer_at.ensures)
+    simp (e, ne_eqb c.args.n 0 c.if-n-eq0.false) (ap Some c.answer_at.ensures)

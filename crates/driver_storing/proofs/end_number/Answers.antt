@@ -2,10 +2,10 @@
 use Rattle.driver_blocks.specs.Block.{end_number}
 use Rattle.driver_storing.proofs.end_number.Goals as goal
 
-pub returns-in-Going : goal.returns-in-Going
+pub returns-in-None : goal.returns-in-None
 unfolding end_number
-returns-in-Going c = rw c.in-Going.is
+returns-in-None c = rw c.in-None.is
 
-pub returns-in-Ended : goal.returns-in-Ended
+pub returns-in-Some : goal.returns-in-Some
 unfolding end_number
-returns-in-Ended c = rw c.in-Ended.is c.number.ensures
+returns-in-Some c = rw c.in-Some.is c.number.ensures

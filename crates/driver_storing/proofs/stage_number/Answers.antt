@@ -3,10 +3,10 @@ use Rattle.driver_blocks.specs.Block.{stage_number}
 use borrow.Author.Rules.{rules}
 use Rattle.driver_storing.proofs.stage_number.Goals as goal
 
-pub returns-in-Going : goal.returns-in-Going
+pub returns-in-None : goal.returns-in-None
 unfolding stage_number
-returns-in-Going c = search rules
+returns-in-None c = search rules
 
-pub returns-in-Ended : goal.returns-in-Ended
+pub returns-in-Some : goal.returns-in-Some
 unfolding stage_number
-returns-in-Ended c = search rules
+returns-in-Some c = search rules

@@ -2,10 +2,10 @@
 use Rattle.driver_blocks.specs.Block.{told_number}
 use Rattle.driver_storing.proofs.told_number.Goals as goal
 
-pub returns-in-Running : goal.returns-in-Running
+pub returns-in-None : goal.returns-in-None
 unfolding told_number
-returns-in-Running c = rw c.in-Running.is
+returns-in-None c = rw c.in-None.is
 
-pub returns-in-Answered : goal.returns-in-Answered
+pub returns-in-Some : goal.returns-in-Some
 unfolding told_number
-returns-in-Answered c = rw c.in-Answered.is c.number.ensures
+returns-in-Some c = rw c.in-Some.is c.number.ensures

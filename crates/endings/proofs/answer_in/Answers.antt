@@ -3,10 +3,10 @@ use Rattle.slots.specs.Calls.{answer_in}
 use mathlib.Core.Path.{sym, ap}
 use Rattle.endings.proofs.answer_in.Goals as goal
 
-pub returns-in-Running : goal.returns-in-Running
+pub returns-in-None : goal.returns-in-None
 unfolding answer_in
-returns-in-Running c = ap answer_in (sym c.in-Running.is)
+returns-in-None c = ap answer_in (sym c.in-None.is)
 
-pub returns-in-Answered : goal.returns-in-Answered
+pub returns-in-Some : goal.returns-in-Some
 unfolding answer_in
-returns-in-Answered c = ap answer_in (sym c.in-Answered.is)
+returns-in-Some c = ap answer_in (sym c.in-Some.is)

@@ -27,23 +27,23 @@ returns-then-not-is_plain c =
 
 pub end_in-requires : goal.end_in-requires
 end_in-requires c =
-    let e = sym c.place-p.ensures ∙ c.in-Known.is in
+    let e = sym c.place-p.ensures ∙ c.in-Some.is in
     let n : length c.args.block.now ≡ 765 = search rules in
     (placed_sized _ _ _ e, n, c.operation-o.ensures.0, (placed_known _ _ _ e).1, sym c.is_plain.ensures ∙ not-false _ c.if-not-is_plain.false-raw)
 
-pub returns-in-Known : goal.returns-in-Known
+pub returns-in-Some : goal.returns-in-Some
 unfolding decode_chip decode_registers
-returns-in-Known c =
+returns-in-Some c =
     let a = c.args in
     let o = c.operation-o.ensures in
-    let e = ap (placed (length a.array.now)) (sym o.0) ∙ sym c.place-p.ensures ∙ c.in-Known.is in
-    let g = c.in-Known.g in
+    let e = ap (placed (length a.array.now)) (sym o.0) ∙ sym c.place-p.ensures ∙ c.in-Some.is in
+    let g = c.in-Some.g in
     let s = held_in a.block.now a.array.now in
     met-done a.block.now (ended_state g s) (end-done s g e) (ended-holds s o.1 g) c.end_in.ensures.0 c.end_in.ensures.1 refl
 
-pub returns-in-Unknown : goal.returns-in-Unknown
+pub returns-in-None : goal.returns-in-None
 unfolding stored_by number_of decode_chip decode_registers
-returns-in-Unknown c =
+returns-in-None c =
     let a = c.args in
-    let e = ap (placed (length a.array.now)) (sym c.operation-o.ensures.0) ∙ sym c.place-p.ensures ∙ c.in-Unknown.is in
+    let e = ap (placed (length a.array.now)) (sym c.operation-o.ensures.0) ∙ sym c.place-p.ensures ∙ c.in-None.is in
     met-refused Answers.Part a.block.now a.array.now [] (end-part (held_in a.block.now a.array.now) e) refl refl

@@ -19,16 +19,16 @@ returns-then-not-is_record c =
     let r = c.is_record in
     (sym (other _ (count_told (told_in a.d) a.d.kind a.staged.now) 0 (sym r.ensures ∙ not-true r.result c.if-not-is_record.true-raw)), omega arith)
 
-pub returns-in-Running : goal.returns-in-Running
+pub returns-in-None : goal.returns-in-None
 unfolding count_told
-returns-in-Running c =
+returns-in-None c =
     let r = c.is_record in
     record_count c.args.g c.args.d c.args.staged.now c.requires (sym r.ensures ∙ not-false r.result c.if-not-is_record.false-raw)
-    (sym c.in-Running.is ∙ c.answer-t.ensures) refl
+    (sym c.in-None.is ∙ c.answer-t.ensures) refl
 
-pub returns-in-Answered : goal.returns-in-Answered
+pub returns-in-Some : goal.returns-in-Some
 unfolding count_told
-returns-in-Answered c =
+returns-in-Some c =
     let r = c.is_record in
     record_count c.args.g c.args.d c.args.staged.now c.requires (sym r.ensures ∙ not-false r.result c.if-not-is_record.false-raw)
-    (sym c.in-Answered.is ∙ c.answer-t.ensures) c.count_of.ensures.0
+    (sym c.in-Some.is ∙ c.answer-t.ensures) c.count_of.ensures.0

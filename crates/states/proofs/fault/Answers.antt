@@ -1,16 +1,17 @@
 -- `states::fault` meets its contract: an unknown part is 1, a known one goes on to the others.
 -- Assumes nothing.
+use Rattle.geometry.specs.declared.Geometry.{Geometry}
+use Rattle.std.specs.Prelude.{Option}
 use mathlib.Core.Path.{sym, ap, ◌∙◌}
-use Rattle.geometry.specs.declared.Part.{Part}
 use Rattle.worlds.specs.Step.{fault_by}
 use Rattle.states.proofs.fault.Goals as goal
 
 pub fault_on-requires : goal.fault_on-requires
-fault_on-requires c = sym c.requires ∙ c.in-Known.is
+fault_on-requires c = sym c.requires ∙ c.in-Some.is
 
-pub returns-in-Known : goal.returns-in-Known
-returns-in-Known c = c.fault_on.ensures ∙ ap (λ (q : Part). fault_by q c.args.d) (sym c.in-Known.is)
+pub returns-in-Some : goal.returns-in-Some
+returns-in-Some c = c.fault_on.ensures ∙ ap (λ (q : Option Geometry). fault_by q c.args.d) (sym c.in-Some.is)
 
-pub returns-in-Unknown : goal.returns-in-Unknown
+pub returns-in-None : goal.returns-in-None
 unfolding fault_by
-returns-in-Unknown c = ap (λ (q : Part). fault_by q c.args.d) (sym c.in-Unknown.is)
+returns-in-None c = ap (λ (q : Option Geometry). fault_by q c.args.d) (sym c.in-None.is)
