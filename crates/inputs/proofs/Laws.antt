@@ -11,8 +11,6 @@ use lib.ListN.{length, take, drop, set, get_or, length-append, length-set}
 use lib.Seq.{take_all, take-append-le, length-take-le, take-set-le}
 use lib.Dec.{leb, ltb, eqb}
 use borrow.Author.Tests.{leb-true, leb-false, lt-ltb, eqb-true, eq-eqb}
-use Rattle.orders.specs.declared.Reading.{Reading}
-use Rattle.orders.specs.declared.Reading.TheVariants as Reading
 use Rattle.faults.specs.declared.Fault.TheVariants as Fault
 use Rattle.orders.specs.Lines.{read_of}
 use Rattle.printing.specs.declared.Output.{Output}
@@ -28,7 +26,7 @@ use Rattle.inputs.specs.Places.{line_room, Place, place, Kept, Keeps, At, Reads,
 -- ---- a line longer than the longest
 
 -- it is cut, and says the same
-too_long : (xs : List ℕ) → 8192 < length xs → read_of xs ≡ Reading.Fault Fault.TooLong
+too_long : (xs : List ℕ) → 8192 < length xs → read_of xs ≡ Err Fault.TooLong
 unfolding read_of
 too_long xs h = rw (lt-ltb 8192 (length xs) h) refl
 
