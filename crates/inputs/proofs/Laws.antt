@@ -1,6 +1,7 @@
 -- Laws of the input. A line is kept up to one character more than the longest has, and what a longer one says does not depend on the rest; bytes
 -- read in pieces are read in a row.
 -- Assumes nothing.
+use Rattle.std.specs.Prelude.{Err}
 use mathlib.Core.Path.{◌≡◌, refl, sym, ap, subst, ◌∙◌}
 use mathlib.Core.List.{List, [], ◌∷◌, ◌++◌, append-nil}
 use mathlib.Core.Bool.{Bool, true, false, cond, true≢false}

@@ -1,7 +1,7 @@
 -- Laws of a line's work. What is lent is the first part of a buffer, and comes back as the first part; so the desk is what the step left. What a
 -- fresh part is depends on the array's length alone.
 -- Assumes nothing.
-use Rattle.std.specs.Prelude.{Option, Some}
+use Rattle.std.specs.Prelude.{Option, Some, Result, Ok, Err}
 use mathlib.Core.Path.{◌≡◌, refl, sym, ap, subst, ◌∙◌}
 use mathlib.Core.Logic.{inl, inr}
 use mathlib.Core.List.{List, [], ◌∷◌, ◌++◌}
