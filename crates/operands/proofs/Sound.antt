@@ -19,11 +19,8 @@ use Rattle.operands.specs.Bounds.{Among, Ranged, SoundNumber, SoundTaken, SoundS
 use Rattle.words.specs.declared.Command.{Command}
 use Rattle.words.specs.declared.Span.{Span}
 use Rattle.faults.specs.declared.Name.{Name}
-use Rattle.faults.specs.declared.Name.TheVariants as Name
 use Rattle.faults.specs.declared.Fault.{Fault}
-use Rattle.faults.specs.declared.Fault.TheVariants as Fault
 use Rattle.word_values.specs.declared.First.{First}
-use Rattle.word_values.specs.declared.First.TheVariants as First
 use Rattle.operands.specs.declared.Taken.{Taken}
 use Rattle.words.proofs.Spans.{word-within}
 

@@ -5,7 +5,6 @@ use Rattle.words.specs.Bounds.{Within}
 use Rattle.faults.specs.declared.Fault.{Fault}
 use Rattle.word_values.specs.Values.{Row, parts}
 use Rattle.word_values.specs.declared.First.{First}
-use Rattle.word_values.specs.declared.First.TheVariants as First
 use Rattle.operands.specs.declared.Taken.{Taken}
 
 -- the number is one of the table's

@@ -3,14 +3,11 @@
 use Rattle.std.specs.Prelude.{ℕ, Bool, true, false, cond, List, eqb, Result, Ok, Err}
 use Rattle.words.specs.Words.{word_from, part_of, nowhere}
 use Rattle.words.specs.declared.Command.{Command}
-use Rattle.words.specs.declared.Command.TheVariants as Command
 use Rattle.words.specs.declared.Span.{Span}
 use Rattle.faults.specs.declared.Name.TheVariants as Name
 use Rattle.faults.specs.declared.Fault.{Fault}
-use Rattle.faults.specs.declared.Fault.TheVariants as Fault
 use Rattle.word_values.specs.Values.{decimal_of, number_as, test_hex}
 use Rattle.word_values.specs.declared.First.{First}
-use Rattle.word_values.specs.declared.First.TheVariants as First
 use Rattle.operands.specs.declared.Taken.{Taken}
 
 -- ---- what each command takes

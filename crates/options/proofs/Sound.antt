@@ -13,7 +13,6 @@ use lib.Dec.{ltb}
 use borrow.Author.Tests.{ltb-false}
 use Rattle.slices.proofs.Laws.{part_length}
 use Rattle.text.specs.declared.values.NumberError.{NumberError}
-use Rattle.text.specs.declared.values.NumberError.TheVariants as NumberError
 use Rattle.text.specs.Decimal.{number_of}
 use Rattle.words.specs.Words.{word_from, part_of, is_call, key_of}
 use Rattle.word_values.specs.Values.{test_hex}
@@ -25,10 +24,8 @@ use Rattle.options.specs.Bounds.{SoundSettings, SoundChoice}
 use Rattle.words.specs.declared.Command.{Command}
 use Rattle.words.specs.declared.Span.{Span}
 use Rattle.words.specs.declared.Key.{Key}
-use Rattle.words.specs.declared.Key.TheVariants as Key
 use Rattle.faults.specs.declared.Name.TheVariants as Name
 use Rattle.faults.specs.declared.Fault.{Fault}
-use Rattle.faults.specs.declared.Fault.TheVariants as Fault
 use Rattle.settings.specs.declared.Settings.{Settings}
 use Rattle.words.proofs.Spans.{word-within, key_within}
 

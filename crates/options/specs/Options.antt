@@ -3,7 +3,6 @@
 use Rattle.std.specs.Prelude.{ℕ, zero, suc, ◌+◌, Bool, true, false, cond, List, length, ltb, Option, Some, None, Result, Ok, Err}
 use Rattle.std.specs.Option.{is_some}
 use Rattle.text.specs.declared.values.NumberError.{NumberError}
-use Rattle.text.specs.declared.values.NumberError.TheVariants as NumberError
 use Rattle.text.specs.Decimal.{number_of}
 use Rattle.words.specs.Words.{word_from, part_of, key_of, is_call}
 use Rattle.word_values.specs.Values.{test_hex}
@@ -13,10 +12,8 @@ use Rattle.dates.specs.declared.Date.{Date}
 use Rattle.words.specs.declared.Command.{Command}
 use Rattle.words.specs.declared.Span.{Span}
 use Rattle.words.specs.declared.Key.{Key}
-use Rattle.words.specs.declared.Key.TheVariants as Key
 use Rattle.faults.specs.declared.Name.TheVariants as Name
 use Rattle.faults.specs.declared.Fault.{Fault}
-use Rattle.faults.specs.declared.Fault.TheVariants as Fault
 use Rattle.settings.specs.declared.Settings.{Settings}
 
 -- a number as the option's value, within its room

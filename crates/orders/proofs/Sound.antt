@@ -1,7 +1,6 @@
 -- The bounds of what a line says follow from those of its operands and of its options.
 -- Assumes nothing.
 use Rattle.std.specs.Prelude.{Option, Some, None, Result, Ok, Err, unwrap_or}
-use Rattle.orders.specs.declared.Order.{Order}
 use mathlib.Core.Path.{◌≡◌, refl}
 use mathlib.Core.Bool.{Bool, true, false, cond}
 use mathlib.Core.List.{List}
@@ -10,7 +9,6 @@ use native.Mathlib.Omega.{arith}
 use lib.ListN.{length}
 use lib.Dec.{ltb, eqb}
 use borrow.Author.Tests.{ltb-false}
-use Rattle.words.specs.Letters.{bytes}
 use Rattle.words.specs.Words.{word_from, part_of, command_of}
 use Rattle.operands.specs.Operands.{first_of}
 use Rattle.operands.specs.Operands.{operands_of}
@@ -23,7 +21,6 @@ use Rattle.options.specs.Bounds.{SoundSettings, SoundChoice}
 use Rattle.words.specs.declared.Command.{Command}
 use Rattle.words.specs.declared.Span.{Span}
 use Rattle.faults.specs.declared.Fault.{Fault}
-use Rattle.faults.specs.declared.Fault.TheVariants as Fault
 use Rattle.operands.specs.declared.Taken.{Taken}
 use Rattle.settings.specs.declared.Settings.{Settings}
 use Rattle.operands.proofs.Sound.{operands_sound}

@@ -13,7 +13,6 @@ use Rattle.words.specs.Words.{word_from, part_of, command_of}
 use Rattle.orders.specs.Lines.{with_command, said_by, read_of}
 use Rattle.orders.specs.Bounds.{Sound, SoundReading}
 use Rattle.words.specs.declared.Span.{Span}
-use Rattle.faults.specs.declared.Fault.TheVariants as Fault
 use Rattle.orders.specs.declared.Order.{Order}
 use Rattle.orders.proofs.Sound.{read_sound}
 

@@ -8,7 +8,6 @@ use Rattle.orders.specs.Orders.{order_of}
 use Rattle.words.specs.declared.Command.{Command}
 use Rattle.words.specs.declared.Span.{Span}
 use Rattle.faults.specs.declared.Fault.{Fault}
-use Rattle.faults.specs.declared.Fault.TheVariants as Fault
 use Rattle.orders.specs.declared.Order.{Order}
 use Rattle.settings.specs.declared.Settings.{Settings}
 use Rattle.operands.specs.declared.Taken.{Taken}

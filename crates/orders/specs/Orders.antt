@@ -4,7 +4,6 @@ use Rattle.std.specs.Prelude.{◌%◌, Option, Some, None, unwrap_or}
 use Rattle.words.specs.Words.{nowhere}
 use Rattle.dates.specs.declared.Date.{Date}
 use Rattle.dates.specs.declared.Term.{Term}
-use Rattle.dates.specs.declared.Term.TheVariants as Term
 use Rattle.words.specs.declared.Command.{Command}
 use Rattle.orders.specs.declared.Order.{Order}
 use Rattle.operands.specs.declared.Taken.{Taken}

@@ -5,7 +5,6 @@ use Rattle.std.specs.Option.{is_some}
 use Rattle.dates.specs.declared.Date.{Date}
 use Rattle.words.specs.declared.Span.{Span}
 use Rattle.words.specs.declared.Key.{Key}
-use Rattle.words.specs.declared.Key.TheVariants as Key
 use Rattle.settings.specs.declared.Days.{Days}
 use Rattle.settings.specs.declared.Settings.{Settings}
 

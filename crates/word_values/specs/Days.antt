@@ -2,12 +2,10 @@
 -- Assumes nothing.
 use Rattle.std.specs.Prelude.{ℕ, cond, List, ltb, Result, Ok, Err}
 use Rattle.text.specs.declared.values.NumberError.{NumberError}
-use Rattle.text.specs.declared.values.NumberError.TheVariants as NumberError
 use Rattle.text.specs.Decimal.{number_of}
 use Rattle.text.specs.Hyphens.{before_hyphen, behind_hyphen}
 use Rattle.faults.specs.declared.Name.{Name}
 use Rattle.faults.specs.declared.Fault.{Fault}
-use Rattle.faults.specs.declared.Fault.TheVariants as Fault
 use Rattle.dates.specs.declared.Date.{Date}
 
 -- a number as a part of a date: at most 4,294,967,295

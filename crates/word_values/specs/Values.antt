@@ -4,18 +4,13 @@ use Rattle.std.specs.Prelude.{ℕ, ◌%◌, cond, List, [], ◌∷◌, length, e
 use Prim.Native.String.{String}
 use Rattle.slices.specs.Lists.{same}
 use Rattle.text.specs.declared.values.NumberError.{NumberError}
-use Rattle.text.specs.declared.values.NumberError.TheVariants as NumberError
 use Rattle.text.specs.declared.values.HexError.{HexError}
-use Rattle.text.specs.declared.values.HexError.TheVariants as HexError
 use Rattle.text.specs.Decimal.{number_of}
 use Rattle.text.specs.Hexadecimal.{hex_of}
 use Rattle.words.specs.Letters.{bytes}
 use Rattle.faults.specs.declared.Name.{Name}
-use Rattle.faults.specs.declared.Name.TheVariants as Name
 use Rattle.faults.specs.declared.Fault.{Fault}
-use Rattle.faults.specs.declared.Fault.TheVariants as Fault
 use Rattle.word_values.specs.declared.First.{First}
-use Rattle.word_values.specs.declared.First.TheVariants as First
 
 -- what a word is, if there is one; no word is an empty one
 abbrev pub if_given : List ℕ → Name → Result ℕ Fault → Result ℕ Fault

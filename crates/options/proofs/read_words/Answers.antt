@@ -5,7 +5,6 @@ use Rattle.options.proofs.Turns.{begun, turned, stop, stuck}
 use Rattle.std.specs.Prelude.{Ok, Err}
 use lib.ListN.{length}
 use native.Mathlib.Omega.{arith}
-use Prim.Native.Nat.{◌-◌}
 use mathlib.Core.Path.{refl, sym, ◌∙◌}
 use Rattle.std.proofs.lemmas.Result.{err_from_is_err_and}
 use Rattle.words.specs.Words.{word_from}

@@ -4,7 +4,6 @@ use Rattle.std.specs.Prelude.{ℕ, Result, Ok, Err}
 use Rattle.std.proofs.lemmas.Result.{err_from_is_err_and}
 use Rattle.text.specs.Decimal.{number_of}
 use Rattle.text.specs.declared.values.NumberError.{NumberError}
-use Rattle.text.specs.declared.values.NumberError.TheVariants as NumberError
 use Rattle.faults.specs.declared.Fault.{Fault}
 use Rattle.faults.specs.declared.Name.TheVariants as Name
 use Rattle.words.specs.declared.Key.{Key}
