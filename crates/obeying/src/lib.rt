@@ -19,7 +19,7 @@ ghost use Rattle.obeying.specs.Promises.{Roomy, Obeyed, Ran, after_step, with_ou
 
 use acting::Totals;
 use lines::count;
-use orders::{Command, Fault, Order, Reading};
+use orders::{Command, Fault, Order};
 use printing::Output;
 use std::io::Stdout;
 
@@ -352,9 +352,8 @@ pub fn act_on(
     ensures { Obeyed (after_line line.now (desk_of s block.old array.old log.old out.old)) (line_text line.now (desk_of s block.old array.old log.old out.old)) s text.old result block.new array.new log.new out.new text.new }
 {
     let t = next_line(s);
-    let r = orders::read(line);
-    match r {
-        Reading::Order(o) => obey(stdout, o, t, line, block, array, junk, log, out, text),
-        Reading::Fault(f) => tell(stdout, t, f, text),
+    match orders::read(line) {
+        Ok(o) => obey(stdout, o, t, line, block, array, junk, log, out, text),
+        Err(f) => tell(stdout, t, f, text),
     }
 }

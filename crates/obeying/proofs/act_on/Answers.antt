@@ -7,13 +7,13 @@ use Rattle.obeying.proofs.Laws.{order_done, fault_done}
 use Rattle.obeying.proofs.act_on.Goals as goal
 
 pub obey-requires : goal.obey-requires
-obey-requires c = (c.requires, subst (SoundReading (length c.args.line.now)) c.in-Order.is c.read-r.ensures.0)
+obey-requires c = (c.requires, subst (SoundReading (length c.args.line.now)) c.in-Ok.is c.read.ensures.0)
 
 pub tell-requires : goal.tell-requires
 tell-requires c = c.requires.text
 
-pub returns-in-Order : goal.returns-in-Order
-returns-in-Order c = order_done c.args.line.now (desk_of c.args.s c.args.block.now c.args.array.now c.args.log.now c.args.out.now) c.args.s c.next_line-t.result (sym c.in-Order.is ∙ c.read-r.ensures.1) (c.next_line-t.ensures.0 c.args.block.now c.args.array.now c.args.log.now c.args.out.now) c.next_line-t.ensures.1 c.obey.ensures
+pub returns-in-Ok : goal.returns-in-Ok
+returns-in-Ok c = order_done c.args.line.now (desk_of c.args.s c.args.block.now c.args.array.now c.args.log.now c.args.out.now) c.args.s c.next_line-t.result (sym c.in-Ok.is ∙ c.read.ensures.1) (c.next_line-t.ensures.0 c.args.block.now c.args.array.now c.args.log.now c.args.out.now) c.next_line-t.ensures.1 c.obey.ensures
 
-pub returns-in-Fault : goal.returns-in-Fault
-returns-in-Fault c = fault_done c.args.line.now (desk_of c.args.s c.args.block.now c.args.array.now c.args.log.now c.args.out.now) c.args.s c.next_line-t.result (sym c.in-Fault.is ∙ c.read-r.ensures.1) (c.next_line-t.ensures.0 c.args.block.now c.args.array.now c.args.log.now c.args.out.now) c.next_line-t.ensures.1 c.tell.ensures.0 c.tell.ensures.1
+pub returns-in-Err : goal.returns-in-Err
+returns-in-Err c = fault_done c.args.line.now (desk_of c.args.s c.args.block.now c.args.array.now c.args.log.now c.args.out.now) c.args.s c.next_line-t.result (sym c.in-Err.is ∙ c.read.ensures.1) (c.next_line-t.ensures.0 c.args.block.now c.args.array.now c.args.log.now c.args.out.now) c.next_line-t.ensures.1 c.tell.ensures.0 c.tell.ensures.1
