@@ -7,7 +7,6 @@ ghost use Rattle.geometry.specs.declared.Geometry.{Geometry};
 ghost use Rattle.geometry.specs.Parts.{register_room};
 ghost use Rattle.registers.specs.Protection.{has_bits, Roomed};
 ghost use Rattle.state.specs.declared.Answer.{Answer};
-ghost use Rattle.slots.specs.declared.Stage.{Stage};
 ghost use Rattle.slots.specs.declared.Step.{Step};
 ghost use Rattle.slots.specs.Plans.{is_end};
 ghost use Rattle.slots.specs.Driver.{register_in, heard, status_heard, register_heard, ended, moved, noted, marking, course_by, is_ended, compare_in};

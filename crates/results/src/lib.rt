@@ -6,7 +6,6 @@ ghost use Rattle.std.specs.Prelude.{◌≡◌, ◌≤◌, ◌-◌, Some};
 ghost use Rattle.geometry.specs.declared.Geometry.{Geometry};
 ghost use Rattle.geometry.specs.Parts.{part_of, slot_room};
 ghost use Rattle.slots.specs.Driver.{is_ended};
-ghost use Rattle.slots.specs.declared.Stage.{Stage};
 ghost use Rattle.worlds.specs.Turns.{with};
 ghost use Rattle.worlds.specs.Step.{stage_in, staged_at, halted, told_in, count_by, count_in};
 

@@ -9,7 +9,6 @@ ghost use Rattle.state.specs.Answers.{number_of};
 ghost use Rattle.slots.specs.Refusals.{is_over, is_short, is_misdated, flaws_in, early_refusal};
 ghost use Rattle.slots.specs.Details.{period_of, aim_of, untold, storing, changing, reading};
 ghost use Rattle.slots.specs.Lists.{asking};
-ghost use Rattle.slots.specs.declared.Stage.{Stage};
 ghost use Rattle.records.specs.Held.{Pages};
 ghost use Rattle.worlds.specs.Start.{start_refusal, start_driver};
 

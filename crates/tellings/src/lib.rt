@@ -5,7 +5,6 @@
 ghost use Rattle.std.specs.Prelude.{◌≡◌, ◌<◌, length};
 ghost use Rattle.slots.specs.Driver.{verdict_answer, weighed, told_by};
 ghost use Rattle.slots.specs.Calls.{count_of};
-ghost use Rattle.slots.specs.declared.Stage.{Stage};
 ghost use Rattle.worlds.specs.Turns.{with};
 
 use slots::{Kind, Verdict};
