@@ -73,7 +73,7 @@ pub fn body_start(bytes: &[u8]) -> usize
 pub fn record_length(bytes: &[u8]) -> usize
     ensures { (result ≡ length_in bytes.now) × (result < 65536) }
 {
-    numbers::wide(slices::byte_or(bytes, 1, 0)) * 256 + numbers::wide(slices::byte_or(bytes, 2, 0))
+    u16::from_be_bytes([slices::byte_or(bytes, 1, 0), slices::byte_or(bytes, 2, 0)]) as usize
 }
 
 // The day number at an index.
@@ -82,11 +82,11 @@ fn day_in(bytes: &[u8], at: usize) -> usize
     requires { at ≤ 7 }
     ensures { result ≡ day_in bytes.now at }
 {
-    let a = numbers::wide(slices::byte_or(bytes, at, 0));
-    let b = numbers::wide(slices::byte_or(bytes, at + 1, 0));
-    let c = numbers::wide(slices::byte_or(bytes, at + 2, 0));
-    let d = numbers::wide(slices::byte_or(bytes, at + 3, 0));
-    a * 16777216 + b * 65536 + c * 256 + d
+    let a = slices::byte_or(bytes, at, 0);
+    let b = slices::byte_or(bytes, at + 1, 0);
+    let c = slices::byte_or(bytes, at + 2, 0);
+    let d = slices::byte_or(bytes, at + 3, 0);
+    u32::from_be_bytes([a, b, c, d]) as usize
 }
 
 // The term.
