@@ -16,7 +16,7 @@ use Rattle.slots.specs.declared.Step.{Step}
 use Rattle.slots.specs.Driver.{shape_of, frame_of, is_ended, frame_room}
 use Rattle.slots.proofs.Accepted.{picked}
 use Rattle.slots.proofs.Driven.{other}
-use Rattle.records.proofs.Parts.{part-pages}
+use Rattle.records.proofs.Parts.{part_pages}
 use Rattle.worlds.proofs.Shapes.{frame-length, shape_fits}
 use Rattle.worlds.specs.Turns.{holding_of, step_in}
 use Rattle.worlds.specs.Step.{stage_by, frame_by, frame_in, took_in, staged_in, next_in}
@@ -54,7 +54,7 @@ module _ (d : Driver) (payload staged : List ℕ) where
       go : (b : Bool) → is_ended (stage_by (Some g) d) ≡ b → length (frame_by (Some g) d payload staged) ≤ frame_room
       go true e = omega (arith, ap (λ (l : List ℕ). length l) (ended-frame g e))
       go false e =
-          omega (arith, ap (λ (l : List ℕ). length l) (going-frame g e), frame-length g d.kind (holding_of d payload staged) (step_in g d), shape_fits g (step_in g d) (part-pages d.array g p).most (omega (arith, (part-pages d.array g p).full)))
+          omega (arith, ap (λ (l : List ℕ). length l) (going-frame g e), frame-length g d.kind (holding_of d payload staged) (step_in g d), shape_fits g (step_in g d) (part_pages d.array g p).most (omega (arith, (part_pages d.array g p).full)))
 
   -- the buffer after a frame by the array's part
   pub framed : (xs : List ℕ) {p : Option Geometry} {n : ℕ} {ys : List ℕ} → p ≡ part_of d.array → length (frame_by p d payload staged) ≤ length xs

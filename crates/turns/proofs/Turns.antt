@@ -18,12 +18,12 @@ use Rattle.slots.specs.Plans.{is_wait}
 use Rattle.slots.specs.Driver.{Holding, compare_in, miscomparing, marred, taken_by}
 use Rattle.slots.proofs.Counts.{place-few}
 use Rattle.records.specs.Held.{Pages}
-use Rattle.records.proofs.Parts.{part-pages}
+use Rattle.records.proofs.Parts.{part_pages}
 use Rattle.worlds.specs.Turns.{Sound}
 
 module _ {g : Geometry} {d : Driver} (s : Sound g d) where
   pub sound-pages : Pages g
-  sound-pages = part-pages d.array g s.part
+  sound-pages = part_pages d.array g s.part
 
   pub sound_sized : Sized g (g.pages * g.size)
   sound_sized = sized_own g d.array (sized d.array g s.part)

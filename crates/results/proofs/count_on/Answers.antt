@@ -4,13 +4,13 @@ use native.Mathlib.Omega.{arith}
 use mathlib.Core.Path.{refl, sym, ◌∙◌}
 use borrow.Author.Tests.{not-true, not-false}
 use Rattle.slots.proofs.Driven.{other}
-use Rattle.records.proofs.Parts.{part-pages}
+use Rattle.records.proofs.Parts.{part_pages}
 use Rattle.worlds.specs.Step.{told_in, count_told, count_by}
 use Rattle.results.proofs.Counts.{record_count}
 use Rattle.results.proofs.count_on.Goals as goal
 
 pub is_record-requires : goal.is_record-requires
-is_record-requires c = part-pages _ _ c.requires
+is_record-requires c = part_pages _ _ c.requires
 
 pub returns-then-not-is_record : goal.returns-then-not-is_record
 unfolding count_by
