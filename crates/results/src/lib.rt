@@ -17,26 +17,8 @@ use state::Answer;
 pub fn with_stage(d: Driver, s: Option<Answer>) -> Driver
     ensures { result ≡ with d d.verdict (staged_at s d.course) }
 {
-    let k = d.kind;
-    let v = d.verdict;
-    let aim = d.aim;
-    let c = d.course;
-    let course = Course {
-        place: c.place,
-        left: c.left,
-        stage: s,
-        listed: c.listed,
-        guarded: c.guarded,
-    };
-    Driver {
-        array: d.array,
-        slot: d.slot,
-        limit: d.limit,
-        aim: aim,
-        kind: k,
-        verdict: v,
-        course: course,
-    }
+    let course = Course { stage: s, ..d.course };
+    Driver { course, ..d }
 }
 
 // The state ended with an answer, where something outside the driver ends the call.
@@ -49,8 +31,7 @@ pub fn halt(d: Driver, a: Answer) -> Driver
 pub fn is_ended(d: Driver) -> bool
     ensures { result ≡ is_ended (stage_in d) }
 {
-    let p = geometry::part_of(d.array);
-    let s = states::stage(p, d);
+    let s = states::stage(geometry::part_of(d.array), d);
     courses::has_ended(s)
 }
 
@@ -58,10 +39,8 @@ pub fn is_ended(d: Driver) -> bool
 pub fn answer(d: Driver) -> Option<Answer>
     ensures { result ≡ told_in d }
 {
-    let p = geometry::part_of(d.array);
-    let s = states::stage(p, d);
-    let v = d.verdict;
-    tellings::tell(s, v)
+    let s = states::stage(geometry::part_of(d.array), d);
+    tellings::tell(s, d.verdict)
 }
 
 fn count_on(g: Geometry, d: Driver, staged: &[u8]) -> usize
@@ -71,11 +50,9 @@ fn count_on(g: Geometry, d: Driver, staged: &[u8]) -> usize
     if !records::is_record(g, staged) {
         return 0;
     }
-    let t = answer(d);
-    let k = d.kind;
-    match t {
+    match answer(d) {
         None => 0,
-        Some(a) => tellings::count_of(k, a, staged),
+        Some(a) => tellings::count_of(d.kind, a, staged),
     }
 }
 
@@ -83,9 +60,8 @@ fn count_on(g: Geometry, d: Driver, staged: &[u8]) -> usize
 pub fn count(d: Driver, staged: &[u8; 2112]) -> usize
     ensures { (result ≡ count_in d staged.now) × (result ≤ slot_room - 3) }
 {
-    let p = geometry::part_of(d.array);
-    match p {
-        Some(g) => count_on(g, d, staged),
-        None => 0,
-    }
+    let Some(g) = geometry::part_of(d.array) else {
+        return 0;
+    };
+    count_on(g, d, staged)
 }
