@@ -17,7 +17,10 @@ use state::Answer;
 pub fn with_stage(d: Driver, s: Option<Answer>) -> Driver
     ensures { result ≡ with d d.verdict (staged_at s d.course) }
 {
-    let course = Course { stage: s, ..d.course };
+    let course = Course {
+        stage: s,
+        ..d.course
+    };
     Driver { course, ..d }
 }
 
@@ -28,6 +31,7 @@ pub fn halt(d: Driver, a: Answer) -> Driver
     with_stage(d, Some(a))
 }
 
+#[tactic(auto, unfolding(worlds::specs::Step::stage_in))]
 pub fn is_ended(d: Driver) -> bool
     ensures { result ≡ is_ended (stage_in d) }
 {
@@ -36,6 +40,7 @@ pub fn is_ended(d: Driver) -> bool
 }
 
 // The call's answer, if it has ended.
+#[tactic(auto, unfolding(worlds::specs::Step::told_in, worlds::specs::Step::stage_in))]
 pub fn answer(d: Driver) -> Option<Answer>
     ensures { result ≡ told_in d }
 {
@@ -57,6 +62,7 @@ fn count_on(g: Geometry, d: Driver, staged: &[u8]) -> usize
 }
 
 // Of a get that has ended with 0 the recipe's length; the recipe stands in the bytes read behind the head. Else 0.
+#[tactic(auto, unfolding(worlds::specs::Step::count_in, worlds::specs::Step::count_by))]
 pub fn count(d: Driver, staged: &[u8; 2112]) -> usize
     ensures { (result ≡ count_in d staged.now) × (result ≤ slot_room - 3) }
 {
