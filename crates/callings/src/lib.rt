@@ -12,31 +12,25 @@ ghost use Rattle.runs.specs.Runs.{Started, RunBy};
 
 use geometry::Geometry;
 use runs::{Done, Session};
-use slots::{Detail, Driver, Kind};
+use slots::{Driver, Request};
 use state::Answer;
 
 // The call of a kind.
 pub fn call(
     block: &mut [u8; 765],
     array: &mut [u8],
-    kind: Kind,
-    slot: usize,
-    limit: usize,
-    detail: Detail,
+    r: Request,
     payload: &[u8],
     buffer: &mut [u8],
     script: &[u8],
     junk: &[u8],
     log: &mut [u8],
 ) -> Done
-    ensures { Promise (Op.call (asking kind slot limit) detail script.now payload.now junk.now log.old buffer.old) block.old array.old result block.new array.new log.new buffer.new }
+    ensures { Promise (Op.call (asking r.kind r.slot r.limit) r.detail script.now payload.now junk.now log.old buffer.old) block.old array.old result block.new array.new log.new buffer.new }
 {
     let o = blocks::operation(block);
-    let p = registers::place(array.len(), o);
-    match p {
-        Some(g) => call_in(
-            g, block, array, kind, slot, limit, detail, payload, buffer, script, junk, log,
-        ),
+    match registers::place(array.len(), o) {
+        Some(g) => call_in(g, block, array, r, payload, buffer, script, junk, log),
         None => endings::refuse(Answer::Part),
     }
 }
@@ -46,10 +40,7 @@ fn call_in(
     g: Geometry,
     block: &mut [u8; 765],
     array: &mut [u8],
-    kind: Kind,
-    slot: usize,
-    limit: usize,
-    detail: Detail,
+    r: Request,
     payload: &[u8],
     buffer: &mut [u8],
     script: &[u8],
@@ -57,34 +48,25 @@ fn call_in(
     log: &mut [u8],
 ) -> Done
     requires { part_in (held_in block.old array.old) ≡ Some g }
-    ensures { Promise (Op.call (asking kind slot limit) detail script.now payload.now junk.now log.old buffer.old) block.old array.old result block.new array.new log.new buffer.new }
+    ensures { Promise (Op.call (asking r.kind r.slot r.limit) r.detail script.now payload.now junk.now log.old buffer.old) block.old array.old result block.new array.new log.new buffer.new }
 {
-    let a = refusals::call_refusal(
+    let refusal = refusals::call_refusal(
         g,
         array.len(),
-        kind,
-        slot,
-        limit,
-        detail,
+        r,
         payload.len(),
         buffer.len(),
         log.len(),
         script,
         junk.len(),
     );
-    if state::number(a) != 0 {
-        return endings::refuse(a);
+    match refusal {
+        Answer::Done => {
+            let d = starts::start(array.len(), r, payload.len(), buffer.len());
+            run(g, d, block, array, payload, buffer, script, junk, log)
+        }
+        _ => endings::refuse(refusal),
     }
-    let d = starts::start(
-        array.len(),
-        kind,
-        slot,
-        limit,
-        detail,
-        payload.len(),
-        buffer.len(),
-    );
-    run(g, d, block, array, payload, buffer, script, junk, log)
 }
 
 // A call that is not refused, whose driver starts as d.
@@ -102,7 +84,6 @@ fn run(
     requires { (part_in (held_in block.old array.old) ≡ Some g) × (Started g d array.old script.now junk.now log.old) }
     ensures { RunBy g d payload.now buffer.old script.now junk.now log.old block.old array.old result block.new array.new log.new buffer.new }
 {
-    let kind = d.kind;
     let mut staged = blank_slot();
     let s = Session {
         driver: d,
@@ -112,7 +93,7 @@ fn run(
     };
     let e = sessions::drive(g, s, block, array, payload, &mut staged, script, log);
     let a = endings::answer(e);
-    let n = endings::deliver(kind, a, &staged, buffer);
+    let n = endings::deliver(d.kind, a, &staged, buffer);
     endings::lose(g, e, block, array, junk);
     Done {
         answer: a,
