@@ -3,8 +3,7 @@
 
 pub use decimal::number;
 pub use hyphens::{before_hyphen, behind_hyphen};
-pub use nibbles::nibble;
-pub use scans::{Class, all};
+pub use nibbles::{is_hex_digit, nibble};
 pub use spans::{is_same, skip_blanks, word_end};
 pub use values::{HexError, NumberError};
 
