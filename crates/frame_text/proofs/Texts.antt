@@ -87,7 +87,7 @@ take_clip zero (suc m) (x ∷ xs) e = absurd (omega arith)
 take_clip (suc k) zero (x ∷ xs) e = absurd (omega arith)
 take_clip (suc k) (suc m) (x ∷ xs) e = ap (λ (l : List ℕ). x ∷ l) (take_clip k m xs (omega arith))
 
-pub first-bytes : (xs : List ℕ) (m a e : ℕ) → a ≡ min 2 (length xs) → e ≡ min (2 + m) (length xs) → take (e - a) (drop a xs) ≡ take m (drop 2 xs)
+pub first-bytes : (xs : List ℕ) (m a e : ℕ) → a ≡ min (length xs) 2 → e ≡ min (length xs) (2 + m) → take (e - a) (drop a xs) ≡ take m (drop 2 xs)
 first-bytes [] m a e f g = rw (drop-nil, take-nil, take-nil) refl
 first-bytes (x ∷ []) m a e f g =
     let z : e - a ≡ 0 = omega arith in
