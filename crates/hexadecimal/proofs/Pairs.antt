@@ -13,7 +13,7 @@ use lib.Seq.{drop-cons, get_or-take}
 use borrow.Author.Tests.{eq-eqb, ne_eqb, leb-true, leb-false}
 use Rattle.slices.specs.Lists.{same, over, splice}
 use Rattle.slices.proofs.Laws.{over_nil, length_over, splice_nil, splice_cons}
-use Rattle.std.specs.Prelude.{Option, Result, Ok, Err, Some, None, unwrap_or}
+use Rattle.std.specs.Prelude.{Option, Result, Ok, Err, unwrap_or}
 use Rattle.text.specs.declared.values.HexError.{HexError}
 use Rattle.text.specs.declared.values.HexError.TheVariants.{NotHex, Odd}
 use Rattle.text.specs.Lists.{every}

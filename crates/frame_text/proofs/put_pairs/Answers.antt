@@ -1,5 +1,5 @@
 -- `frame_text::put_pairs` meets its contract: the pairs of the bytes so far lie over `out`, and those of the rest are still to be laid. Assumes nothing.
-use Rattle.std.proofs.Common.{rules, refl, sym, arith, ◌∙◌}
+use Rattle.std.proofs.Common.{rules, sym, arith, ◌∙◌}
 use Rattle.frame_text.proofs.Texts.{spaced-step, spaced-end}
 use Rattle.frame_text.proofs.put_pairs.Goals as goal
 

@@ -2,7 +2,6 @@
 use Rattle.std.proofs.Common.{rules, ◌≡◌, sym, arith, zero-le, ◌∙◌}
 use Rattle.std.proofs.lemmas.Iterator.{YieldsList-from_slice}
 use Rattle.std.proofs.lemmas.Iterator.Search.{all_from_yields_List}
-use borrow.Author.Tests.{not-true, not-false}
 use Rattle.text.specs.Lists.{every}
 use Rattle.text.specs.Hexadecimal.{is_hex_digit}
 use Rattle.text.proofs.Tests.{every_all}

@@ -1,5 +1,5 @@
 -- `hexadecimal::pair` meets its contract: both digits are worth what the definition says, and less than 16. Assumes nothing.
-use Rattle.std.proofs.Common.{rules, ◌≡◌, ◌<◌, arith}
+use Rattle.std.proofs.Common.{rules, ◌<◌, arith}
 use Rattle.text.specs.Hexadecimal.{pair_of}
 use Rattle.hexadecimal.proofs.Pairs.{nibble_short}
 use Rattle.hexadecimal.proofs.pair.Goals as goal
