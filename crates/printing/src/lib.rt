@@ -120,18 +120,11 @@ pub fn complain(stderr: Stderr, message: &[u8]) -> usize
 
 // ---- lines
 
-// 128 bytes. The promise gives the length alone.
-fn blank() -> [u8; 128]
-    ensures { length result ≡ 128 }
-{
-    [0; 128]
-}
-
 fn print_frame(stdout: Stdout, o: Output, text: &mut [u8], entry: &[u8]) -> Output
     requires { 128 ≤ length text.old }
     ensures { Printed (frame_text entry.now) o text.old result text.new }
 {
-    let mut out = blank();
+    let mut out = [0; 128];
     let k = lines::write_frame(&mut out, entry);
     emit(stdout, o, text, &out[..k])
 }
@@ -162,7 +155,7 @@ fn print_totals(
     requires { 128 ≤ length text.old }
     ensures { Printed (totals_text frames polls answer) o text.old result text.new }
 {
-    let mut out = blank();
+    let mut out = [0; 128];
     let k = lines::write_totals(&mut out, frames, polls, answer);
     emit(stdout, o, text, &out[..k])
 }
@@ -188,7 +181,7 @@ pub fn print_answer(stdout: Stdout, o: Output, text: &mut [u8], answer: u8) -> O
     requires { 128 ≤ length text.old }
     ensures { Printed (answer_text answer) o text.old result text.new }
 {
-    let mut out = blank();
+    let mut out = [0; 128];
     let k = lines::write_answer(&mut out, answer);
     emit(stdout, o, text, &out[..k])
 }
@@ -224,7 +217,7 @@ pub fn print_sum(
     let state = check_of_chip(block, array);
     let l = check_of(log);
     let g = check_of(lent);
-    let mut out = blank();
+    let mut out = [0; 128];
     let k = lines::write_sum(&mut out, state, l, g, given);
     emit(stdout, o, text, &out[..k])
 }
@@ -240,7 +233,7 @@ pub fn print_fault(
     requires { (length message.now ≤ 64) × (128 ≤ length text.old) }
     ensures { Printed (fault_text number message.now) o text.old result text.new }
 {
-    let mut out = blank();
+    let mut out = [0; 128];
     let k = lines::write_fault(&mut out, number, message);
     emit(stdout, o, text, &out[..k])
 }
