@@ -7,15 +7,12 @@ use Prim.Native.Nat.{ℕ, ◌+◌, ◌≤◌}
 use native.Mathlib.Omega.{arith}
 use lib.ListN.{length, length-append}
 use Rattle.slices.specs.Lists.{splice}
-use Rattle.slices.proofs.Laws.{splice_append, length-splice}
+use Rattle.slices.proofs.Laws.{splice_append}
 use Rattle.words.specs.Letters.{bytes}
 use Rattle.faults.specs.Messages.{Put, key_text, name_text, over_text, text_of}
 use Rattle.words.specs.declared.Key.{Key}
-use Rattle.words.specs.declared.Key.TheVariants as Key
 use Rattle.faults.specs.declared.Name.{Name}
-use Rattle.faults.specs.declared.Name.TheVariants as Name
 use Rattle.faults.specs.declared.Fault.{Fault}
-use Rattle.faults.specs.declared.Fault.TheVariants as Fault
 
 key_short : (k : Key) → length (key_text k) ≤ 7
 unfolding key_text

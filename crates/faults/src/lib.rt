@@ -1,9 +1,10 @@
 // What can be wrong with a line of the program `outline`, and the text that says so: a name, and what is said of it.
 #![tactic(auto)]
 
-ghost use Rattle.std.specs.Prelude.{◌≡◌, ◌+◌, ◌≤◌, ◌++◌, length};
+ghost use Rattle.std.specs.Prelude.{◌≡◌, ◌≤◌, ◌++◌};
 ghost use Rattle.faults.specs.Messages.{Put, key_text, name_text, over_text, text_of};
 
+use text::put;
 use words::Key;
 
 // What a fault lies in: a word by its place, or the value of an option.
@@ -110,16 +111,6 @@ fn parts(f: Fault) -> (&'static [u8], &'static [u8])
         Fault::Twice => (b"", b"option given twice"),
         Fault::Over(k) => (key_text(k), over_text(k)),
     }
-}
-
-// `text` laid over `out` from index `at` on, and the index behind it.
-fn put(out: &mut [u8], at: usize, text: &[u8]) -> usize
-    requires { at + length text.now ≤ length out.old }
-    ensures { Put at text.now out.old out.new result }
-{
-    let end = at + text.len();
-    out[at..end].copy_from_slice(text);
-    end
 }
 
 // The text of a fault, at the start of `out`, and its length.

@@ -18,14 +18,6 @@ use Rattle.frame_text.specs.Lines.{digit_worth, decimal_of, spaced, frame_length
 one : (a y : ℕ) (out : List ℕ) → set out a y ≡ splice a (y ∷ []) out
 one a y out = sym (splice_cons a y [] out ∙ splice_nil (a + 1) (set out a y))
 
-pub three : (a x y z : ℕ) (out : List ℕ) → set (set (set out a x) (a + 1) y) (a + 2) z ≡ splice a (x ∷ y ∷ z ∷ []) out
-three a x y z out =
-    let e : a + 2 ≡ a + 1 + 1 = omega arith in
-    ap (λ (k : ℕ). set (set (set out a x) (a + 1) y) k z) e
-    ∙ one (a + 1 + 1) z (set (set out a x) (a + 1) y)
-    ∙ sym (splice_cons (a + 1) y (z ∷ []) (set out a x))
-    ∙ sym (splice_cons a x (y ∷ z ∷ []) out)
-
 -- a piece behind another
 joined : (a b : ℕ) (ys zs out mid : List ℕ) → b ≡ a + length ys → mid ≡ splice a ys out → splice b zs mid ≡ splice a (ys ++ zs) out
 joined a b ys zs out mid e f = rw (e, f) (sym (splice_append a ys zs out))

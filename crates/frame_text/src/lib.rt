@@ -66,8 +66,6 @@ fn put_pair(b: u8, out: &mut [u8], at: usize) -> usize
     requires { at + 3 ≤ length out.old }
     ensures { (result ≡ at + 3) × (out.new ≡ splice at (32 ∷ digit_of (b / 16) ∷ digit_of b ∷ []) out.old) }
 {
-    out[at] = b' ';
-    out[at + 1] = hexadecimal::digit(b / 16);
-    out[at + 2] = hexadecimal::digit(b);
-    at + 3
+    let digits = [b' ', hexadecimal::digit(b / 16), hexadecimal::digit(b)];
+    text::put(out, at, &digits)
 }

@@ -17,4 +17,6 @@ put-requires c =
     omega (arith, parts-short c.parts.result.0.now c.parts.result.1.now c.args.f c.parts.ensures, p.end, ap length p.laid ∙ length-splice 0 _ c.args.out.now)
 
 pub returns : goal.returns
-returns c = said c.args.f c.args.out.now c.put-k.new.out c.put.new.out c.put-k.result c.put.result c.parts.ensures c.put-k.ensures c.put.ensures
+returns c = said c.args.f c.args.out.now c.put-k.new.out c.put.new.out c.put-k.result c.put.result c.parts.ensures
+    (record { end = c.put-k.ensures.end; laid = c.put-k.ensures.laid })
+    (record { end = c.put.ensures.end; laid = c.put.ensures.laid })
