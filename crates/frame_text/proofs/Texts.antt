@@ -18,14 +18,6 @@ use Rattle.frame_text.specs.Lines.{digit_worth, decimal_of, spaced, frame_length
 one : (a y : ℕ) (out : List ℕ) → set out a y ≡ splice a (y ∷ []) out
 one a y out = sym (splice_cons a y [] out ∙ splice_nil (a + 1) (set out a y))
 
-pub three : (a x y z : ℕ) (out : List ℕ) → set (set (set out a x) (a + 1) y) (a + 2) z ≡ splice a (x ∷ y ∷ z ∷ []) out
-three a x y z out =
-    let e : a + 2 ≡ a + 1 + 1 = omega arith in
-    ap (λ (k : ℕ). set (set (set out a x) (a + 1) y) k z) e
-    ∙ one (a + 1 + 1) z (set (set out a x) (a + 1) y)
-    ∙ sym (splice_cons (a + 1) y (z ∷ []) (set out a x))
-    ∙ sym (splice_cons a x (y ∷ z ∷ []) out)
-
 -- a piece behind another
 joined : (a b : ℕ) (ys zs out mid : List ℕ) → b ≡ a + length ys → mid ≡ splice a ys out → splice b zs mid ≡ splice a (ys ++ zs) out
 joined a b ys zs out mid e f = rw (e, f) (sym (splice_append a ys zs out))
@@ -87,7 +79,7 @@ take_clip zero (suc m) (x ∷ xs) e = absurd (omega arith)
 take_clip (suc k) zero (x ∷ xs) e = absurd (omega arith)
 take_clip (suc k) (suc m) (x ∷ xs) e = ap (λ (l : List ℕ). x ∷ l) (take_clip k m xs (omega arith))
 
-pub first-bytes : (xs : List ℕ) (m a e : ℕ) → a ≡ min 2 (length xs) → e ≡ min (2 + m) (length xs) → take (e - a) (drop a xs) ≡ take m (drop 2 xs)
+pub first-bytes : (xs : List ℕ) (m a e : ℕ) → a ≡ min (length xs) 2 → e ≡ min (length xs) (2 + m) → take (e - a) (drop a xs) ≡ take m (drop 2 xs)
 first-bytes [] m a e f g = rw (drop-nil, take-nil, take-nil) refl
 first-bytes (x ∷ []) m a e f g =
     let z : e - a ≡ 0 = omega arith in

@@ -12,15 +12,17 @@ pub fn frame_line(line: &[u8], out: &mut [u8; 20]) -> usize
 {
     let n = frame_length(line);
     let k = put_decimal(n, out);
-    let a = numbers::lesser(2, line.len());
-    let e = numbers::lesser(2 + numbers::lesser(n, 4), line.len());
+    let a = line.len().min(2);
+    let e = line.len().min(2 + n.min(4));
     put_pairs(&line[a..e], out, k)
 }
 
+// The length of a frame, from the first two bytes, the higher first.
+#[tactic(auto, unfolding(crate::specs::Lines::frame_length))]
 fn frame_length(line: &[u8]) -> usize
     ensures { (result ≡ frame_length line.now) × (result < 65536) }
 {
-    numbers::wide(slices::byte_or(line, 0, 0)) * 256 + numbers::wide(slices::byte_or(line, 1, 0))
+    usize::from(slices::byte_or(line, 0, 0)) * 256 + usize::from(slices::byte_or(line, 1, 0))
 }
 
 // A number below 65,536 in decimal.
@@ -32,7 +34,7 @@ fn put_decimal(n: usize, out: &mut [u8]) -> usize
     let b = put_digit(n, 1000, out, a);
     let c = put_digit(n, 100, out, b);
     let d = put_digit(n, 10, out, c);
-    out[d] = (48 + n % 10) as u8;
+    out[d] = b'0' + (n % 10) as u8;
     d + 1
 }
 
@@ -44,7 +46,7 @@ fn put_digit(n: usize, worth: usize, out: &mut [u8], at: usize) -> usize
     if n < worth {
         return at;
     }
-    out[at] = (48 + n / worth % 10) as u8;
+    out[at] = b'0' + (n / worth % 10) as u8;
     at + 1
 }
 
@@ -53,11 +55,9 @@ fn put_pairs(bytes: &[u8], out: &mut [u8], at: usize) -> usize
     requires { at + length bytes.now * 3 ≤ length out.old }
     ensures { (result ≡ at + length bytes.now * 3) × (out.new ≡ splice at (spaced bytes.now) out.old) }
 {
-    let mut i = 0;
     let mut next = at;
-    while i < bytes.len() {
-        next = put_pair(bytes[i], out, next);
-        i += 1;
+    for b in bytes {
+        next = put_pair(*b, out, next);
     }
     next
 }
@@ -66,8 +66,6 @@ fn put_pair(b: u8, out: &mut [u8], at: usize) -> usize
     requires { at + 3 ≤ length out.old }
     ensures { (result ≡ at + 3) × (out.new ≡ splice at (32 ∷ digit_of (b / 16) ∷ digit_of b ∷ []) out.old) }
 {
-    out[at] = 32;
-    out[at + 1] = hexadecimal::digit(b / 16);
-    out[at + 2] = hexadecimal::digit(b);
-    at + 3
+    let digits = [b' ', hexadecimal::digit(b / 16), hexadecimal::digit(b)];
+    text::put(out, at, &digits)
 }

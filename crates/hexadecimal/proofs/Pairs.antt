@@ -2,22 +2,22 @@
 -- has still to store those from i on.
 -- Assumes nothing.
 use mathlib.Core.Path.{◌≡◌, refl, sym, ap, ◌∙◌}
-use mathlib.Core.Bool.{Bool, true, false}
+use mathlib.Core.Bool.{Bool, true, false, cond}
 use mathlib.Core.List.{List, [], ◌∷◌}
 use Prim.Native.Nat.{ℕ, zero, suc, ◌+◌, ◌*◌, ◌/◌, ◌%◌, ◌≤◌, ◌<◌, min, zero-le}
 use native.Mathlib.Numerals.{add-one}
 use native.Mathlib.Omega.{arith}
-use lib.Dec.{leb}
+use lib.Dec.{leb, ltb}
 use lib.ListN.{length, set, take, drop, get_or, length-take, drop_of_length-le}
 use lib.Seq.{drop-cons, get_or-take}
 use borrow.Author.Tests.{eq-eqb, ne_eqb, leb-true, leb-false}
 use Rattle.slices.specs.Lists.{same, over, splice}
 use Rattle.slices.proofs.Laws.{over_nil, length_over, splice_nil, splice_cons}
-use Rattle.std.specs.Prelude.{Result, Ok, Err}
+use Rattle.std.specs.Prelude.{Option, Result, Ok, Err, unwrap_or}
 use Rattle.text.specs.declared.values.HexError.{HexError}
 use Rattle.text.specs.declared.values.HexError.TheVariants.{NotHex, Odd}
 use Rattle.text.specs.Lists.{every}
-use Rattle.text.specs.Hexadecimal.{is_hex_digit, pair_of, pairs, hex_of, count_of, bytes_of}
+use Rattle.text.specs.Hexadecimal.{is_hex_digit, nibble_of, pair_of, pairs, hex_of, count_of, bytes_of}
 
 -- ---- what a word says
 module _ (xs : List ℕ) where
@@ -115,3 +115,18 @@ unfolding bytes_of
 unhexed_none word h out e k =
     let b : bytes_of word ≡ [] = ap (λ (j : ℕ). take j (pairs word)) (ap count_of (sym e) ∙ k) in
     (zero-le, omega (arith, ap length b), sym (ap (λ (l : List ℕ). over l out) b ∙ over_nil out), refl)
+
+-- ---- a digit is worth less than 16
+either-short : (b : Bool) (o p : Option ℕ) → (b ≡ true → unwrap_or o 0 < 16) → (b ≡ false → unwrap_or p 0 < 16) → unwrap_or (cond b o p) 0 < 16
+either-short true o p f g = f refl
+either-short false o p f g = g refl
+
+pub nibble_short : (x : ℕ) → unwrap_or (nibble_of x) 0 < 16
+unfolding nibble_of
+nibble_short x =
+    either-short (ltb x 48) _ _ (λ e. omega arith) (λ e.
+    either-short (leb x 57) _ _ (λ f. omega (arith, leb-true x 57 f)) (λ f.
+    either-short (ltb x 65) _ _ (λ h. omega arith) (λ h.
+    either-short (leb x 70) _ _ (λ k. omega (arith, leb-true x 70 k)) (λ k.
+    either-short (ltb x 97) _ _ (λ m. omega arith) (λ m.
+    either-short (leb x 102) _ _ (λ n. omega (arith, leb-true x 102 n)) (λ n. omega arith))))))

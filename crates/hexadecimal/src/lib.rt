@@ -5,14 +5,14 @@ ghost use Rattle.std.specs.Prelude.{◌≡◌, ◌+◌, ◌*◌, ◌/◌, ◌≤
 ghost use Rattle.slices.specs.Lists.{over};
 ghost use Rattle.text.specs.Hexadecimal.{digit_of, pair_of, pairs, hex_of, count_of, bytes_of};
 
-use text::{Class, HexError};
+use text::HexError;
 
 // The upper-case hexadecimal digit of `n % 16`.
 pub fn digit(n: u8) -> u8
     ensures { result ≡ digit_of n }
 {
     let d = n % 16;
-    if d < 10 { 48 + d } else { 55 + d }
+    if d < 10 { b'0' + d } else { b'A' - 10 + d }
 }
 
 // How many bytes the digits of a word make; `-` alone and an empty word make none.
@@ -22,7 +22,7 @@ pub fn hex(word: &[u8]) -> Result<usize, HexError>
     if text::is_same(word, b"-") {
         return Ok(0);
     }
-    if !text::all(Class::HexDigit, word) {
+    if !word.iter().all(|b| text::is_hex_digit(*b)) {
         return Err(HexError::NotHex);
     }
     if word.len() % 2 == 0 {
@@ -47,11 +47,9 @@ fn store(word: &[u8], n: usize, out: &mut [u8]) -> usize
     requires { n * 2 ≤ length word.now }
     ensures { (result ≡ min n (length out.old)) × (out.new ≡ over (take n (pairs word.now)) out.old) }
 {
-    let m = numbers::lesser(n, out.len());
-    let mut i = 0;
-    while i < m {
+    let m = n.min(out.len());
+    for i in 0..m {
         out[i] = pair(word[i * 2], word[i * 2 + 1]);
-        i += 1;
     }
     m
 }
@@ -59,5 +57,5 @@ fn store(word: &[u8], n: usize, out: &mut [u8]) -> usize
 fn pair(x: u8, y: u8) -> u8
     ensures { result ≡ pair_of x y }
 {
-    text::nibble(x) % 16 * 16 + text::nibble(y) % 16
+    text::nibble(x).unwrap_or(0) * 16 + text::nibble(y).unwrap_or(0)
 }

@@ -15,7 +15,7 @@ use Rattle.io.specs.Digits.{last_digits, hex_digit_ascii, IsDigitCount}
 use Rattle.io.specs.Counts.{IsPrefixLen}
 use Rattle.slices.specs.Lists.{over, splice}
 use Rattle.text.specs.Hexadecimal.{digit_of}
-use Rattle.slices.proofs.Laws.{splice_append, splice-zero, over_append, length-splice, spliced}
+use Rattle.slices.proofs.Laws.{splice_append, splice-zero, over_append}
 use Rattle.lines.specs.Texts.{Stands, decimal_in, decimal}
 
 -- ---- pieces
@@ -26,14 +26,6 @@ stands_more {at} {a} {r} {l} {m} {xs} {ys} {zs} s t =
       long = t.long ∙ s.long;
       text = t.text ∙ ap (λ (k : ℕ). splice k m ys) s.end ∙ ap (splice (at + length l) m) s.text ∙ sym (splice_append at l m xs);
     }
-
--- a piece that was copied into a part lent as `&mut`
-pub put_stands : (at : ℕ) (piece xs : List ℕ) {ys : List ℕ} → at + length piece ≤ length xs → ys ≡ piece
-    → Stands at piece (at + length piece) xs (take at xs ++ (ys ++ drop (at + length piece - at) (drop at xs)))
-put_stands at piece xs {ys} h e =
-    let k : at + length piece - at ≡ length piece = omega arith in
-    let t : take at xs ++ (ys ++ drop (at + length piece - at) (drop at xs)) ≡ splice at piece xs = spliced at xs (omega arith) k e in
-    record { end = refl; long = ap length t ∙ length-splice at piece xs; text = t }
 
 -- the piece is another name of the same bytes
 pub stands_as : {at r : ℕ} {l m xs ys : List ℕ} → Stands at l r xs ys → l ≡ m → Stands at m r xs ys

@@ -11,7 +11,7 @@ ghost use Rattle.lines.specs.Texts.{Stands, decimal, word_text, count_text, chec
 pub fn count(n: usize, part: &[u8]) -> usize
     ensures { IsPrefixLen result part.now × (result ≡ min n (length part.now)) }
 {
-    numbers::lesser(n, part.len())
+    n.min(part.len())
 }
 
 // `piece` is put at index `at`; the index behind it.
@@ -19,9 +19,7 @@ pub fn put(out: &mut [u8], at: usize, piece: &[u8]) -> usize
     requires { at + length piece.now ≤ length out.old }
     ensures { Stands at piece.now result out.old out.new }
 {
-    let end = at + piece.len();
-    slices::copy(&mut out[at..end], piece);
-    end
+    text::put(out, at, piece)
 }
 
 fn put_decimal(out: &mut [u8], at: usize, n: u64) -> usize
@@ -77,8 +75,7 @@ fn put_check(out: &mut [u8], at: usize, name: &[u8], n: u32) -> usize
     put_word(out, a, n)
 }
 
-pub fn write_frame(out: &mut [u8], entry: &[u8]) -> usize
-    requires { length out.old ≡ 128 }
+pub fn write_frame(out: &mut [u8; 128], entry: &[u8]) -> usize
     ensures { Stands 0 (frame_text entry.now) result out.old out.new × IsPrefixLen result out.new }
 {
     let mut frame = [0u8; 20];
@@ -87,26 +84,23 @@ pub fn write_frame(out: &mut [u8], entry: &[u8]) -> usize
     put(out, a, b"\n")
 }
 
-pub fn write_answer(out: &mut [u8], answer: u8) -> usize
-    requires { length out.old ≡ 128 }
+pub fn write_answer(out: &mut [u8; 128], answer: u8) -> usize
     ensures { Stands 0 (answer_text answer) result out.old out.new × IsPrefixLen result out.new }
 {
-    let a = put_count(out, 0, b"answer ", answer as u64);
+    let a = put_count(out, 0, b"answer ", u64::from(answer));
     put(out, a, b"\n")
 }
 
-pub fn write_totals(out: &mut [u8], frames: u64, polls: u64, answer: u8) -> usize
-    requires { length out.old ≡ 128 }
+pub fn write_totals(out: &mut [u8; 128], frames: u64, polls: u64, answer: u8) -> usize
     ensures { Stands 0 (totals_text frames polls answer) result out.old out.new × IsPrefixLen result out.new }
 {
     let a = put_count(out, 0, b"frames ", frames);
     let b = put_count(out, a, b" polls ", polls);
-    let c = put_count(out, b, b" answer ", answer as u64);
+    let c = put_count(out, b, b" answer ", u64::from(answer));
     put(out, c, b"\n")
 }
 
-pub fn write_sum(out: &mut [u8], state: u32, log: u32, given: u32, n: u64) -> usize
-    requires { length out.old ≡ 128 }
+pub fn write_sum(out: &mut [u8; 128], state: u32, log: u32, given: u32, n: u64) -> usize
     ensures { Stands 0 (sum_text state log given n) result out.old out.new × IsPrefixLen result out.new }
 {
     let a = put_check(out, 0, b"sum ", state);
@@ -116,8 +110,8 @@ pub fn write_sum(out: &mut [u8], state: u32, log: u32, given: u32, n: u64) -> us
     put(out, d, b"\n")
 }
 
-pub fn write_fault(out: &mut [u8], number: u64, message: &[u8]) -> usize
-    requires { (length out.old ≡ 128) × (length message.now ≤ 64) }
+pub fn write_fault(out: &mut [u8; 128], number: u64, message: &[u8]) -> usize
+    requires { length message.now ≤ 64 }
     ensures { Stands 0 (fault_text number message.now) result out.old out.new × IsPrefixLen result out.new }
 {
     let a = put_count(out, 0, b"line ", number);

@@ -41,23 +41,18 @@ pub fn nothing() -> Output
 fn write_once(stdout: Stdout, bytes: &[u8]) -> usize
     ensures { result ≤ length bytes.now }
 {
-    match stdout.write_some(bytes) {
-        Ok(n) => n,
-        Err(_) => 0,
-    }
+    stdout.write_some(bytes).unwrap_or(0)
 }
 
 // The same, tried again while it takes nothing; 0 where it fails for good.
 fn write_some(stdout: Stdout, bytes: &[u8]) -> usize
     ensures { result ≤ length bytes.now }
 {
-    let mut tries = TRIES;
-    while tries > 0 {
+    for _ in 0..TRIES {
         let k = write_once(stdout, bytes);
         if k > 0 {
             return k;
         }
-        tries -= 1;
     }
     0
 }
@@ -67,9 +62,9 @@ fn write_all(stdout: Stdout, text: &[u8]) -> usize
     ensures { result ≤ length text.now }
 {
     let mut done = 0;
+    // A `while`, since each turn goes on by as much as the system took.
     while done < text.len() {
-        let n = text.len();
-        let k = write_some(stdout, &text[done..n]);
+        let k = write_some(stdout, &text[done..]);
         if k == 0 {
             return done;
         }
@@ -88,7 +83,7 @@ pub fn flush(stdout: Stdout, o: Output, text: &[u8]) -> Output
     let n = count(o.waiting, text);
     let room = u64::MAX - o.written;
     if room < n as u64 {
-        return stopped(o);
+        return Output { failed: true, ..o };
     }
     let k = write_all(stdout, &text[..n]);
     Output {
@@ -96,24 +91,6 @@ pub fn flush(stdout: Stdout, o: Output, text: &[u8]) -> Output
         written: o.written + k as u64,
         failed: k < n,
     }
-}
-
-// Nothing more is written.
-fn stopped(o: Output) -> Output
-    ensures { result ≡ record { waiting = o.waiting; written = o.written; failed = true } }
-{
-    let mut p = o;
-    p.failed = true;
-    p
-}
-
-// The same with so many bytes waiting.
-fn with_waiting(o: Output, waiting: usize) -> Output
-    ensures { result ≡ record { waiting = waiting; written = o.written; failed = o.failed } }
-{
-    let mut p = o;
-    p.waiting = waiting;
-    p
 }
 
 // A line is put behind the text that waits; where it has no room there, what waits is written first.
@@ -124,40 +101,30 @@ fn emit(stdout: Stdout, o: Output, text: &mut [u8], line: &[u8]) -> Output
     let at = count(o.waiting, text);
     if line.len() <= text.len() - at {
         let end = put(text, at, line);
-        return with_waiting(o, end);
+        return Output { waiting: end, ..o };
     }
     let p = flush(stdout, o, text);
     if p.failed {
         return p;
     }
     let end = put(text, 0, line);
-    with_waiting(p, end)
+    Output { waiting: end, ..p }
 }
 
 // A message on standard error; how many of its bytes the system took.
 pub fn complain(stderr: Stderr, message: &[u8]) -> usize
     ensures { result ≤ length message.now }
 {
-    match stderr.write_some(message) {
-        Ok(n) => n,
-        Err(_) => 0,
-    }
+    stderr.write_some(message).unwrap_or(0)
 }
 
 // ---- lines
-
-// 128 bytes. The promise gives the length alone.
-fn blank() -> [u8; 128]
-    ensures { length result ≡ 128 }
-{
-    [0; 128]
-}
 
 fn print_frame(stdout: Stdout, o: Output, text: &mut [u8], entry: &[u8]) -> Output
     requires { 128 ≤ length text.old }
     ensures { Printed (frame_text entry.now) o text.old result text.new }
 {
-    let mut out = blank();
+    let mut out = [0; 128];
     let k = lines::write_frame(&mut out, entry);
     emit(stdout, o, text, &out[..k])
 }
@@ -168,13 +135,11 @@ fn print_frames(stdout: Stdout, start: Output, text: &mut [u8], log: &[u8], fram
     ensures { Printed (frames_text (min frames (length log.now / 6)) log.now) start text.old result text.new }
 {
     let mut o = start;
-    let n = numbers::lesser(frames, log.len() / 6);
-    let mut i = 0;
-    while i < n {
+    let n = frames.min(log.len() / 6);
+    for i in 0..n {
         let at = 6 * i;
         let end = at + 6;
         o = print_frame(stdout, o, text, &log[at..end]);
-        i += 1;
     }
     o
 }
@@ -190,7 +155,7 @@ fn print_totals(
     requires { 128 ≤ length text.old }
     ensures { Printed (totals_text frames polls answer) o text.old result text.new }
 {
-    let mut out = blank();
+    let mut out = [0; 128];
     let k = lines::write_totals(&mut out, frames, polls, answer);
     emit(stdout, o, text, &out[..k])
 }
@@ -216,7 +181,7 @@ pub fn print_answer(stdout: Stdout, o: Output, text: &mut [u8], answer: u8) -> O
     requires { 128 ≤ length text.old }
     ensures { Printed (answer_text answer) o text.old result text.new }
 {
-    let mut out = blank();
+    let mut out = [0; 128];
     let k = lines::write_answer(&mut out, answer);
     emit(stdout, o, text, &out[..k])
 }
@@ -252,7 +217,7 @@ pub fn print_sum(
     let state = check_of_chip(block, array);
     let l = check_of(log);
     let g = check_of(lent);
-    let mut out = blank();
+    let mut out = [0; 128];
     let k = lines::write_sum(&mut out, state, l, g, given);
     emit(stdout, o, text, &out[..k])
 }
@@ -268,7 +233,7 @@ pub fn print_fault(
     requires { (length message.now ≤ 64) × (128 ≤ length text.old) }
     ensures { Printed (fault_text number message.now) o text.old result text.new }
 {
-    let mut out = blank();
+    let mut out = [0; 128];
     let k = lines::write_fault(&mut out, number, message);
     emit(stdout, o, text, &out[..k])
 }

@@ -1,6 +1,6 @@
 -- Hexadecimal digits, and a word of them as bytes.
 -- Assumes nothing.
-use Rattle.std.specs.Prelude.{ℕ, ◌+◌, ◌-◌, ◌*◌, ◌/◌, ◌%◌, Bool, cond, List, [], ◌∷◌, length, take, eqb, leb, ltb, Result, Ok, Err}
+use Rattle.std.specs.Prelude.{ℕ, ◌+◌, ◌-◌, ◌*◌, ◌/◌, ◌%◌, Bool, cond, List, [], ◌∷◌, length, take, eqb, leb, ltb, Option, Some, None, is_some, unwrap_or, Result, Ok, Err}
 use Rattle.slices.specs.Lists.{same}
 use Rattle.text.specs.declared.values.HexError.{HexError}
 use Rattle.text.specs.declared.values.HexError.TheVariants.{NotHex, Odd}
@@ -10,23 +10,23 @@ use Rattle.text.specs.Lists.{every}
 unfoldable pub digit_of : ℕ → ℕ
 digit_of n = cond (ltb (n % 16) 10) (48 + n % 16) (55 + n % 16)
 
--- what the digit x is worth: `0` to `9`, `A` to `F`, `a` to `f`; 16 for any other byte
-unfoldable pub nibble_of : ℕ → ℕ
+-- what the digit x is worth: `0` to `9`, `A` to `F`, `a` to `f`; nothing for any other byte
+unfoldable pub nibble_of : ℕ → Option ℕ
 nibble_of x =
-    cond (ltb x 48) 16
-    (cond (leb x 57) (x - 48)
-    (cond (ltb x 65) 16
-    (cond (leb x 70) (x - 55)
-    (cond (ltb x 97) 16
-    (cond (leb x 102) (x - 87) 16)))))
+    cond (ltb x 48) None
+    (cond (leb x 57) (Some (x - 48))
+    (cond (ltb x 65) None
+    (cond (leb x 70) (Some (x - 55))
+    (cond (ltb x 97) None
+    (cond (leb x 102) (Some (x - 87)) None)))))
 
 -- a digit of either case
 unfoldable pub is_hex_digit : ℕ → Bool
-is_hex_digit x = ltb (nibble_of x) 16
+is_hex_digit x = is_some (nibble_of x)
 
--- the byte of two digits, the higher first
+-- the byte of two digits, the higher first; what is no digit counts as 0
 unfoldable pub pair_of : ℕ → ℕ → ℕ
-pair_of x y = nibble_of x % 16 * 16 + nibble_of y % 16
+pair_of x y = unwrap_or (nibble_of x) 0 * 16 + unwrap_or (nibble_of y) 0
 
 -- a byte for each two digits
 unfoldable pub pairs : List ℕ → List ℕ

@@ -3,4 +3,3 @@ pub mod Decimal
 pub mod Hexadecimal
 pub mod Words
 pub mod Hyphens
-pub mod Classes

@@ -2,13 +2,13 @@
 ghost use Rattle.std.specs.Prelude.{◌≡◌};
 ghost use Rattle.text.specs.Hyphens.{before_hyphen, behind_hyphen};
 
-use crate::scans::{Class, scan};
+use crate::scans::scan;
 
 // The bytes before the first `-`, or all.
 pub fn before_hyphen(word: &[u8]) -> &[u8]
     ensures { result.now ≡ before_hyphen word.now }
 {
-    let end = scan(Class::NotHyphen, word, 0);
+    let end = scan(|b| b != b'-', word, 0);
     &word[..end]
 }
 
@@ -16,7 +16,7 @@ pub fn before_hyphen(word: &[u8]) -> &[u8]
 pub fn behind_hyphen(word: &[u8]) -> &[u8]
     ensures { result.now ≡ behind_hyphen word.now }
 {
-    let at = scan(Class::NotHyphen, word, 0);
+    let at = scan(|b| b != b'-', word, 0);
     if at < word.len() {
         let from = at + 1;
         return &word[from..];

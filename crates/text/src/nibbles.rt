@@ -2,33 +2,22 @@
 ghost use Rattle.std.specs.Prelude.{◌≡◌};
 ghost use Rattle.text.specs.Hexadecimal.{nibble_of, is_hex_digit};
 
+#[tactic(auto, unfolding(crate::specs::Hexadecimal::is_hex_digit))]
 pub fn is_hex_digit(b: u8) -> bool
     ensures { result ≡ is_hex_digit b }
 {
-    nibble(b) < 16
+    nibble(b).is_some()
 }
 
-// What the digit `b` is worth, 16 where it is none.
-pub fn nibble(b: u8) -> u8
+// What the digit `b` is worth.
+#[tactic(auto, unfolding(crate::specs::Hexadecimal::nibble_of))]
+pub fn nibble(b: u8) -> Option<u8>
     ensures { result ≡ nibble_of b }
 {
-    if b < 48 {
-        return 16;
+    match b {
+        b'0'..=b'9' => Some(b - b'0'),
+        b'A'..=b'F' => Some(b - b'A' + 10),
+        b'a'..=b'f' => Some(b - b'a' + 10),
+        _ => None,
     }
-    if b <= 57 {
-        return b - 48;
-    }
-    if b < 65 {
-        return 16;
-    }
-    if b <= 70 {
-        return b - 55;
-    }
-    if b < 97 {
-        return 16;
-    }
-    if b <= 102 {
-        return b - 87;
-    }
-    16
 }

@@ -1,64 +1,33 @@
 // Runs of bytes that pass one test.
-ghost use Rattle.std.specs.Prelude.{◌≡◌, ◌≤◌, min, length};
+ghost use Rattle.std.specs.Prelude.{ℕ, Bool, ◌≡◌, ◌≤◌, ◌<◌, min, length};
 ghost use Rattle.text.specs.Words.{is_blank};
-ghost use Rattle.text.specs.Lists.{every, scan};
-ghost use Rattle.text.specs.Classes.{is_in};
+ghost use Rattle.text.specs.Lists.{scan, leading};
 
-use crate::decimal::is_digit;
-use crate::nibbles::is_hex_digit;
-
-// What a byte is tested for.
-#[derive(Clone, Copy)]
-pub enum Class {
-    Blank,
-    Other,
-    Digit,
-    HexDigit,
-    NotHyphen,
+// The first index from `at` on whose byte does not pass the test, or the length.
+pub fn scan<F: Fn(u8) -> bool>(test: F, bytes: &[u8], at: usize) -> usize
+    requires { F.IsAlwaysCallable test }
+    ensures within { (result ≤ length bytes.now) × (at ≤ length bytes.now → at ≤ result) × (min at (length bytes.now) ≤ result) }
+    ensures value { (p : ℕ → Bool) → ((x : ℕ) (b : Bool) → x < 256 → F.post test x b → b ≡ p x) → result ≡ scan p bytes.now at }
+{
+    let from = at.min(bytes.len());
+    from + leading(test, &bytes[from..])
 }
 
-// The first index from `at` on whose byte is not of the class, or the length.
-pub fn scan(class: Class, bytes: &[u8], at: usize) -> usize
-    ensures { (result ≤ length bytes.now) × (at ≤ length bytes.now → at ≤ result) × (min at (length bytes.now) ≤ result) × (result ≡ scan (is_in class) bytes.now at) }
+// How many bytes stand before the first that does not pass the test.
+fn leading<F: Fn(u8) -> bool>(test: F, bytes: &[u8]) -> usize
+    requires { F.IsAlwaysCallable test }
+    ensures within { result ≤ length bytes.now }
+    ensures value { (p : ℕ → Bool) → ((x : ℕ) (b : Bool) → x < 256 → F.post test x b → b ≡ p x) → result ≡ leading p bytes.now }
 {
-    let mut i = at;
-    while i < bytes.len() {
-        if is_in(class, bytes[i]) {
-            i += 1;
-        } else {
-            return i;
-        }
-    }
-    bytes.len()
-}
-
-// Whether every byte is of the class.
-pub fn all(class: Class, word: &[u8]) -> bool
-    ensures { result ≡ every (is_in class) word.now }
-{
-    scan(class, word, 0) == word.len()
-}
-
-fn is_in(class: Class, b: u8) -> bool
-    ensures { result ≡ is_in class b }
-{
-    match class {
-        Class::Blank => is_blank(b),
-        Class::Other => !is_blank(b),
-        Class::Digit => is_digit(b),
-        Class::HexDigit => is_hex_digit(b),
-        Class::NotHyphen => b != 45,
+    match bytes.iter().position(|b| !test(*b)) {
+        Some(i) => i,
+        None => bytes.len(),
     }
 }
 
-fn is_blank(b: u8) -> bool
+#[tactic(auto, unfolding(crate::specs::Words::is_blank))]
+pub fn is_blank(b: u8) -> bool
     ensures { result ≡ is_blank b }
 {
-    if b == 32 {
-        return true;
-    }
-    if b == 9 {
-        return true;
-    }
-    b == 13
+    matches!(b, b' ' | b'\t' | b'\r')
 }

@@ -7,8 +7,8 @@ use mathlib.Core.List.{List, [], ◌∷◌}
 use Prim.Native.Nat.{ℕ, suc, ◌+◌, ◌-◌, ◌≤◌, zero-le}
 use native.Mathlib.Omega.{arith}
 use lib.ListN.{length, take, drop, length-drop}
-use lib.Dec.{leb}
-use borrow.Author.Tests.{leb-true}
+use lib.Dec.{eqb, leb}
+use borrow.Author.Tests.{leb-true, le-leb, lt-leb}
 use Rattle.slices.specs.Lists.{same}
 use Rattle.slices.proofs.Laws.{part_length}
 use Rattle.text.specs.Lists.{leading, scan}
@@ -18,8 +18,10 @@ use Rattle.words.specs.Words.{word_from, part_of, begins_with, if_begun, key_of}
 use Rattle.words.specs.Bounds.{Within, SoundKeyed}
 use Rattle.words.specs.declared.Span.{Span}
 use Rattle.words.specs.declared.Key.{Key}
-use Rattle.words.specs.declared.Key.TheVariants as Key
 use Rattle.std.specs.Prelude.{Option, Some, None}
+use Rattle.std.specs.Option.{option_or}
+use Rattle.std.proofs.lemmas.Bool.Decides.{nat_tests}
+use Rattle.std.specs.Cmp.Lexicographic.{pointwise}
 
 leading-short : (p : ℕ → Bool) (xs : List ℕ) → leading p xs ≤ length xs
 unfolding leading
@@ -84,3 +86,25 @@ value_within xs w k i h e =
     let l : length (part_of xs w) ≡ w.end - w.start = part_length w.start w.end xs h.0 h.1 in
     let n : i ≤ length (part_of xs w) = subst⁻¹ (λ (d : Option (Key × ℕ)). SoundKeyed (length (part_of xs w)) d) e (key_within (part_of xs w)) in
     omega arith
+
+eqb-sym : (x y : ℕ) → eqb x y ≡ eqb y x
+eqb-sym x y = grind (arith, nat_tests)
+
+-- std's `starts_with` of bytes
+pub begins : (w o : List ℕ) → pointwise eqb o (take (length o) w) ≡ begins_with w o
+unfolding begins_with same
+begins w [] = rw (le-leb 0 (length w) zero-le) refl
+begins [] (y ∷ o) = rw (lt-leb (suc (length o)) 0 (omega arith)) refl
+begins (x ∷ w) (y ∷ o) =
+    let l : leb (suc (length o)) (suc (length w)) ≡ leb (length o) (length w) = grind (arith, nat_tests) in
+    rw (begins w o, l) (rw (eqb-sym y x) (swap (eqb x y) (leb (length o) (length w)) (same (take (length o) w) o)))
+  where
+    swap : (a l s : Bool) → a && (l && s) ≡ l && (a && s)
+    swap true l s = refl
+    swap false true s = refl
+    swap false false s = refl
+
+-- the first of several that is found
+pub or_cond : {A : Type 0} (b : Bool) (x : A) (o p : Option A) → option_or (cond b (Some x) o) p ≡ cond b (Some x) (option_or o p)
+or_cond true x o p = refl
+or_cond false x o p = refl

@@ -12,12 +12,12 @@ returns c =
     let out = c.args.out.now in
     let n = c.frame_length-n in
     let d = c.put_decimal-k in
-    let a = c.lesser-a in
-    let m = c.lesser in
-    let e = c.lesser-e in
+    let a = c.min-a in
+    let m = c.min in
+    let e = c.min-e in
     let p = c.put_pairs in
     let long : length out ≡ 20 = search rules in
     framed line out d.new.out p.new.out _ n.result d.result p.result
     n.ensures.0 d.ensures.0 d.ensures.1 d.ensures.2
-    (first-bytes line (min n.result 4) a.result e.result a.ensures (e.ensures ∙ ap (λ (k : ℕ). min (2 + k) (length line)) m.ensures))
+    (first-bytes line (min n.result 4) a.result e.result a.ensures (e.ensures ∙ ap (λ (k : ℕ). min (length line) (2 + k)) m.ensures))
     p.ensures.0 p.ensures.1 long

@@ -5,4 +5,4 @@ use borrow.Author.Rules.{rules}
 use Rattle.lines.proofs.count.Goals as goal
 
 pub returns : goal.returns
-returns c = ((search rules, simp length-take (omega (arith, c.lesser.ensures))), c.lesser.ensures)
+returns c = ((search rules, simp length-take (omega (arith, c.min.ensures))), c.min.ensures)

@@ -1,5 +1,5 @@
 -- `lines::write_totals` meets its contract: each piece stands behind the one before it. Assumes nothing.
-use native.Mathlib.Omega.{arith}
+use Rattle.std.proofs.Common.{rules, ◌≡◌, length, arith}
 use Rattle.lines.specs.Texts.{totals_text}
 use Rattle.lines.proofs.Laws.{stands_more, stands_counts}
 use Rattle.lines.proofs.write_totals.Goals as goal
@@ -7,5 +7,6 @@ use Rattle.lines.proofs.write_totals.Goals as goal
 pub returns : goal.returns
 unfolding totals_text
 returns c =
+    let l : length c.args.out.now ≡ 128 = search rules in
     let z = stands_more c.put_count-a.ensures.0 (stands_more c.put_count-b.ensures.0 (stands_more c.put_count-c.ensures.0 c.put.ensures)) in
-    (z, stands_counts z (omega (arith, c.put_count-a.ensures.1, c.put_count-b.ensures.1, c.put_count-c.ensures.1, c.put.ensures.end, c.requires)))
+    rw (← c.from.ensures) (z, stands_counts z (omega (arith, c.put_count-a.ensures.1, c.put_count-b.ensures.1, c.put_count-c.ensures.1, c.put.ensures.end, l)))

@@ -1,11 +1,7 @@
--- `text::spans::is_same` meets its contract: `differs` is the comparison, negated. Assumes nothing.
-use mathlib.Core.Bool.{not, not-not}
-use mathlib.Core.Path.{ap, ◌∙◌}
-use Rattle.slices.specs.Lists.{same}
+-- `text::spans::is_same` meets its contract: `==` compares byte for byte. Assumes nothing.
+use Rattle.std.proofs.Common.{◌∙◌}
+use Rattle.text.proofs.Tests.{same_pointwise}
 use Rattle.text.proofs.spans.is_same.Goals as goal
 
 pub returns : goal.returns
-returns c =
-    let a = c.args in
-    ap not c.differs.ensures
-    ∙ not-not (same a.a.now a.b.now)
+returns c = c.eq.ensures ∙ same_pointwise c.args.a.now c.args.b.now
