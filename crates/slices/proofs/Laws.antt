@@ -14,12 +14,6 @@ use lib.Dec.{eqb}
 use borrow.Author.Tests.{eqb-true, eq-eqb}
 use Rattle.slices.specs.Lists.{tabulate, over, splice, and_over, same}
 
--- a byte that is there is so whatever stands for one that is not
-pub get_or_other : (xs : List ℕ) (i d e : ℕ) → i < length xs → get_or xs i d ≡ get_or xs i e
-get_or_other [] i d e h = absurd (not-suc-le-zero h)
-get_or_other (x ∷ xs) zero d e h = refl
-get_or_other (x ∷ xs) (suc i) d e h = get_or_other xs i d e (le_of_suc-le-suc h)
-
 -- ---- a list computed byte by byte
 pub length-tabulate : (n : ℕ) (f : ℕ → ℕ) → length (tabulate n f) ≡ n
 unfolding tabulate
