@@ -135,11 +135,8 @@ fn print_frames(stdout: Stdout, start: Output, text: &mut [u8], log: &[u8], fram
     ensures { Printed (frames_text (min frames (length log.now / 6)) log.now) start text.old result text.new }
 {
     let mut o = start;
-    let n = frames.min(log.len() / 6);
-    for i in 0..n {
-        let at = 6 * i;
-        let end = at + 6;
-        o = print_frame(stdout, o, text, &log[at..end]);
+    for entry in log.chunks_exact(6).take(frames) {
+        o = print_frame(stdout, o, text, entry);
     }
     o
 }
