@@ -14,6 +14,7 @@ use std::io::{Print, Stderr, Stdout};
 // from one that fails for good.
 const TRIES: u32 = 33_554_432;
 
+// `Held` and `Flushed` speak of each field, so a failure is a field beside the counts, which stay true after it.
 #[derive(Clone, Copy)]
 pub struct Output {
     // How many bytes of text wait to be written.
@@ -119,6 +120,8 @@ pub fn complain(stderr: Stderr, message: &[u8]) -> usize
 }
 
 // ---- lines
+
+// Each takes the output and the buffer apart, since `Printed` speaks of both before and after; and each has a writer of its own.
 
 fn print_frame(stdout: Stdout, o: Output, text: &mut [u8], entry: &[u8]) -> Output
     requires { 128 ≤ length text.old }
