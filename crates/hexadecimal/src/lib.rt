@@ -42,7 +42,7 @@ pub fn unhex(word: &[u8], out: &mut [u8]) -> usize
     }
 }
 
-// The first `n` bytes of the word's digits.
+// The first `n` bytes of the word's digits. By index, since byte i is made of the digits 2 i and 2 i + 1 and `out` may end before.
 fn store(word: &[u8], n: usize, out: &mut [u8]) -> usize
     requires { n * 2 ≤ length word.now }
     ensures { (result ≡ min n (length out.old)) × (out.new ≡ over (take n (pairs word.now)) out.old) }

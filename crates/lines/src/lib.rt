@@ -39,7 +39,7 @@ fn digit_at(n: u32, worth: u32) -> u8
     hexadecimal::digit((n / worth % 16) as u8)
 }
 
-// Eight hexadecimal digits.
+// Eight hexadecimal digits, listed as `word_text` lists them.
 fn put_word(out: &mut [u8], at: usize, n: u32) -> usize
     requires { at + 8 ≤ length out.old }
     ensures { Stands at (word_text n) result out.old out.new }
@@ -66,7 +66,7 @@ fn put_count(out: &mut [u8], at: usize, name: &[u8], n: u64) -> usize
     put_decimal(out, a, n)
 }
 
-// A name, and a number in hexadecimal.
+// A name, and a number in hexadecimal. Not one function with `put_count`: only the two calls could be shared.
 fn put_check(out: &mut [u8], at: usize, name: &[u8], n: u32) -> usize
     requires { at + length name.now + 8 ≤ length out.old }
     ensures { Stands at (check_text name.now n) result out.old out.new × (result ≡ at + length name.now + 8) }

@@ -4,17 +4,18 @@
 use mathlib.Core.Path.{◌≡◌, refl, sym, ap, subst, ◌∙◌}
 use mathlib.Core.List.{List, [], ◌∷◌, ◌++◌, append-nil, append_assoc}
 use mathlib.Core.Bool.{true, false, true≢false}
-use Prim.Native.Nat.{ℕ, ◌+◌, ◌*◌, ◌-◌, ◌≤◌, min}
+use Prim.Native.Nat.{ℕ, zero, suc, ◌+◌, ◌*◌, ◌-◌, ◌/◌, ◌≤◌, ◌<◌, min}
 use native.Mathlib.Numerals.{add-one}
 use native.Mathlib.Omega.{arith}
-use lib.ListN.{length, take, drop, length-append}
-use lib.Seq.{take_all, take-add, take-append-le, length-take-le}
+use lib.ListN.{length, take, drop, length-append, length-drop}
+use Rattle.std.proofs.lemmas.List.{drop-drop, drop_at}
+use lib.Seq.{take_at, take_all, take-add, take-append-le, length-take-le}
 use lib.Bits.{bit_xor}
 use lib.Dec.{ltb}
 use borrow.Author.Tests.{ltb-false}
 use Rattle.io.specs.Counts.{IsPrefixLen}
 use Rattle.slices.specs.Lists.{splice}
-use Rattle.slices.proofs.Laws.{take-splice, splice-part, run-part}
+use Rattle.slices.proofs.Laws.{take-splice, splice-part}
 use Rattle.checksum.specs.Checksum.{crc_bits, crc_of}
 use Rattle.lines.specs.Texts.{Stands, frame_text}
 use Rattle.lines.proofs.Laws.{stood}
@@ -124,10 +125,21 @@ flushed_taken {o} {n} {k} {xs} f m h =
 pub line_of : {r : ℕ} {l xs ys : List ℕ} → Stands 0 l r xs ys → IsPrefixLen r ys → take r ys ≡ l
 line_of {r} {l} {xs} {ys} s c = stood s (omega (arith, s.end, s.long, c.0))
 
--- one frame more
-pub frames_more : (i : ℕ) (log : List ℕ) → frames_text i log ++ frame_text (take (6 * i + 6 - 6 * i) (drop (6 * i) log)) ≡ frames_text (i + 1) log
+-- the frame that comes behind the first i, and what is left behind it
+pub next_frame : (i : ℕ) (log x rest : List ℕ) → drop (6 * i) log ≡ x ++ rest → length x ≡ 6
+    → (frames_text i log ++ frame_text x ≡ frames_text (i + 1) log) × (rest ≡ drop (6 * (i + 1)) log) × (6 * (i + 1) ≤ length log)
 unfolding frames_text
-frames_more i log = rw (add-one i, run-part (6 * i) 6 log) refl
+next_frame i log x rest e l =
+    let t : take 6 (drop (6 * i) log) ≡ x = ap (take 6) e ∙ take_at x rest 6 l in
+    let s : 6 * (i + 1) ≡ 6 * i + 6 = omega arith in
+    let d : drop (6 * (i + 1)) log ≡ rest = ap (λ (k : ℕ). drop k log) s ∙ sym (drop-drop 6 (6 * i) log) ∙ ap (drop 6) e ∙ drop_at x rest 6 l in
+    let n : length (drop (6 * i) log) ≡ 6 + length rest = ap length e ∙ length-append x rest ∙ ap (λ (k : ℕ). k + length rest) l in
+    (rw (add-one i, t) refl, sym d, omega (arith, length-drop (6 * i) log))
+
+-- the frames end where enough are told, or the log has no more
+pub last_frame : (i n c : ℕ) (log : List ℕ) → c + i ≡ n → 6 * i ≤ length log → (0 < c → length (drop (6 * i) log) < 6) → i ≡ min n (length log / 6)
+last_frame i n zero log e h f = omega arith
+last_frame i n (suc c) log e h f = omega (arith, f (omega arith), length-drop (6 * i) log)
 
 -- a checksum over two pieces, one after the other
 pub crc_append : (s : ℕ) (xs ys : List ℕ) → crc_of s (xs ++ ys) ≡ crc_of (crc_of s xs) ys

@@ -14,6 +14,7 @@ use std::io::{Print, Stderr, Stdout};
 // from one that fails for good.
 const TRIES: u32 = 33_554_432;
 
+// `Held` and `Flushed` speak of each field, so a failure is a field beside the counts, which stay true after it.
 #[derive(Clone, Copy)]
 pub struct Output {
     // How many bytes of text wait to be written.
@@ -120,6 +121,8 @@ pub fn complain(stderr: Stderr, message: &[u8]) -> usize
 
 // ---- lines
 
+// Each takes the output and the buffer apart, since `Printed` speaks of both before and after; and each has a writer of its own.
+
 fn print_frame(stdout: Stdout, o: Output, text: &mut [u8], entry: &[u8]) -> Output
     requires { 128 ≤ length text.old }
     ensures { Printed (frame_text entry.now) o text.old result text.new }
@@ -135,11 +138,8 @@ fn print_frames(stdout: Stdout, start: Output, text: &mut [u8], log: &[u8], fram
     ensures { Printed (frames_text (min frames (length log.now / 6)) log.now) start text.old result text.new }
 {
     let mut o = start;
-    let n = frames.min(log.len() / 6);
-    for i in 0..n {
-        let at = 6 * i;
-        let end = at + 6;
-        o = print_frame(stdout, o, text, &log[at..end]);
+    for entry in log.chunks_exact(6).take(frames) {
+        o = print_frame(stdout, o, text, entry);
     }
     o
 }

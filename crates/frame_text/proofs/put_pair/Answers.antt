@@ -1,5 +1,4 @@
 -- `frame_text::put_pair` meets its contract: the three bytes are those of the definition. Assumes nothing.
-use Rattle.std.proofs.Common.{refl, ◌∙◌}
 use Rattle.frame_text.proofs.put_pair.Goals as goal
 
 pub returns : goal.returns
