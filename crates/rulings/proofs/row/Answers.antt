@@ -8,58 +8,6 @@ use Rattle.control.specs.Rulings.{applied, changed}
 use Rattle.control.proofs.Steps.{has_room, has_data}
 use Rattle.rulings.proofs.row.Goals as goal
 
-pub read_page-requires : goal.read_page-requires
-unfolding room
-read_page-requires c = (c.requires.0, has_room c.in-ReadPage.is c.requires.1)
-
-pub read_array-requires : goal.read_array-requires
-unfolding room
-read_array-requires c = (c.requires.0, has_room c.in-ReadArray.is c.requires.1)
-
-pub read_buffer-requires : goal.read_buffer-requires
-unfolding room
-read_buffer-requires c = (c.requires.0, has_room c.in-ReadBuffer.is c.requires.1)
-
-pub write_buffer-requires : goal.write_buffer-requires
-unfolding room
-write_buffer-requires c = (c.requires.0, has_room c.in-WriteBuffer.is c.requires.1)
-
-pub program-requires : goal.program-requires
-unfolding room
-program-requires c = (c.requires.0, has_room c.in-Program.is c.requires.1)
-
-pub program_over-requires : goal.program_over-requires
-unfolding room
-program_over-requires c = (c.requires.0, has_room c.in-ProgramOver.is c.requires.1)
-
-pub program_through-requires : goal.program_through-requires
-unfolding room
-program_through-requires c = (c.requires.0, has_room c.in-ProgramThrough.is c.requires.1)
-
-pub erase_page-requires : goal.erase_page-requires
-unfolding room
-erase_page-requires c = (c.requires.0, has_room c.in-ErasePage.is c.requires.1)
-
-pub erase_block-requires : goal.erase_block-requires
-unfolding room
-erase_block-requires c = (c.requires.0, has_room c.in-EraseBlock.is c.requires.1)
-
-pub erase_sector-requires : goal.erase_sector-requires
-unfolding room
-erase_sector-requires c = (c.requires.0, has_room c.in-EraseSector.is c.requires.1)
-
-pub transfer-requires : goal.transfer-requires
-unfolding room
-transfer-requires c = (c.requires.0, has_room c.in-Transfer.is c.requires.1)
-
-pub compare-requires : goal.compare-requires
-unfolding room
-compare-requires c = (c.requires.0, has_room c.in-Compare.is c.requires.1)
-
-pub rewrite-requires : goal.rewrite-requires
-unfolding room
-rewrite-requires c = (c.requires.0, has_room c.in-Rewrite.is c.requires.1)
-
 pub program_protection-requires : goal.program_protection-requires
 unfolding takes
 program_protection-requires c = has_data c.in-ProgramProtection.is c.requires.2 refl
@@ -73,46 +21,86 @@ unfolding takes
 program_security-requires c = has_data c.in-ProgramSecurity.is c.requires.2 refl
 
 pub returns-in-ReadPage : goal.returns-in-ReadPage
-returns-in-ReadPage c = λ r k. rw c.in-ReadPage.is (c.read_page.ensures r k)
+unfolding row_decided room applied changed
+returns-in-ReadPage c =
+    let n = c.named-page.ensures.held (has_room c.in-ReadPage.is c.requires.1) in
+    λ r k. rw (c.in-ReadPage.is, c.tell.ensures, n.0, n.1)
 
 pub returns-in-ReadArray : goal.returns-in-ReadArray
-returns-in-ReadArray c = λ r k. rw c.in-ReadArray.is (c.read_array.ensures r k)
+unfolding row_decided room applied changed
+returns-in-ReadArray c =
+    let n = c.named-page.ensures.held (has_room c.in-ReadArray.is c.requires.1) in
+    λ r k. rw (c.in-ReadArray.is, c.read_array.ensures, n.0, n.1)
 
 pub returns-in-ReadBuffer : goal.returns-in-ReadBuffer
-returns-in-ReadBuffer c = λ r k. rw c.in-ReadBuffer.is (c.read_buffer.ensures r k)
+unfolding row_decided room applied changed
+returns-in-ReadBuffer c =
+    let n = c.named-page.ensures.held (has_room c.in-ReadBuffer.is c.requires.1) in
+    λ r k. rw (c.in-ReadBuffer.is, c.tell-in-ReadBuffer.ensures, n.1)
 
 pub returns-in-WriteBuffer : goal.returns-in-WriteBuffer
-returns-in-WriteBuffer c = λ r k. rw c.in-WriteBuffer.is (c.write_buffer.ensures r k)
+unfolding row_decided room applied changed
+returns-in-WriteBuffer c =
+    let n = c.named-page.ensures.held (has_room c.in-WriteBuffer.is c.requires.1) in
+    λ r k. rw (c.in-WriteBuffer.is, c.tell-in-WriteBuffer.ensures, n.1)
 
 pub returns-in-Program : goal.returns-in-Program
-returns-in-Program c = λ r k. rw c.in-Program.is (c.program.ensures r k)
+unfolding row_decided room
+returns-in-Program c =
+    let n = c.named-page.ensures.held (has_room c.in-Program.is c.requires.1) in
+    λ r k. rw (c.in-Program.is, c.start_on.ensures r k, n.0)
 
 pub returns-in-ProgramOver : goal.returns-in-ProgramOver
-returns-in-ProgramOver c = λ r k. rw c.in-ProgramOver.is (c.program_over.ensures r k)
+unfolding row_decided room
+returns-in-ProgramOver c =
+    let n = c.named-page.ensures.held (has_room c.in-ProgramOver.is c.requires.1) in
+    λ r k. rw (c.in-ProgramOver.is, c.start_on-in-ProgramOver.ensures r k, n.0)
 
 pub returns-in-ProgramThrough : goal.returns-in-ProgramThrough
-returns-in-ProgramThrough c = λ r k. rw c.in-ProgramThrough.is (c.program_through.ensures r k)
+unfolding row_decided room
+returns-in-ProgramThrough c =
+    let n = c.named-page.ensures.held (has_room c.in-ProgramThrough.is c.requires.1) in
+    λ r k. rw (c.in-ProgramThrough.is, c.program_through.ensures r k, n.0, n.1)
 
 pub returns-in-ErasePage : goal.returns-in-ErasePage
-returns-in-ErasePage c = λ r k. rw c.in-ErasePage.is (c.erase_page.ensures r k)
+unfolding row_decided room
+returns-in-ErasePage c =
+    let n = c.named-page.ensures.held (has_room c.in-ErasePage.is c.requires.1) in
+    λ r k. rw (c.in-ErasePage.is, c.start_on-in-ErasePage.ensures r k, n.0)
 
 pub returns-in-EraseBlock : goal.returns-in-EraseBlock
-returns-in-EraseBlock c = λ r k. rw c.in-EraseBlock.is (c.erase_block.ensures r k)
+unfolding row_decided room
+returns-in-EraseBlock c =
+    let n = c.named-page.ensures.held (has_room c.in-EraseBlock.is c.requires.1) in
+    λ r k. rw (c.in-EraseBlock.is, c.erase_block.ensures r k, n.0)
 
 pub returns-in-EraseSector : goal.returns-in-EraseSector
-returns-in-EraseSector c = λ r k. rw c.in-EraseSector.is (c.erase_sector.ensures r k)
+unfolding row_decided room
+returns-in-EraseSector c =
+    let n = c.named-page.ensures.held (has_room c.in-EraseSector.is c.requires.1) in
+    λ r k. rw (c.in-EraseSector.is, c.erase_sector.ensures r k, n.0)
 
 pub returns-in-EraseChip : goal.returns-in-EraseChip
+unfolding row_decided
 returns-in-EraseChip c = λ r k. rw c.in-EraseChip.is (c.erase_chip.ensures r k)
 
 pub returns-in-Transfer : goal.returns-in-Transfer
-returns-in-Transfer c = λ r k. rw c.in-Transfer.is (c.transfer.ensures r k)
+unfolding row_decided room applied changed
+returns-in-Transfer c =
+    let n = c.named-page.ensures.held (has_room c.in-Transfer.is c.requires.1) in
+    λ r k. rw (c.in-Transfer.is, c.start.ensures, n.0)
 
 pub returns-in-Compare : goal.returns-in-Compare
-returns-in-Compare c = λ r k. rw c.in-Compare.is (c.compare.ensures r k)
+unfolding row_decided room applied changed
+returns-in-Compare c =
+    let n = c.named-page.ensures.held (has_room c.in-Compare.is c.requires.1) in
+    λ r k. rw (c.in-Compare.is, c.start-in-Compare.ensures, n.0)
 
 pub returns-in-Rewrite : goal.returns-in-Rewrite
-returns-in-Rewrite c = λ r k. rw c.in-Rewrite.is (c.rewrite.ensures r k)
+unfolding row_decided room
+returns-in-Rewrite c =
+    let n = c.named-page.ensures.held (has_room c.in-Rewrite.is c.requires.1) in
+    λ r k. rw (c.in-Rewrite.is, c.start_on-in-Rewrite.ensures r k, n.0)
 
 pub returns-in-ProtectOn : goal.returns-in-ProtectOn
 unfolding row_decided applied changed
@@ -140,7 +128,7 @@ returns-in-ProgramSecurity c = λ r k. rw c.in-ProgramSecurity.is (c.program_sec
 
 pub returns-in-ReadProtection : goal.returns-in-ReadProtection
 unfolding row_decided applied changed
-returns-in-ReadProtection c = λ r k. rw (c.in-ReadProtection.is, c.tell.ensures)
+returns-in-ReadProtection c = λ r k. rw (c.in-ReadProtection.is, c.tell-in-ReadProtection.ensures)
 
 pub returns-in-ReadLockdown : goal.returns-in-ReadLockdown
 unfolding row_decided applied changed
