@@ -5,6 +5,8 @@ use mathlib.Core.Bool.{Bool, true, false, not}
 use mathlib.Core.Logic.{◌⊎◌, ⊎_elim}
 use Rattle.commands.specs.declared.Buffer.{Buffer}
 use Rattle.commands.specs.declared.Buffer.TheVariants.{One, Two}
+use Rattle.commands.specs.contracts.Buffer.{the_type}
+use denote.Enum.Bare.{sameb}
 use Rattle.control.specs.declared.Class.{Class}
 use Rattle.control.specs.declared.Class.TheVariants.{Status, Id, Wake, OfBuffer, Other}
 use Rattle.registers.specs.declared.Usage.TheVariants.{NoBuffer, Uses, Exclusive}
@@ -65,7 +67,7 @@ returns-in-Status-c c = rw c.in-Uses.is (tells c.in-Uses.buffer c.args.c c.in-St
 pub returns-in-OfBuffer : goal.returns-in-OfBuffer
 unfolding allowed
 returns-in-OfBuffer c =
-    rw (c.in-Uses.is, c.in-OfBuffer.is) (c.ne.ensures ∙ ap not (equal _ refl refl refl refl c.in-Uses.buffer c.in-OfBuffer.other))
+    rw (c.in-Uses.is, c.in-OfBuffer.is) (c.ne.ensures ∙ ap not (equal (λ a b. sameb the_type a b) refl refl refl refl c.in-Uses.buffer c.in-OfBuffer.other))
 
 pub returns-in-Wake : goal.returns-in-Wake
 returns-in-Wake c = rw c.in-Uses.is (bars c.in-Uses.buffer c.args.c c.in-Wake.is)
