@@ -60,7 +60,8 @@ fn lose_protection(g: Geometry, r: Registers, junk: &[u8]) -> Registers
     ensures { result ≡ with_protection r (over (take g.register (after_buffers g junk.now)) r.protection) }
 {
     let mut bytes = r.protection;
-    slices::copy(&mut bytes, &junk[2 * g.size..][..g.register]);
+    let a = 2 * g.size;
+    slices::copy(&mut bytes, &junk[a..a + g.register]);
     registers::with_protection(r, bytes)
 }
 
@@ -70,7 +71,8 @@ fn lose_security(g: Geometry, r: Registers, junk: &[u8]) -> Registers
     ensures { result ≡ with_user r (over (take 64 (after_buffers g junk.now)) r.user) }
 {
     let mut bytes = r.user;
-    slices::copy(&mut bytes, &junk[2 * g.size..][..64]);
+    let a = 2 * g.size;
+    slices::copy(&mut bytes, &junk[a..a + 64]);
     registers::with_user(r, bytes)
 }
 

@@ -11,7 +11,7 @@ returns c =
     λ xs.
     record {
       answer = refl;
-      chip = c.with_registers.ensures ∙ ap (with_registers c.args.c) c.with_wp-n.ensures;
+      chip = c.with_registers.ensures ∙ ap (with_registers c.args.c) c.with_wp.ensures;
       array = refl;
       reply = refl;
     }
