@@ -146,7 +146,7 @@ pub fn act(g: Geometry, buffers: &mut [u8], a: Action, bytes: &[u8])
 pub fn is_framed(frame: usize, reply: usize) -> bool
     ensures { result ≡ framed frame reply }
 {
-    1 <= frame && frame <= 1100 && frame == reply
+    (1..=1100).contains(&frame) && frame == reply
 }
 
 // The frame sent to a chip by value.

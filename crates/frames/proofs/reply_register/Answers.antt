@@ -13,6 +13,6 @@ use Rattle.frames.proofs.reply_register.Goals as goal
 
 pub returns : goal.returns
 returns c =
-    let l : length c.args.bytes ≡ register_room = search rules in
+    let l : length c.args.bytes.now ≡ register_room = search rules in
     c.reply_once.ensures
-    ∙ ap (λ (x : List ℕ). replied (length c.args.reply.now) c.args.lead (once_data x)) (sym (take_all c.args.g.register c.args.bytes (omega (arith, c.requires.0))))
+    ∙ ap (λ (x : List ℕ). replied (length c.args.reply.now) c.args.lead (once_data x)) (sym (take_all c.args.g.register c.args.bytes.now (omega (arith, c.requires.0))))

@@ -1,18 +1,25 @@
 -- `frames::respond` meets its contract: each arm is a clause of `data_of`; the action names what its function asks for.
 -- Assumes nothing.
 use mathlib.Core.List.{List}
+use mathlib.Core.Logic.{◌⊎◌, ⊎_elim}
 use mathlib.Core.Path.{◌≡◌, refl, ap, ◌∙◌, sym}
 use Prim.Native.Nat.{ℕ}
 use native.Mathlib.Omega.{arith}
 use lib.ListN.{length}
 use Rattle.commands.specs.declared.Buffer.{Buffer}
 use Rattle.commands.specs.declared.Buffer.TheVariants.{One, Two}
+use Rattle.geometry.specs.declared.Geometry.{Geometry}
+use Rattle.registers.specs.declared.Data16.{Data16}
+use Rattle.registers.specs.declared.Data64.{Data64}
+use Rattle.registers.specs.declared.Registers.{Registers}
 use Rattle.registers.specs.Protection.{register_of}
+use Rattle.control.specs.declared.Action.{Action}
+use Rattle.control.specs.declared.Action.TheVariants.{Silent, WriteBuffer, LoadProtection, LoadSecurity}
 use Rattle.control.specs.declared.Marks.{Marks}
 use Rattle.memory.specs.Replies.{replied, once_data, ring_data}
 use Rattle.state.specs.Frames.{data_of}
-use Rattle.state.specs.Lent.{lent}
-use Rattle.state.specs.Memory.{either}
+use Rattle.state.specs.Lent.{lent, memory_in}
+use Rattle.state.specs.Memory.{Memory, either}
 use Rattle.state.proofs.Arms.{names_page, names_array, names_read}
 use Rattle.frames.proofs.respond.Goals as goal
 
@@ -21,6 +28,13 @@ either-lent : (b : Buffer) (size start lead n : ℕ) (bs : List ℕ)
     → replied n lead (ring_data size start (lent b bs)) ≡ replied n lead (ring_data size start (either b (lent One bs) (lent Two bs)))
 either-lent One size start lead n bs = refl
 either-lent Two size start lead n bs = refl
+
+-- an action whose reply is FFh throughout
+silent : (g : Geometry) (r : Registers) (m : Memory) (a : Action)
+    → (a ≡ Silent) ⊎ (((b : Buffer) × (s : ℕ) × (a ≡ WriteBuffer b s)) ⊎ (((d : Data16) × (a ≡ LoadProtection d)) ⊎ ((d : Data64) × (a ≡ LoadSecurity d))))
+    → data_of g r m Silent ≡ data_of g r m a
+unfolding data_of
+silent g r m a h = ⊎_elim (λ e. rw e) (λ i. ⊎_elim (λ w. rw w.2) (λ j. ⊎_elim (λ d. rw d.1) (λ d. rw d.1) j) i) h
 
 pub reply_page-requires : goal.reply_page-requires
 reply_page-requires c =
@@ -35,7 +49,11 @@ reply_buffer-requires c = (c.requires.0.most, names_read c.args.g c.args.a _ _ c
 
 pub returns-in-Silent : goal.returns-in-Silent
 unfolding data_of
-returns-in-Silent c = λ r e k. rw c.in-Silent.is c.reply_nothing.ensures
+returns-in-Silent c =
+    let s = c.args in
+    λ r e k.
+    c.reply_nothing.ensures
+    ∙ ap (replied (length s.reply.now) s.lead) (silent s.g r (memory_in s.array.now s.buffers.now s.compare) s.a c.in-Silent.is)
 
 pub returns-in-ReadPage : goal.returns-in-ReadPage
 unfolding data_of
@@ -48,18 +66,6 @@ returns-in-ReadArray c = λ r e k. rw c.in-ReadArray.is c.reply_ring.ensures
 pub returns-in-ReadBuffer : goal.returns-in-ReadBuffer
 unfolding data_of
 returns-in-ReadBuffer c = λ r e k. rw c.in-ReadBuffer.is (c.reply_buffer.ensures ∙ either-lent c.in-ReadBuffer.buffer c.args.g.size c.in-ReadBuffer.start c.args.lead (length c.args.reply.now) c.args.buffers.now)
-
-pub returns-in-WriteBuffer : goal.returns-in-WriteBuffer
-unfolding data_of
-returns-in-WriteBuffer c = λ r e k. rw c.in-WriteBuffer.is c.reply_nothing-in-WriteBuffer.ensures
-
-pub returns-in-LoadProtection : goal.returns-in-LoadProtection
-unfolding data_of
-returns-in-LoadProtection c = λ r e k. rw c.in-LoadProtection.is c.reply_nothing-in-LoadProtection.ensures
-
-pub returns-in-LoadSecurity : goal.returns-in-LoadSecurity
-unfolding data_of
-returns-in-LoadSecurity c = λ r e k. rw c.in-LoadSecurity.is c.reply_nothing-in-LoadSecurity.ensures
 
 pub returns-in-ReadProtection : goal.returns-in-ReadProtection
 unfolding data_of
