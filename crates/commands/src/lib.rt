@@ -73,6 +73,7 @@ pub struct Decoded {
 }
 
 // The row with this opcode, if there is one.
+#[tactic(auto, unfolding(crate::specs::Decode::lookup_of, crate::specs::Decode::lookup_in, crate::specs::Table::commands))]
 pub fn lookup(opcode: u8) -> Option<Command>
     ensures { result ≡ lookup_of opcode }
 {
