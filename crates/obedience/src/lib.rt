@@ -10,6 +10,7 @@ use commands::Effect;
 use control::{Class, Marks};
 use registers::Usage;
 
+#[tactic(auto, unfolding(control::specs::Obeyed::class_of))]
 fn class_of(e: Effect) -> Class
     ensures { result ≡ class_of e }
 {
@@ -22,6 +23,7 @@ fn class_of(e: Effect) -> Class
     }
 }
 
+#[tactic(auto, unfolding(control::specs::Obeyed::allowed))]
 fn is_allowed(u: Usage, c: Class) -> bool
     ensures { result ≡ allowed u c }
 {
