@@ -45,6 +45,7 @@ fn is_wake(c: Class) -> bool
     matches!(c, Class::Wake)
 }
 
+#[tactic(auto, unfolding(control::specs::Obeyed::obeyed))]
 pub fn is_obeyed(m: Marks, e: Effect) -> bool
     ensures { WithMarks m (λ r. result ≡ obeyed r e) }
 {

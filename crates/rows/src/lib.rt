@@ -45,6 +45,7 @@ pub fn start(o: Operation) -> Ruling
 }
 
 // A program or erase: ignored where it names a sealed sector.
+#[tactic(auto, using(geometry::proofs::Sectors::sector_served, control::proofs::Bearing::seals_of_lem), unfolding(control::specs::Control::started_on, control::specs::Rulings::applied, control::specs::Rulings::changed))]
 pub fn start_on(g: Geometry, m: Marks, page: usize, o: Operation) -> Ruling
     requires { (Sized g (g.pages * g.size)) × (page < g.pages) }
     ensures { Applies m result (λ r. started_on g r page o) }
@@ -69,6 +70,7 @@ pub fn named(g: Geometry, frame: &[u8]) -> (usize, usize)
 }
 
 // 03, 0B.
+#[tactic(auto, using(geometry::proofs::Pages::sized_small))]
 pub fn read_array(g: Geometry, page: usize, start: usize, lead: usize) -> Ruling
     requires { (Sized g (g.pages * g.size)) × (page < g.pages) × (start < g.size) }
     ensures { result ≡ ruled Change.Nothing (Action.ReadArray (page_start g page + start)) lead }
@@ -78,6 +80,7 @@ pub fn read_array(g: Geometry, page: usize, start: usize, lead: usize) -> Ruling
 }
 
 // 82/85: sealed, no buffer is written either.
+#[tactic(auto, using(geometry::proofs::Sectors::sector_served, control::proofs::Bearing::seals_of_lem), unfolding(control::specs::Control::programmed_through, control::specs::Rulings::applied, control::specs::Rulings::changed))]
 pub fn program_through(
     g: Geometry,
     m: Marks,
@@ -119,6 +122,7 @@ pub fn erase_sector(g: Geometry, m: Marks, page: usize) -> Ruling
 }
 
 // C7 94 80 9A.
+#[tactic(auto, using(control::proofs::Bearing::seals_of_lem), unfolding(control::specs::Rulings::applied, control::specs::Rulings::changed))]
 pub fn erase_chip(g: Geometry, m: Marks) -> Ruling
     requires { Sized g (g.pages * g.size) }
     ensures { Applies m result (λ r. started r (Operation.EraseChip (unsealed_set g r))) }
@@ -129,6 +133,7 @@ pub fn erase_chip(g: Geometry, m: Marks) -> Ruling
 }
 
 // 3D 2A 7F 9A.
+#[tactic(auto, unfolding(control::specs::Control::protect_off, control::specs::Rulings::applied, control::specs::Rulings::changed))]
 pub fn protect_off(m: Marks) -> Ruling
     ensures { Applies m result (λ r. protect_off r) }
 {
@@ -139,6 +144,7 @@ pub fn protect_off(m: Marks) -> Ruling
 }
 
 // 3D 2A 7F CF.
+#[tactic(auto, unfolding(control::specs::Control::protection_erased, control::specs::Rulings::applied, control::specs::Rulings::changed))]
 pub fn erase_protection(m: Marks) -> Ruling
     ensures { Applies m result (λ r. protection_erased r) }
 {
@@ -149,6 +155,7 @@ pub fn erase_protection(m: Marks) -> Ruling
 }
 
 // 3D 2A 7F FC.
+#[tactic(auto, unfolding(control::specs::Control::protection_programmed, control::specs::Control::protection_data, control::specs::Rulings::applied, control::specs::Rulings::changed))]
 pub fn program_protection(m: Marks, frame: &[u8]) -> Ruling
     requires { 4 ≤ length frame.now }
     ensures { (g : Geometry) → Roomed g → Applies m result (λ r. protection_programmed g r frame.now) }
@@ -166,6 +173,7 @@ pub fn program_protection(m: Marks, frame: &[u8]) -> Ruling
 }
 
 // 3D 2A 7F 30: the page is in the last three bytes of the lead.
+#[tactic(auto, unfolding(control::specs::Control::sector_locked, control::specs::Rulings::applied, control::specs::Rulings::changed))]
 pub fn lock_sector(g: Geometry, m: Marks, frame: &[u8]) -> Ruling
     requires { (Sized g (g.pages * g.size)) × (7 ≤ length frame.now) }
     ensures { Applies m result (λ r. sector_locked g r frame.now) }
@@ -176,6 +184,7 @@ pub fn lock_sector(g: Geometry, m: Marks, frame: &[u8]) -> Ruling
 }
 
 // 9B 00 00 00.
+#[tactic(auto, unfolding(control::specs::Control::security_programmed, control::specs::Control::security_data, control::specs::Rulings::applied, control::specs::Rulings::changed))]
 pub fn program_security(m: Marks, frame: &[u8]) -> Ruling
     requires { 4 ≤ length frame.now }
     ensures { Applies m result (λ r. security_programmed r frame.now) }

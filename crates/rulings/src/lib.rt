@@ -15,6 +15,7 @@ use geometry::Geometry;
 use registers::Operation;
 
 // A row of the command table, for a frame that is obeyed.
+#[tactic(auto, using(control::proofs::Steps::has_room, control::proofs::Steps::has_data), unfolding(control::specs::Control::row_decided, control::specs::Rulings::applied, control::specs::Rulings::changed, commands::specs::Room::room, commands::specs::Room::takes))]
 fn row(g: Geometry, m: Marks, frame: &[u8], lead: usize, e: Effect) -> Ruling
     requires { (Sized g (g.pages * g.size)) × (room e ≤ length frame.now) × (takes e ≡ true → 4 ≤ length frame.now) }
     ensures { Applies m result (λ r. row_of g r frame.now lead e) }

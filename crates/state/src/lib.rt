@@ -49,6 +49,7 @@ pub struct Outcome {
 }
 
 // The answer's number in the table.
+#[tactic(auto, unfolding(crate::specs::Answers::number_of))]
 pub fn number(a: Answer) -> u8
     ensures { result ≡ number_of a }
 {
