@@ -68,6 +68,7 @@ pub fn end_busy(c: Chip, array: &mut [u8]) -> Outcome
 }
 
 // The WP pin is moved. Answer 0.
+#[tactic(auto, unfolding(state::specs::Outcomes::pin_outcome, state::specs::Outcomes::pinned_state))]
 pub fn move_pin(c: Chip, high: bool) -> Outcome
     ensures { (xs : List ℕ) → Leaves (pin_outcome high (state_of c xs)) result xs [] }
 {

@@ -16,6 +16,7 @@ use registers::{Operation, Work};
 use state::{Answer, Chip, Outcome};
 
 // What a work on a page does to the array, to the buffer that it uses, and to the compare bit, which it returns.
+#[tactic(auto, using(crate::proofs::Lent::idle))]
 fn work(g: Geometry, w: Work, bit: bool, page: usize, array: &mut [u8], buffer: &mut [u8]) -> bool
     requires { (Sized g (length array.old)) × (page < g.pages) × (length buffer.old ≡ page_room) }
     ensures { (array.new ≡ array_by g page buffer.old array.old w) × (buffer.new ≡ buffer_by g page array.old buffer.old w) × (result ≡ bit_by g page array.old buffer.old bit w) }

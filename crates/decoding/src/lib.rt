@@ -60,6 +60,7 @@ const UNLISTED: Decoded = Decoded {
 };
 
 // Whether the frame begins with the four bytes.
+#[tactic(auto, unfolding(commands::specs::Decode::begins, slices::specs::Lists::same))]
 fn begins_with(frame: &[u8], opening: &[u8; 4]) -> bool
     ensures { result ≡ begins frame.now opening.now }
 {
@@ -82,6 +83,7 @@ fn sequence(frame: &[u8]) -> Decoded
 }
 
 // A row whose lead the frame does not fill is no row.
+#[tactic(auto, unfolding(commands::specs::Decode::complete))]
 fn completed(length: usize, d: Decoded) -> Decoded
     ensures { result ≡ complete length d }
 {
@@ -89,6 +91,7 @@ fn completed(length: usize, d: Decoded) -> Decoded
 }
 
 // A frame's row: its lead and effect.
+#[tactic(auto, unfolding(commands::specs::Decode::decode_of, commands::specs::Decode::opened))]
 pub fn decode(frame: &[u8]) -> Decoded
     ensures { result ≡ decode_of frame.now }
 {

@@ -31,6 +31,7 @@ fn bit(on: bool, value: u8) -> u8
     if on { value } else { 0 }
 }
 
+#[tactic(auto, unfolding(state::specs::Frames::status_of))]
 fn status(g: Geometry, ready: bool, compare: bool, protect: bool) -> u8
     ensures { result ≡ status_of g ready compare protect }
 {
@@ -77,6 +78,7 @@ fn reply_identity(lead: usize, reply: &mut [u8])
 }
 
 // The reply to a frame: made from the chip as it was before the frame. `security`: user and factory bytes.
+#[tactic(auto, unfolding(state::specs::Frames::data_of, control::specs::Names::Names))]
 pub fn respond(
     g: Geometry,
     m: Marks,
@@ -143,6 +145,7 @@ pub fn act(g: Geometry, buffers: &mut [u8], a: Action, bytes: &[u8])
 // ---- a frame
 
 // A frame of 1 to 1,100 bytes, with a reply as long.
+#[tactic(auto, unfolding(state::specs::Outcomes::framed))]
 pub fn is_framed(frame: usize, reply: usize) -> bool
     ensures { result ≡ framed frame reply }
 {

@@ -47,6 +47,7 @@ fn finish(g: Geometry, r: Registers, o: Operation) -> Registers
 }
 
 // The registers after a busy end.
+#[tactic(auto, unfolding(control::specs::Completion::completed))]
 pub fn complete(g: Geometry, r: Registers) -> Registers
     requires { (Sized g (g.pages * g.size)) × (within g r.operation ≡ true) }
     ensures { result ≡ completed g r }
@@ -101,6 +102,7 @@ fn lose_operation(g: Geometry, r: Registers, o: Operation, junk: &[u8]) -> Regis
 }
 
 // The registers after a cut.
+#[tactic(auto, unfolding(control::specs::PowerLoss::lost))]
 pub fn lose(g: Geometry, r: Registers, junk: &[u8]) -> Registers
     requires { (Sized g (g.pages * g.size)) × (within g r.operation ≡ true) × (2 * g.size + 64 ≤ length junk.now) }
     ensures { result ≡ lost g r (reaching g r.operation junk.now) }
