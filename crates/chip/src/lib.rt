@@ -18,7 +18,7 @@ pub fn fresh(factory: [u8; 64], array: &mut [u8]) -> Outcome
         protection: [0u8; 16],
         lockdown: [0u8; 16],
         user: [255u8; 64],
-        factory: factory,
+        factory,
         used: false,
         protect: false,
         wp: true,
@@ -26,35 +26,26 @@ pub fn fresh(factory: [u8; 64], array: &mut [u8]) -> Outcome
         operation: Operation::Idle,
     };
     let chip = Chip {
-        registers: registers,
+        registers,
         buffer1: [0u8; 264],
         buffer2: [0u8; 264],
         compare: false,
     };
-    let p = geometry::part_of(array.len());
-    match p {
+    let answer = match geometry::part_of(array.len()) {
         Some(_) => {
             slices::fill(array, 255);
-            Outcome {
-                answer: Answer::Done,
-                chip: chip,
-            }
+            Answer::Done
         }
-        None => Outcome {
-            answer: Answer::Part,
-            chip: chip,
-        },
-    }
+        None => Answer::Part,
+    };
+    Outcome { answer, chip }
 }
 
 // A frame sent straight to the chip, with its reply in the lent buffer. Answers 0, 1, 2.
 pub fn send(c: Chip, array: &[u8], frame: &[u8], reply: &mut [u8]) -> Outcome
     ensures { Leaves (send_outcome (state_of c array.now) frame.now reply.old) result array.now reply.new }
 {
-    let r = c.registers;
-    let o = r.operation;
-    let p = registers::place(array.len(), o);
-    match p {
+    match registers::place(array.len(), c.registers.operation) {
         Some(g) => frames::send_to(g, c, array, frame, reply),
         None => Outcome {
             answer: Answer::Part,
@@ -67,10 +58,7 @@ pub fn send(c: Chip, array: &[u8], frame: &[u8], reply: &mut [u8]) -> Outcome
 pub fn end_busy(c: Chip, array: &mut [u8]) -> Outcome
     ensures { Leaves (end_outcome (state_of c array.old)) result array.new [] }
 {
-    let r = c.registers;
-    let o = r.operation;
-    let p = registers::place(array.len(), o);
-    match p {
+    match registers::place(array.len(), c.registers.operation) {
         Some(g) => completion::end_in(g, c, array),
         None => Outcome {
             answer: Answer::Part,
@@ -80,14 +68,13 @@ pub fn end_busy(c: Chip, array: &mut [u8]) -> Outcome
 }
 
 // The WP pin is moved. Answer 0.
+#[tactic(auto, unfolding(state::specs::Outcomes::pin_outcome, state::specs::Outcomes::pinned_state))]
 pub fn move_pin(c: Chip, high: bool) -> Outcome
     ensures { (xs : List ℕ) → Leaves (pin_outcome high (state_of c xs)) result xs [] }
 {
-    let r = c.registers;
-    let n = registers::with_wp(r, high);
     Outcome {
         answer: Answer::Done,
-        chip: state::with_registers(c, n),
+        chip: state::with_registers(c, registers::with_wp(c.registers, high)),
     }
 }
 
@@ -95,10 +82,7 @@ pub fn move_pin(c: Chip, high: bool) -> Outcome
 pub fn cut(c: Chip, array: &mut [u8], junk: &[u8]) -> Outcome
     ensures { Leaves (cut_outcome junk.now (state_of c array.old)) result array.new [] }
 {
-    let r = c.registers;
-    let o = r.operation;
-    let p = registers::place(array.len(), o);
-    match p {
+    match registers::place(array.len(), c.registers.operation) {
         Some(g) => power_loss::cut_in(g, c, array, junk),
         None => Outcome {
             answer: Answer::Part,

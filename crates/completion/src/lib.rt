@@ -16,6 +16,7 @@ use registers::{Operation, Work};
 use state::{Answer, Chip, Outcome};
 
 // What a work on a page does to the array, to the buffer that it uses, and to the compare bit, which it returns.
+#[tactic(auto, using(crate::proofs::Lent::idle))]
 fn work(g: Geometry, w: Work, bit: bool, page: usize, array: &mut [u8], buffer: &mut [u8]) -> bool
     requires { (Sized g (length array.old)) × (page < g.pages) × (length buffer.old ≡ page_room) }
     ensures { (array.new ≡ array_by g page buffer.old array.old w) × (buffer.new ≡ buffer_by g page array.old buffer.old w) × (result ≡ bit_by g page array.old buffer.old bit w) }
@@ -64,18 +65,14 @@ pub fn complete_memory(
     ensures { memory_in array.new buffers.new result ≡ completed_memory g o (memory_in array.old buffers.old bit) }
 {
     let f = registers::facts_of(o);
-    let n = f.names;
-    let page = registers::page_named(n);
-    let u = f.usage;
-    let buffer = registers::buffer_of(u);
-    let w = f.work;
-    if let Work::Erase = w {
+    let page = registers::page_named(f.names);
+    let buffer = registers::buffer_of(f.usage);
+    if let Work::Erase = f.work {
         erase(g, array, o);
         return bit;
     }
     let a = state::buffer_start(buffer);
-    let e = a + 264;
-    work(g, w, bit, page, array, &mut buffers[a..e])
+    work(g, f.work, bit, page, array, &mut buffers[a..a + 264])
 }
 
 // The busy end of a chip by value.
@@ -83,11 +80,9 @@ pub fn end_in(g: Geometry, c: Chip, array: &mut [u8]) -> Outcome
     requires { (Sized g (length array.old)) × (within g c.registers.operation ≡ true) }
     ensures { Leaves (ended_by (Some g) (state_of c array.old)) result array.new [] }
 {
-    let r = c.registers;
-    let o = r.operation;
     let mut buffers = state::buffers_of(c);
-    let bit = complete_memory(g, c.compare, &mut buffers, array, o);
-    let after = register_ends::complete(g, r);
+    let bit = complete_memory(g, c.compare, &mut buffers, array, c.registers.operation);
+    let after = register_ends::complete(g, c.registers);
     Outcome {
         answer: Answer::Done,
         chip: state::chip_of(after, buffers, bit),

@@ -83,18 +83,16 @@ pub fn marks_of(r: Registers) -> Marks
 {
     let protection = r.protection;
     let lockdown = r.lockdown;
-    let o = r.operation;
-    let seals = Seals {
-        protection: protection,
-        lockdown: lockdown,
-        protect: r.protect,
-        wp: r.wp,
-    };
     Marks {
-        seals: seals,
+        seals: Seals {
+            protection,
+            lockdown,
+            protect: r.protect,
+            wp: r.wp,
+        },
         used: r.used,
         deep: r.deep,
-        usage: usage_of(o),
+        usage: usage_of(r.operation),
     }
 }
 
@@ -113,6 +111,5 @@ pub fn apply(r: Registers, c: Change) -> Registers
 pub fn usage_of(o: Operation) -> Usage
     ensures { result ≡ usage_of o }
 {
-    let f = registers::facts_of(o);
-    f.usage
+    registers::facts_of(o).usage
 }

@@ -8,121 +8,104 @@ ghost use Rattle.commands.specs.Decode.{begins, sequence_in, complete, decode_of
 
 use commands::{Decoded, Effect};
 
-// What opens the rows of four bytes.
-const ERASE_CHIP: [u8; 4] = [0xC7, 0x94, 0x80, 0x9A];
+// A row that opens with four bytes.
+struct Opening {
+    bytes: [u8; 4],
+    lead: usize,
+    effect: Effect,
+}
 
-const ENABLE_PROTECTION: [u8; 4] = [0x3D, 0x2A, 0x7F, 0xA9];
+// The rows that open with four bytes.
+const OPENINGS: [Opening; 7] = [
+    Opening {
+        bytes: [0xC7, 0x94, 0x80, 0x9A],
+        lead: 4,
+        effect: Effect::EraseChip,
+    },
+    Opening {
+        bytes: [0x3D, 0x2A, 0x7F, 0xA9],
+        lead: 4,
+        effect: Effect::ProtectOn,
+    },
+    Opening {
+        bytes: [0x3D, 0x2A, 0x7F, 0x9A],
+        lead: 4,
+        effect: Effect::ProtectOff,
+    },
+    Opening {
+        bytes: [0x3D, 0x2A, 0x7F, 0xCF],
+        lead: 4,
+        effect: Effect::EraseProtection,
+    },
+    Opening {
+        bytes: [0x3D, 0x2A, 0x7F, 0xFC],
+        lead: 4,
+        effect: Effect::ProgramProtection,
+    },
+    Opening {
+        bytes: [0x3D, 0x2A, 0x7F, 0x30],
+        lead: 7,
+        effect: Effect::LockSector,
+    },
+    Opening {
+        bytes: [0x9B, 0x00, 0x00, 0x00],
+        lead: 4,
+        effect: Effect::ProgramSecurity,
+    },
+];
 
-const DISABLE_PROTECTION: [u8; 4] = [0x3D, 0x2A, 0x7F, 0x9A];
-
-const ERASE_PROTECTION: [u8; 4] = [0x3D, 0x2A, 0x7F, 0xCF];
-
-const PROGRAM_PROTECTION: [u8; 4] = [0x3D, 0x2A, 0x7F, 0xFC];
-
-const LOCK_SECTOR: [u8; 4] = [0x3D, 0x2A, 0x7F, 0x30];
-
-const PROGRAM_SECURITY: [u8; 4] = [0x9B, 0x00, 0x00, 0x00];
+const UNLISTED: Decoded = Decoded {
+    lead: 0,
+    effect: Effect::Unlisted,
+};
 
 // Whether the frame begins with the four bytes.
-fn begins_with(frame: &[u8], opening: [u8; 4]) -> bool
-    ensures { result ≡ begins frame.now opening }
+#[tactic(auto, unfolding(commands::specs::Decode::begins, slices::specs::Lists::same))]
+fn begins_with(frame: &[u8], opening: &[u8; 4]) -> bool
+    ensures { result ≡ begins frame.now opening.now }
 {
-    if frame.len() < 4 {
-        return false;
-    }
-    let s = opening;
-    !slices::differs(&frame[..4], &s)
+    4 <= frame.len() && !slices::differs(&frame[..4], opening)
 }
 
 // The row whose four bytes begin the frame.
 fn sequence(frame: &[u8]) -> Decoded
     ensures { result ≡ sequence_in sequences frame.now }
 {
-    if begins_with(frame, ERASE_CHIP) {
-        return Decoded {
-            lead: 4,
-            effect: Effect::EraseChip,
-        };
+    for row in &OPENINGS {
+        if begins_with(frame, &row.bytes) {
+            return Decoded {
+                lead: row.lead,
+                effect: row.effect,
+            };
+        }
     }
-    if begins_with(frame, ENABLE_PROTECTION) {
-        return Decoded {
-            lead: 4,
-            effect: Effect::ProtectOn,
-        };
-    }
-    if begins_with(frame, DISABLE_PROTECTION) {
-        return Decoded {
-            lead: 4,
-            effect: Effect::ProtectOff,
-        };
-    }
-    if begins_with(frame, ERASE_PROTECTION) {
-        return Decoded {
-            lead: 4,
-            effect: Effect::EraseProtection,
-        };
-    }
-    if begins_with(frame, PROGRAM_PROTECTION) {
-        return Decoded {
-            lead: 4,
-            effect: Effect::ProgramProtection,
-        };
-    }
-    if begins_with(frame, LOCK_SECTOR) {
-        return Decoded {
-            lead: 7,
-            effect: Effect::LockSector,
-        };
-    }
-    if begins_with(frame, PROGRAM_SECURITY) {
-        return Decoded {
-            lead: 4,
-            effect: Effect::ProgramSecurity,
-        };
-    }
-    Decoded {
-        lead: 0,
-        effect: Effect::Unlisted,
-    }
+    UNLISTED
 }
 
 // A row whose lead the frame does not fill is no row.
+#[tactic(auto, unfolding(commands::specs::Decode::complete))]
 fn completed(length: usize, d: Decoded) -> Decoded
     ensures { result ≡ complete length d }
 {
-    if d.lead <= length {
-        d
-    } else {
-        Decoded {
-            lead: 0,
-            effect: Effect::Unlisted,
-        }
-    }
+    if d.lead <= length { d } else { UNLISTED }
 }
 
 // A frame's row: its lead and effect.
+#[tactic(auto, unfolding(commands::specs::Decode::decode_of, commands::specs::Decode::opened))]
 pub fn decode(frame: &[u8]) -> Decoded
     ensures { result ≡ decode_of frame.now }
 {
-    if frame.len() == 0 {
-        return Decoded {
-            lead: 0,
-            effect: Effect::Unlisted,
-        };
+    if frame.is_empty() {
+        return UNLISTED;
     }
-    let f = commands::lookup(frame[0]);
-    match f {
-        Some(c) => {
-            let lead = c.1 as usize;
-            let effect = c.2;
-            completed(
-                frame.len(),
-                Decoded {
-                    lead: lead,
-                    effect: effect,
-                },
-            )
-        }
+    match commands::lookup(frame[0]) {
+        Some(c) => completed(
+            frame.len(),
+            Decoded {
+                lead: c.1 as usize,
+                effect: c.2,
+            },
+        ),
         None => completed(frame.len(), sequence(frame)),
     }
 }

@@ -22,12 +22,7 @@ use state::{Answer, Chip, Outcome};
 fn is_free(u: Usage) -> bool
     ensures { result ≡ is_free u }
 {
-    match u {
-        Usage::Free => true,
-        Usage::Uses { buffer: _ } => false,
-        Usage::NoBuffer => false,
-        Usage::Exclusive => false,
-    }
+    matches!(u, Usage::Free)
 }
 
 fn bit(on: bool, value: u8) -> u8
@@ -36,11 +31,11 @@ fn bit(on: bool, value: u8) -> u8
     if on { value } else { 0 }
 }
 
+#[tactic(auto, unfolding(state::specs::Frames::status_of))]
 fn status(g: Geometry, ready: bool, compare: bool, protect: bool) -> u8
     ensures { result ≡ status_of g ready compare protect }
 {
-    let binary = g.binary;
-    bit(ready, 0x80) + bit(compare, 0x40) + 0x24 + bit(protect, 0x02) + bit(binary, 0x01)
+    bit(ready, 0x80) + bit(compare, 0x40) + 0x24 + bit(protect, 0x02) + bit(g.binary, 0x01)
 }
 
 // ---- replies
@@ -57,37 +52,33 @@ fn reply_buffer(
     ensures { reply.new ≡ replied (length reply.old) lead (ring_data g.size start (lent buffer buffers.now)) }
 {
     let a = state::buffer_start(buffer);
-    let e = a + 264;
-    memory::reply_ring(reply, lead, &buffers[a..e], g.size, start);
+    memory::reply_ring(reply, lead, &buffers[a..a + 264], g.size, start);
 }
 
 fn reply_status(g: Geometry, m: Marks, compare: bool, lead: usize, reply: &mut [u8])
     requires { lead ≤ length reply.old }
     ensures { WithMarks m (λ r. reply.new ≡ replied (length reply.old) lead (λ _. status_of g (is_idle r.operation) compare (guarded r))) }
 {
-    let u = m.usage;
-    let seals = m.seals;
-    let value = status(g, is_free(u), compare, registers::is_guarded(seals));
+    let value = status(g, is_free(m.usage), compare, registers::is_guarded(m.seals));
     memory::reply_repeated(reply, lead, value);
 }
 
-fn reply_register(g: Geometry, bytes: [u8; 16], lead: usize, reply: &mut [u8])
+fn reply_register(g: Geometry, bytes: &[u8; 16], lead: usize, reply: &mut [u8])
     requires { (Roomed g) × (lead ≤ length reply.old) }
-    ensures { reply.new ≡ replied (length reply.old) lead (once_data (register_of g bytes)) }
+    ensures { reply.new ≡ replied (length reply.old) lead (once_data (register_of g bytes.now)) }
 {
-    let b = bytes;
-    memory::reply_once(reply, lead, &b);
+    memory::reply_once(reply, lead, bytes);
 }
 
 fn reply_identity(lead: usize, reply: &mut [u8])
     requires { lead ≤ length reply.old }
     ensures { reply.new ≡ replied (length reply.old) lead (once_data identity) }
 {
-    let b = [0x1F, 0x25, 0x00, 0x00];
-    memory::reply_once(reply, lead, &b);
+    memory::reply_once(reply, lead, &[0x1F, 0x25, 0x00, 0x00]);
 }
 
 // The reply to a frame: made from the chip as it was before the frame. `security`: user and factory bytes.
+#[tactic(auto, unfolding(state::specs::Frames::data_of, control::specs::Names::Names))]
 pub fn respond(
     g: Geometry,
     m: Marks,
@@ -102,28 +93,18 @@ pub fn respond(
     requires { (Sized g (length array.now)) × (Names g a) × (lead ≤ length reply.old) × (length buffers.now ≡ 2 * page_room) }
     ensures { WithMarks m (λ r. security.now ≡ r.user ++ r.factory → reply.new ≡ replied (length reply.old) lead (data_of g r (memory_in array.now buffers.now compare) a)) }
 {
-    let seals = m.seals;
     match a {
-        Action::Silent => memory::reply_nothing(reply, lead),
+        Action::Silent
+        | Action::WriteBuffer { .. }
+        | Action::LoadProtection { .. }
+        | Action::LoadSecurity { .. } => memory::reply_nothing(reply, lead),
         Action::ReadPage { page, start } => memory::reply_page(g, reply, lead, array, page, start),
         Action::ReadArray { start } => memory::reply_ring(reply, lead, array, array.len(), start),
         Action::ReadBuffer { buffer, start } => reply_buffer(
             g, buffers, lead, buffer, start, reply,
         ),
-        Action::WriteBuffer {
-            buffer: _,
-            start: _,
-        } => memory::reply_nothing(reply, lead),
-        Action::LoadProtection { data: _ } => memory::reply_nothing(reply, lead),
-        Action::LoadSecurity { data: _ } => memory::reply_nothing(reply, lead),
-        Action::ReadProtection => {
-            let bytes = seals.protection;
-            reply_register(g, bytes, lead, reply)
-        }
-        Action::ReadLockdown => {
-            let bytes = seals.lockdown;
-            reply_register(g, bytes, lead, reply)
-        }
+        Action::ReadProtection => reply_register(g, &m.seals.protection, lead, reply),
+        Action::ReadLockdown => reply_register(g, &m.seals.lockdown, lead, reply),
         Action::ReadSecurity => memory::reply_once(reply, lead, security),
         Action::ReadStatus => reply_status(g, m, compare, lead, reply),
         Action::ReadId => reply_identity(lead, reply),
@@ -137,8 +118,7 @@ fn write_buffer(g: Geometry, buffers: &mut [u8], buffer: Buffer, start: usize, b
     ensures { buffers.new ≡ splice (buffer_start buffer) (ring_write g.size start bytes.now (lent buffer buffers.old)) buffers.old }
 {
     let a = state::buffer_start(buffer);
-    let e = a + 264;
-    slices::ring_write(&mut buffers[a..e], g.size, start, bytes);
+    slices::ring_write(&mut buffers[a..a + 264], g.size, start, bytes);
 }
 
 // The first bytes of buffer 1 become `bytes`.
@@ -146,8 +126,7 @@ fn lay(buffers: &mut [u8], bytes: &[u8])
     requires { length bytes.now ≤ length buffers.old }
     ensures { buffers.new ≡ over bytes.now buffers.old }
 {
-    let n = bytes.len();
-    slices::copy(&mut buffers[..n], bytes);
+    slices::copy(&mut buffers[..bytes.len()], bytes);
 }
 
 // What a frame writes into a buffer; `bytes`: its data.
@@ -157,14 +136,8 @@ pub fn act(g: Geometry, buffers: &mut [u8], a: Action, bytes: &[u8])
 {
     match a {
         Action::WriteBuffer { buffer, start } => write_buffer(g, buffers, buffer, start, bytes),
-        Action::LoadProtection { data } => {
-            let laid = registers::unpacked16(data);
-            lay(buffers, &laid)
-        }
-        Action::LoadSecurity { data } => {
-            let laid = registers::unpacked64(data);
-            lay(buffers, &laid)
-        }
+        Action::LoadProtection { data } => lay(buffers, &registers::unpacked16(data)),
+        Action::LoadSecurity { data } => lay(buffers, &registers::unpacked64(data)),
         _ => {}
     }
 }
@@ -172,16 +145,11 @@ pub fn act(g: Geometry, buffers: &mut [u8], a: Action, bytes: &[u8])
 // ---- a frame
 
 // A frame of 1 to 1,100 bytes, with a reply as long.
+#[tactic(auto, unfolding(state::specs::Outcomes::framed))]
 pub fn is_framed(frame: usize, reply: usize) -> bool
     ensures { result ≡ framed frame reply }
 {
-    if frame < 1 {
-        return false;
-    }
-    if 1100 < frame {
-        return false;
-    }
-    frame == reply
+    (1..=1100).contains(&frame) && frame == reply
 }
 
 // The frame sent to a chip by value.
@@ -195,17 +163,15 @@ pub fn send_to(g: Geometry, c: Chip, array: &[u8], frame: &[u8], reply: &mut [u8
             chip: c,
         };
     }
-    let r = c.registers;
-    let m = control::marks_of(r);
+    let m = control::marks_of(c.registers);
     let d = rulings::control_frame(g, m, frame);
-    let a = d.action;
-    let lead = d.lead;
-    let security = state::security_of(r);
+    let security = state::security_of(c.registers);
     let mut buffers = state::buffers_of(c);
-    respond(g, m, c.compare, &security, &buffers, array, a, lead, reply);
-    act(g, &mut buffers, a, &frame[lead..]);
-    let change = d.change;
-    let after = control::apply(r, change);
+    respond(
+        g, m, c.compare, &security, &buffers, array, d.action, d.lead, reply,
+    );
+    act(g, &mut buffers, d.action, &frame[d.lead..]);
+    let after = control::apply(c.registers, d.change);
     Outcome {
         answer: Answer::Done,
         chip: state::chip_of(after, buffers, c.compare),

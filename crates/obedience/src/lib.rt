@@ -3,19 +3,19 @@
 #![tactic(auto)]
 
 ghost use Rattle.std.specs.Prelude.{◌≡◌, true};
-ghost use Rattle.control.specs.Obeyed.{class_of, same_buffer, allowed, is_wake, obeyed};
+ghost use Rattle.control.specs.Obeyed.{class_of, allowed, is_wake, obeyed};
 ghost use Rattle.control.specs.Rulings.{WithMarks};
 
-use commands::{Buffer, Effect};
+use commands::Effect;
 use control::{Class, Marks};
 use registers::Usage;
 
+#[tactic(auto, unfolding(control::specs::Obeyed::class_of))]
 fn class_of(e: Effect) -> Class
     ensures { result ≡ class_of e }
 {
     match e {
-        Effect::ReadBuffer(buffer) => Class::OfBuffer { buffer: buffer },
-        Effect::WriteBuffer(buffer) => Class::OfBuffer { buffer: buffer },
+        Effect::ReadBuffer(buffer) | Effect::WriteBuffer(buffer) => Class::OfBuffer { buffer },
         Effect::ReadStatus => Class::Status,
         Effect::ReadId => Class::Id,
         Effect::Resume => Class::Wake,
@@ -23,71 +23,35 @@ fn class_of(e: Effect) -> Class
     }
 }
 
-fn is_same(a: Buffer, b: Buffer) -> bool
-    ensures { result ≡ same_buffer a b }
-{
-    match a {
-        Buffer::One => match b {
-            Buffer::One => true,
-            Buffer::Two => false,
-        },
-        Buffer::Two => match b {
-            Buffer::One => false,
-            Buffer::Two => true,
-        },
-    }
-}
-
+#[tactic(auto, unfolding(control::specs::Obeyed::allowed))]
 fn is_allowed(u: Usage, c: Class) -> bool
     ensures { result ≡ allowed u c }
 {
     match u {
         Usage::Free => true,
-        Usage::NoBuffer => match c {
-            Class::Status => true,
-            Class::Id => true,
-            Class::Wake => false,
-            Class::OfBuffer { buffer: _ } => true,
-            Class::Other => false,
-        },
+        Usage::NoBuffer => matches!(c, Class::Status | Class::Id | Class::OfBuffer { .. }),
         Usage::Uses { buffer } => match c {
-            Class::Status => true,
-            Class::Id => true,
-            Class::Wake => false,
-            Class::OfBuffer { buffer: other } => !is_same(buffer, other),
-            Class::Other => false,
+            Class::Status | Class::Id => true,
+            Class::OfBuffer { buffer: other } => buffer != other,
+            Class::Wake | Class::Other => false,
         },
-        Usage::Exclusive => match c {
-            Class::Status => true,
-            Class::Id => false,
-            Class::Wake => false,
-            Class::OfBuffer { buffer: _ } => false,
-            Class::Other => false,
-        },
+        Usage::Exclusive => matches!(c, Class::Status),
     }
 }
 
 fn is_wake(c: Class) -> bool
     ensures { result ≡ is_wake c }
 {
-    match c {
-        Class::Status => false,
-        Class::Id => false,
-        Class::Wake => true,
-        Class::OfBuffer { buffer: _ } => false,
-        Class::Other => false,
-    }
+    matches!(c, Class::Wake)
 }
 
+#[tactic(auto, unfolding(control::specs::Obeyed::obeyed))]
 pub fn is_obeyed(m: Marks, e: Effect) -> bool
     ensures { WithMarks m (λ r. result ≡ obeyed r e) }
 {
     let c = class_of(e);
-    if m.deep {
-        if !is_wake(c) {
-            return false;
-        }
+    if m.deep && !is_wake(c) {
+        return false;
     }
-    let u = m.usage;
-    is_allowed(u, c)
+    is_allowed(m.usage, c)
 }

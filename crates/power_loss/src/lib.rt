@@ -28,15 +28,16 @@ fn spoil_buffers(g: Geometry, c: Chip, junk: &[u8]) -> Chip
     requires { (g.size ≤ page_room) × (2 * g.size ≤ length junk.now) }
     ensures { result ≡ record { registers = c.registers; buffer1 = junk_buffer g junk.now 0 c.buffer1; buffer2 = junk_buffer g junk.now g.size c.buffer2; compare = false } }
 {
-    let mut b1 = c.buffer1;
-    memory::spoil_buffer(g, &mut b1, junk, 0);
-    let mut b2 = c.buffer2;
-    memory::spoil_buffer(g, &mut b2, junk, g.size);
-    let mut n = c;
-    n.buffer1 = b1;
-    n.buffer2 = b2;
-    n.compare = false;
-    n
+    let mut buffer1 = c.buffer1;
+    memory::spoil_buffer(g, &mut buffer1, junk, 0);
+    let mut buffer2 = c.buffer2;
+    memory::spoil_buffer(g, &mut buffer2, junk, g.size);
+    Chip {
+        buffer1,
+        buffer2,
+        compare: false,
+        ..c
+    }
 }
 
 pub fn cut_in(g: Geometry, c: Chip, array: &mut [u8], junk: &[u8]) -> Outcome
@@ -49,11 +50,9 @@ pub fn cut_in(g: Geometry, c: Chip, array: &mut [u8], junk: &[u8]) -> Outcome
             chip: c,
         };
     }
-    let r = c.registers;
-    let o = r.operation;
-    spoil_array(g, array, junk, o);
+    spoil_array(g, array, junk, c.registers.operation);
     let n = spoil_buffers(g, c, junk);
-    let after = register_ends::lose(g, r, junk);
+    let after = register_ends::lose(g, c.registers, junk);
     Outcome {
         answer: Answer::Done,
         chip: state::with_registers(n, after),

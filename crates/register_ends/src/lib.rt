@@ -29,8 +29,7 @@ fn lock(r: Registers, sector: usize) -> Registers
     requires { sector < register_room + 1 }
     ensures { (g : Geometry) → Roomed g → result ≡ with_lockdown r (locked_bytes g r.lockdown sector) }
 {
-    let lockdown = r.lockdown;
-    registers::with_lockdown(r, registers::locked_bytes(lockdown, sector))
+    registers::with_lockdown(r, registers::locked_bytes(r.lockdown, sector))
 }
 
 // What the operation does to the registers as it ends.
@@ -38,8 +37,7 @@ fn finish(g: Geometry, r: Registers, o: Operation) -> Registers
     requires { (Sized g (g.pages * g.size)) × (within g o ≡ true) }
     ensures { result ≡ completed_by g o r }
 {
-    let u = registers::update_of(o);
-    match u {
+    match registers::update_of(o) {
         Update::Keep => r,
         Update::FillProtection => registers::with_protection(r, [255u8; 16]),
         Update::MaskProtection { data } => finish_protection(r, data),
@@ -49,12 +47,12 @@ fn finish(g: Geometry, r: Registers, o: Operation) -> Registers
 }
 
 // The registers after a busy end.
+#[tactic(auto, unfolding(control::specs::Completion::completed))]
 pub fn complete(g: Geometry, r: Registers) -> Registers
     requires { (Sized g (g.pages * g.size)) × (within g r.operation ≡ true) }
     ensures { result ≡ completed g r }
 {
-    let o = r.operation;
-    registers::with_operation(finish(g, r, o), Operation::Idle)
+    registers::with_operation(finish(g, r, r.operation), Operation::Idle)
 }
 
 // A cut during CF or FC: protection becomes junk.
@@ -64,8 +62,7 @@ fn lose_protection(g: Geometry, r: Registers, junk: &[u8]) -> Registers
 {
     let mut bytes = r.protection;
     let a = 2 * g.size;
-    let e = a + g.register;
-    slices::copy(&mut bytes, &junk[a..e]);
+    slices::copy(&mut bytes, &junk[a..a + g.register]);
     registers::with_protection(r, bytes)
 }
 
@@ -76,8 +73,7 @@ fn lose_security(g: Geometry, r: Registers, junk: &[u8]) -> Registers
 {
     let mut bytes = r.user;
     let a = 2 * g.size;
-    let e = a + 64;
-    slices::copy(&mut bytes, &junk[a..e]);
+    slices::copy(&mut bytes, &junk[a..a + 64]);
     registers::with_user(r, bytes)
 }
 
@@ -86,8 +82,7 @@ fn lose_lock(g: Geometry, r: Registers, junk: &[u8], sector: usize) -> Registers
     requires { (Roomed g) × (2 * g.size + 64 ≤ length junk.now) × (sector < register_room + 1) }
     ensures { result ≡ spoilt g (Update.Lock sector) (reached g (Update.Lock sector) (after_buffers g junk.now)) r }
 {
-    let first = 2 * g.size;
-    if 128 <= junk[first] {
+    if 128 <= junk[2 * g.size] {
         return lock(r, sector);
     }
     r
@@ -98,21 +93,19 @@ fn lose_operation(g: Geometry, r: Registers, o: Operation, junk: &[u8]) -> Regis
     requires { (Sized g (g.pages * g.size)) × (within g o ≡ true) × (2 * g.size + 64 ≤ length junk.now) }
     ensures { result ≡ lost_by g o (reaching g o junk.now) r }
 {
-    let u = registers::update_of(o);
-    match u {
+    match registers::update_of(o) {
         Update::Keep => r,
-        Update::FillProtection => lose_protection(g, r, junk),
-        Update::MaskProtection { data: _ } => lose_protection(g, r, junk),
+        Update::FillProtection | Update::MaskProtection { .. } => lose_protection(g, r, junk),
         Update::Lock { sector } => lose_lock(g, r, junk, sector),
-        Update::WriteUser { data: _ } => lose_security(g, r, junk),
+        Update::WriteUser { .. } => lose_security(g, r, junk),
     }
 }
 
 // The registers after a cut.
+#[tactic(auto, unfolding(control::specs::PowerLoss::lost))]
 pub fn lose(g: Geometry, r: Registers, junk: &[u8]) -> Registers
     requires { (Sized g (g.pages * g.size)) × (within g r.operation ≡ true) × (2 * g.size + 64 ≤ length junk.now) }
     ensures { result ≡ lost g r (reaching g r.operation junk.now) }
 {
-    let o = r.operation;
-    registers::restart(lose_operation(g, r, o, junk))
+    registers::restart(lose_operation(g, r, r.operation, junk))
 }

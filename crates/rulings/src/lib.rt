@@ -12,27 +12,35 @@ ghost use Rattle.control.specs.Rulings.{Applies};
 use commands::Effect;
 use control::{Action, Change, Marks, Ruling};
 use geometry::Geometry;
+use registers::Operation;
 
 // A row of the command table, for a frame that is obeyed.
+#[tactic(auto, using(control::proofs::Steps::has_room, control::proofs::Steps::has_data), unfolding(control::specs::Control::row_decided, control::specs::Rulings::applied, control::specs::Rulings::changed, commands::specs::Room::room, commands::specs::Room::takes))]
 fn row(g: Geometry, m: Marks, frame: &[u8], lead: usize, e: Effect) -> Ruling
     requires { (Sized g (g.pages * g.size)) × (room e ≤ length frame.now) × (takes e ≡ true → 4 ≤ length frame.now) }
     ensures { Applies m result (λ r. row_of g r frame.now lead e) }
 {
+    let (page, start) = rows::named(g, frame);
     match e {
-        Effect::ReadPage => rows::read_page(g, m, frame, lead),
-        Effect::ReadArray => rows::read_array(g, m, frame, lead),
-        Effect::ReadBuffer(buffer) => rows::read_buffer(g, m, frame, lead, buffer),
-        Effect::WriteBuffer(buffer) => rows::write_buffer(g, m, frame, lead, buffer),
-        Effect::Program(buffer) => rows::program(g, m, frame, lead, buffer),
-        Effect::ProgramOver(buffer) => rows::program_over(g, m, frame, lead, buffer),
-        Effect::ProgramThrough(buffer) => rows::program_through(g, m, frame, lead, buffer),
-        Effect::ErasePage => rows::erase_page(g, m, frame, lead),
-        Effect::EraseBlock => rows::erase_block(g, m, frame, lead),
-        Effect::EraseSector => rows::erase_sector(g, m, frame, lead),
-        Effect::EraseChip => rows::erase_chip(g, m, frame, lead),
-        Effect::Transfer(buffer) => rows::transfer(g, m, frame, lead, buffer),
-        Effect::Compare(buffer) => rows::compare(g, m, frame, lead, buffer),
-        Effect::Rewrite(buffer) => rows::rewrite(g, m, frame, lead, buffer),
+        Effect::ReadPage => rows::tell(Action::ReadPage { page, start }, lead),
+        Effect::ReadArray => rows::read_array(g, page, start, lead),
+        Effect::ReadBuffer(buffer) => rows::tell(Action::ReadBuffer { buffer, start }, lead),
+        Effect::WriteBuffer(buffer) => rows::tell(Action::WriteBuffer { buffer, start }, lead),
+        Effect::Program(buffer) => rows::start_on(g, m, page, Operation::Program { buffer, page }),
+        Effect::ProgramOver(buffer) => rows::start_on(
+            g,
+            m,
+            page,
+            Operation::ProgramOver { buffer, page },
+        ),
+        Effect::ProgramThrough(buffer) => rows::program_through(g, m, page, start, lead, buffer),
+        Effect::ErasePage => rows::start_on(g, m, page, Operation::ErasePage { page }),
+        Effect::EraseBlock => rows::erase_block(g, m, page),
+        Effect::EraseSector => rows::erase_sector(g, m, page),
+        Effect::EraseChip => rows::erase_chip(g, m),
+        Effect::Transfer(buffer) => rows::start(Operation::Transfer { buffer, page }),
+        Effect::Compare(buffer) => rows::start(Operation::Compare { buffer, page }),
+        Effect::Rewrite(buffer) => rows::start_on(g, m, page, Operation::Rewrite { buffer, page }),
         Effect::ProtectOn => rows::rule(Change::Protect { on: true }, Action::Silent, 0),
         Effect::ProtectOff => rows::protect_off(m),
         Effect::EraseProtection => rows::erase_protection(m),
@@ -56,9 +64,8 @@ pub fn control_frame(g: Geometry, m: Marks, frame: &[u8]) -> Ruling
     ensures { Applies m result (λ r. control g r frame.now) }
 {
     let d = decoding::decode(frame);
-    let e = d.effect;
-    if obedience::is_obeyed(m, e) {
-        return row(g, m, frame, d.lead, e);
+    if obedience::is_obeyed(m, d.effect) {
+        return row(g, m, frame, d.lead, d.effect);
     }
     rows::ignore()
 }

@@ -2,12 +2,11 @@
 -- Assumes nothing.
 use mathlib.Core.Path.{◌≡◌, sym, ap, subst, subst⁻¹, ◌∙◌}
 use mathlib.Core.Bool.{Bool, true}
-use mathlib.Core.List.{List, ◌++◌, append-nil}
+use mathlib.Core.List.{List, ◌++◌}
 use Prim.Native.Nat.{ℕ, ◌+◌, ◌-◌, ◌*◌, ◌≤◌, ◌<◌}
 use native.Mathlib.Nat.{mul-le-mul_right}
 use native.Mathlib.Omega.{arith}
-use lib.ListN.{length, take, drop, length-append, drop_of_length-le}
-use lib.Seq.{take_at, drop_at, length-take-le}
+use lib.ListN.{length, take, drop}
 use Rattle.slices.specs.Lists.{over}
 use Rattle.slices.proofs.Laws.{splice-zero, head_spliced, tail_part}
 use Rattle.geometry.specs.declared.Geometry.{Geometry}
@@ -107,19 +106,3 @@ module _ (g : Geometry) (r : Registers) (f : List ℕ) (d : Ruling) (e : applied
 -- ---- an array has room for any register
 pub sized_room : (g : Geometry) (n : ℕ) → Sized g n → 64 ≤ n
 sized_room g n s = let h : 8 * g.size ≤ g.pages * g.size = mul-le-mul_right g.size s.blocks in omega (arith, s.some, s.whole)
-
--- ---- two halves stored one after the other
-module _ (l z u : List ℕ) (k : ℕ) (e : l ≡ u) (h : length u ≡ k) (m : length z ≡ k) where
-  first_half : length l ≡ k
-  first_half = ap length e ∙ h
-
-  pub halves_fit : k + k ≤ length (l ++ z)
-  halves_fit = omega (arith, length-append l z, first_half, m)
-
-  pub second_half : length (take k (drop k (l ++ z))) ≡ k
-  second_half = ap (λ (t : List ℕ). length (take k t)) (drop_at l z k first_half) ∙ length-take-le k z (omega arith)
-
-  pub halves : (y v : List ℕ) → y ≡ v → take k (l ++ z) ++ (y ++ drop k (drop k (l ++ z))) ≡ u ++ v
-  halves y v d =
-      (λ i. take_at l z k first_half i ++ (y ++ (ap (drop k) (drop_at l z k first_half) ∙ drop_of_length-le z {i = k} (omega arith)) i))
-      ∙ (λ i. e i ++ (append-nil y ∙ d) i)

@@ -2,7 +2,7 @@
 // Open to others are the types and the entry point `number`; the rest is internal to this repository. The chip's entry points are in crate chip.
 #![tactic(auto)]
 
-ghost use Rattle.std.specs.Prelude.{◌≡◌, [], ◌++◌, ◌≤◌};
+ghost use Rattle.std.specs.Prelude.{◌≡◌, [], ◌+◌, ◌++◌, ◌≤◌};
 ghost use Rattle.state.specs.Answers.{number_of};
 ghost use Rattle.state.specs.Lent.{buffer_start, memory_in};
 ghost use Rattle.state.specs.Memory.{buffer_size, chip_of, with_registers};
@@ -10,26 +10,26 @@ ghost use Rattle.state.specs.Memory.{buffer_size, chip_of, with_registers};
 use commands::Buffer;
 use registers::Registers;
 
-// The answers, by the words of their table (docs/SPECIFICATION.md, 12); Done is 0, and Device is the word chip.
-#[derive(Clone, Copy)]
+// The answers, by the words and numbers of their table (docs/SPECIFICATION.md, 12); Device is the word chip.
+#[derive(Clone, Copy, PartialEq, Eq)]
 pub enum Answer {
-    Done,
-    Part,
-    Frame,
-    Slot,
-    Limit,
-    Size,
-    Log,
-    Script,
-    Device,
-    Busy,
-    Sealed,
-    Cut,
-    Blank,
-    End,
-    Dates,
-    Term,
-    Miscompare,
+    Done = 0,
+    Part = 1,
+    Frame = 2,
+    Slot = 3,
+    Limit = 4,
+    Size = 5,
+    Log = 6,
+    Script = 7,
+    Device = 8,
+    Busy = 9,
+    Sealed = 10,
+    Cut = 11,
+    Blank = 12,
+    End = 13,
+    Dates = 14,
+    Term = 15,
+    Miscompare = 16,
 }
 
 // The chip record: the registers, and of the memory the two buffers and the compare bit.
@@ -49,36 +49,17 @@ pub struct Outcome {
 }
 
 // The answer's number in the table.
+#[tactic(auto, unfolding(crate::specs::Answers::number_of))]
 pub fn number(a: Answer) -> u8
     ensures { result ≡ number_of a }
 {
-    match a {
-        Answer::Done => 0,
-        Answer::Part => 1,
-        Answer::Frame => 2,
-        Answer::Slot => 3,
-        Answer::Limit => 4,
-        Answer::Size => 5,
-        Answer::Log => 6,
-        Answer::Script => 7,
-        Answer::Device => 8,
-        Answer::Busy => 9,
-        Answer::Sealed => 10,
-        Answer::Cut => 11,
-        Answer::Blank => 12,
-        Answer::End => 13,
-        Answer::Dates => 14,
-        Answer::Term => 15,
-        Answer::Miscompare => 16,
-    }
+    a as u8
 }
 
 pub fn with_registers(c: Chip, r: Registers) -> Chip
     ensures { result ≡ with_registers c r }
 {
-    let mut n = c;
-    n.registers = r;
-    n
+    Chip { registers: r, ..c }
 }
 
 // Where a buffer begins in the two of them.
@@ -91,43 +72,44 @@ pub fn buffer_start(b: Buffer) -> usize
     }
 }
 
+// Two runs of N bytes as one of M.
+fn joined<const N: usize, const M: usize>(first: &[u8; N], second: &[u8; N]) -> [u8; M]
+    requires { M ≡ N + N }
+    ensures { result ≡ first.now ++ second.now }
+{
+    let mut bytes = [0u8; M];
+    let both = &mut bytes[..];
+    slices::copy(&mut both[..N], first);
+    slices::copy(&mut both[N..], second);
+    bytes
+}
+
 // Both buffers, to be lent as one.
 pub fn buffers_of(c: Chip) -> [u8; 528]
     ensures { result ≡ c.buffer1 ++ c.buffer2 }
 {
-    let first = c.buffer1;
-    let second = c.buffer2;
-    let mut bytes = [0u8; 528];
-    slices::copy(&mut bytes[..264], &first);
-    slices::copy(&mut bytes[264..], &second);
-    bytes
+    joined(&c.buffer1, &c.buffer2)
 }
 
 // User and factory bytes, to be lent as one.
 pub fn security_of(r: Registers) -> [u8; 128]
     ensures { result ≡ r.user ++ r.factory }
 {
-    let user = r.user;
-    let factory = r.factory;
-    let mut bytes = [0u8; 128];
-    slices::copy(&mut bytes[..64], &user);
-    slices::copy(&mut bytes[64..], &factory);
-    bytes
+    joined(&r.user, &r.factory)
 }
 
 // A chip of its parts.
 pub fn chip_of(r: Registers, buffers: [u8; 528], compare: bool) -> Chip
     ensures { result ≡ chip_of r (memory_in [] buffers compare) }
 {
-    let bytes = buffers;
-    let mut first = [0u8; 264];
-    slices::copy(&mut first, &bytes[..264]);
-    let mut second = [0u8; 264];
-    slices::copy(&mut second, &bytes[264..528]);
+    let mut buffer1 = [0u8; 264];
+    slices::copy(&mut buffer1, &buffers[..264]);
+    let mut buffer2 = [0u8; 264];
+    slices::copy(&mut buffer2, &buffers[264..]);
     Chip {
         registers: r,
-        buffer1: first,
-        buffer2: second,
-        compare: compare,
+        buffer1,
+        buffer2,
+        compare,
     }
 }

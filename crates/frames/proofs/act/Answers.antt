@@ -61,12 +61,12 @@ write_buffer-requires c = (c.requires.0, names_write c.args.g c.args.a _ _ c.in-
 
 pub lay-requires : goal.lay-requires
 lay-requires c =
-    let k : length c.unpacked16-laid.result ≡ 16 = search rules in
+    let k : length c.unpacked16.result ≡ 16 = search rules in
     omega (arith, c.requires.2)
 
 pub lay-requires-in-LoadSecurity : goal.lay-requires-in-LoadSecurity
 lay-requires-in-LoadSecurity c =
-    let k : length c.unpacked64-laid.result ≡ 64 = search rules in
+    let k : length c.unpacked64.result ≡ 64 = search rules in
     omega (arith, c.requires.2)
 
 pub returns-in-WriteBuffer : goal.returns-in-WriteBuffer
@@ -78,7 +78,7 @@ unfolding acted_on buffer_written written
 returns-in-LoadProtection c =
     let d = c.in-LoadProtection.data in
     rw c.in-LoadProtection.is
-    (c.lay.ensures ∙ ap (λ (l : List ℕ). over l c.args.buffers.now) c.unpacked16-laid.ensures
+    (c.lay.ensures ∙ ap (λ (l : List ℕ). over l c.args.buffers.now) c.unpacked16.ensures
     ∙ lent-begun (bytes16 d) c.args.buffers.now (omega (arith, length-bytes16 d)) c.requires.2)
 
 pub returns-in-LoadSecurity : goal.returns-in-LoadSecurity
@@ -86,7 +86,7 @@ unfolding acted_on buffer_written written
 returns-in-LoadSecurity c =
     let d = c.in-LoadSecurity.data in
     rw c.in-LoadSecurity.is
-    (c.lay-in-LoadSecurity.ensures ∙ ap (λ (l : List ℕ). over l c.args.buffers.now) c.unpacked64-laid.ensures
+    (c.lay-in-LoadSecurity.ensures ∙ ap (λ (l : List ℕ). over l c.args.buffers.now) c.unpacked64.ensures
     ∙ lent-begun (bytes64 d) c.args.buffers.now (omega (arith, length-bytes64 d)) c.requires.2)
 
 pub returns-in_default : goal.returns-in_default

@@ -7,14 +7,8 @@ use native.Mathlib.Omega.{arith}
 use lib.ListN.{take, drop}
 use Rattle.slices.specs.Lists.{splice, ring_write}
 use Rattle.geometry.specs.Parts.{page_room}
-use Rattle.slices.proofs.Laws.{run-part, run_length, kept_spliced}
+use Rattle.slices.proofs.Laws.{run-part, kept_spliced}
 use Rattle.frames.proofs.write_buffer.Goals as goal
-
-pub ring_write-requires : goal.ring_write-requires
-ring_write-requires c =
-    let a = c.buffer_start-a.result in
-    let l = run_length a page_room c.args.buffers.now (omega arith) in
-    (c.requires.1, omega arith)
 
 pub returns : goal.returns
 returns c =

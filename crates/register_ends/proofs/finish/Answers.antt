@@ -17,23 +17,23 @@ filled : (n : ℕ) (bytes : List ℕ) → n ≡ register_room → length bytes �
 filled n bytes e l = sym (over-whole (replicate n 255) bytes (length-replicate n 255 ∙ e ∙ sym l) ∙ ap (λ (k : ℕ). replicate k 255) e)
 
 pub lock-requires : goal.lock-requires
-lock-requires c = lock_small c.args.g _ c.in-Lock.sector c.args.o c.requires.0 c.requires.1 c.update_of-u.ensures c.in-Lock.is
+lock-requires c = lock_small c.args.g _ c.in-Lock.sector c.args.o c.requires.0 c.requires.1 c.update_of.ensures c.in-Lock.is
 
 pub returns-in-Keep : goal.returns-in-Keep
-returns-in-Keep c = update-ends c.args.g c.args.o c.args.r c.update_of-u.ensures c.in-Keep.is refl
+returns-in-Keep c = update-ends c.args.g c.args.o c.args.r c.update_of.ensures c.in-Keep.is refl
 
 pub returns-in-FillProtection : goal.returns-in-FillProtection
 returns-in-FillProtection c =
     let r = c.args.r in
     let m : length r.protection ≡ register_room = search rules in
-    update-ends c.args.g c.args.o r c.update_of-u.ensures c.in-FillProtection.is
+    update-ends c.args.g c.args.o r c.update_of.ensures c.in-FillProtection.is
     (c.with_protection.ensures ∙ ap (with_protection r) (filled c.args.g.register r.protection c.requires.0.short m))
 
 pub returns-in-MaskProtection : goal.returns-in-MaskProtection
-returns-in-MaskProtection c = update-ends c.args.g c.args.o c.args.r c.update_of-u.ensures c.in-MaskProtection.is c.finish_protection.ensures
+returns-in-MaskProtection c = update-ends c.args.g c.args.o c.args.r c.update_of.ensures c.in-MaskProtection.is c.finish_protection.ensures
 
 pub returns-in-Lock : goal.returns-in-Lock
-returns-in-Lock c = update-ends c.args.g c.args.o c.args.r c.update_of-u.ensures c.in-Lock.is (c.lock.ensures c.args.g c.requires.0.short)
+returns-in-Lock c = update-ends c.args.g c.args.o c.args.r c.update_of.ensures c.in-Lock.is (c.lock.ensures c.args.g c.requires.0.short)
 
 pub returns-in-WriteUser : goal.returns-in-WriteUser
-returns-in-WriteUser c = update-ends c.args.g c.args.o c.args.r c.update_of-u.ensures c.in-WriteUser.is (c.with_user.ensures ∙ ap (with_user c.args.r) c.unpacked64.ensures)
+returns-in-WriteUser c = update-ends c.args.g c.args.o c.args.r c.update_of.ensures c.in-WriteUser.is (c.with_user.ensures ∙ ap (with_user c.args.r) c.unpacked64.ensures)

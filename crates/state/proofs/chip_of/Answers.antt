@@ -20,13 +20,3 @@ copy-requires c =
     let b = c.args.buffers in
     let l : length b ≡ 2 * buffer_size = search rules in
     sym (length-take-le buffer_size b (omega arith))
-
-pub returns : goal.returns
-returns c =
-    λ i.
-    record {
-      registers = c.args.r;
-      buffer1 = c.copy.ensures i;
-      buffer2 = c.copy-2.ensures i;
-      compare = c.args.compare;
-    }

@@ -1,8 +1,0 @@
--- `rows::erase_sector` meets its contract: the row has the sector of the page that the frame names.
--- Assumes nothing.
-use Rattle.control.specs.Control.{row_decided}
-use Rattle.rows.proofs.erase_sector.Goals as goal
-
-pub returns : goal.returns
-unfolding row_decided
-returns c = λ r e. rw (c.start_on.ensures r e, c.sector_of.ensures, c.page_named-page.ensures.0)
