@@ -1,5 +1,5 @@
 -- `printing::print_frames` meets its contract: after i turns the lines of the first i frames are printed. Assumes nothing.
-use Rattle.std.proofs.Common.{rules, ◌≡◌, ◌+◌, ◌*◌, ℕ, [], ◌∷◌, ◌++◌, length, length-append, refl, sym, ap, arith, ◌∙◌}
+use Rattle.std.proofs.Common.{rules, ◌≡◌, ◌+◌, ℕ, [], ◌∷◌, ◌++◌, length, length-append, refl, sym, ap, arith, ◌∙◌}
 use Rattle.printing.specs.Texts.{frames_text}
 use Rattle.printing.proofs.Laws.{printed_none, printed_more, printed_as, next_frame, last_frame}
 use Rattle.printing.proofs.print_frames.Goals as goal
