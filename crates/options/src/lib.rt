@@ -90,7 +90,7 @@ fn take_word(line: &[u8], c: Command, s: Settings, w: Span) -> Result<Settings, 
     take_option(line, s, w)
 }
 
-// All words from index `at` on.
+// All words from index `at` on. The `while` stays: a word begins where the one before it ends, and an iterator would keep the same `w` by the same `next_word`.
 fn read_words(line: &[u8], c: Command, at: usize) -> Result<Settings, Fault>
     ensures { result ≡ words_of line.now c at }
 {
