@@ -72,7 +72,7 @@ pub struct Decoded {
     pub effect: Effect,
 }
 
-// The row with this opcode, if there is one.
+// The row with this opcode, if there is one. A match, so that no row is looked for one by one.
 #[tactic(auto, unfolding(crate::specs::Decode::lookup_of, crate::specs::Decode::lookup_in, crate::specs::Table::commands))]
 pub fn lookup(opcode: u8) -> Option<Command>
     ensures { result ≡ lookup_of opcode }

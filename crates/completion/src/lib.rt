@@ -40,6 +40,7 @@ fn work(g: Geometry, w: Work, bit: bool, page: usize, array: &mut [u8], buffer: 
 }
 
 // 81, 50, 7C, C7 94 80 9A: what the operation erases becomes FFh.
+#[tactic(auto, using(geometry::proofs::Pages::sized_own, state::proofs::Arms::target_has, state::proofs::Arms::target_run, state::proofs::Arms::target_sectors))]
 fn erase(g: Geometry, array: &mut [u8], o: Operation)
     requires { (Sized g (length array.old)) × (within g o ≡ true) }
     ensures { array.new ≡ in_target (erased g) g o array.old }

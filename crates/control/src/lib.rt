@@ -81,6 +81,7 @@ pub struct Ruling {
 pub fn marks_of(r: Registers) -> Marks
     ensures { result ≡ marks_of r }
 {
+    // Variables, since no proof covers an array that goes from field to field.
     let protection = r.protection;
     let lockdown = r.lockdown;
     Marks {

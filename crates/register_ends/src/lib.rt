@@ -78,6 +78,7 @@ fn lose_security(g: Geometry, r: Registers, junk: &[u8]) -> Registers
 }
 
 // A cut during a lock: the sector locks if the first junk byte after the buffers' is at least 80h.
+#[tactic(auto, using(control::proofs::Steps::lock_cut, control::proofs::Steps::lock_kept))]
 fn lose_lock(g: Geometry, r: Registers, junk: &[u8], sector: usize) -> Registers
     requires { (Roomed g) × (2 * g.size + 64 ≤ length junk.now) × (sector < register_room + 1) }
     ensures { result ≡ spoilt g (Update.Lock sector) (reached g (Update.Lock sector) (after_buffers g junk.now)) r }
