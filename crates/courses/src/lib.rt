@@ -37,7 +37,8 @@ fn next_stage(last: bool) -> Option<Answer>
     if last { Some(Answer::Done) } else { None }
 }
 
-// On to the next step, with what is noted of the sector.
+// On to the next step, with what is noted of the sector. That the place is small stands in the clauses here and below, and is no invariant of
+// Course: a driver's state may be made up, and has any place then.
 #[tactic(auto, using(crate::proofs::Control::goes_on))]
 fn go_on(c: Course, last: bool, limit: usize, listed: bool, guarded: bool) -> Course
     requires { c.place < 1000 }

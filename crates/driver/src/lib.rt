@@ -53,8 +53,11 @@ fn poll_on(g: Geometry, d: Driver) -> bool
     requires { part_of d.array ≡ Some g }
     ensures { result ≡ poll_by (Some g) d }
 {
-    !states::is_over_on(g, d)
-        && turns::poll_count(steps::step_at(d.kind, d.slot, d.course.place)) == 1
+    let over = states::is_over_on(g, d);
+    if over {
+        return false;
+    }
+    turns::poll_count(steps::step_at(d.kind, d.slot, d.course.place)) == 1
 }
 
 // Whether the next frame is a poll: a status frame sent by a wait.

@@ -48,7 +48,7 @@ fn page_start(g: Geometry, page: usize) -> usize
 
 // ---- the page of an 84
 
-// The lowest byte of a number.
+// The lowest byte of a number. Of any number, so to_be_bytes would need a remainder and a cast first, and be no plainer.
 fn low_byte(n: usize) -> u8
     ensures { result ≡ n % 256 }
 {

@@ -1,5 +1,6 @@
 // The record in a slot: how a head is read, by its version; and the verdicts: by a slot's first page, and once a page differs.
 // Internal to this repository: a caller here meets each `requires`; no entry point is in this crate.
+// That pages have room (`Pages`) stands in the clauses here and above, and is no invariant of Geometry: definitions make a Geometry field by field.
 #![tactic(auto)]
 
 ghost use Rattle.std.specs.Prelude.{◌≡◌, ℕ, ◌+◌, ◌≤◌, ◌<◌, cond, ◌||◌, List, length, eqb, ltb};

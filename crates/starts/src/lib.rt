@@ -87,13 +87,13 @@ fn aim_of(d: Detail) -> Aim
 
 // 5: a recipe of n bytes, or a patch of n bytes, beyond the limit, or a get buffer of `lent` bytes under it.
 #[tactic(auto, unfolding(slots::specs::Refusals::is_over, slots::specs::Refusals::is_short))]
-fn is_oversize(g: Geometry, kind: Kind, d: Detail, n: usize, lent: usize) -> bool
+fn is_oversize(g: Geometry, r: Request, n: usize, lent: usize) -> bool
     requires { Pages g }
-    ensures { result ≡ (is_over kind g d n || is_short kind g lent) }
+    ensures { result ≡ (is_over r.kind g r.detail n || is_short r.kind g lent) }
 {
-    match kind {
-        Kind::Put => records::limit_of(g, records::version_of(period_of(d.term))) < n,
-        Kind::Patch => records::ends_beyond(records::limit_of(g, 1), d.place, n),
+    match r.kind {
+        Kind::Put => records::limit_of(g, records::version_of(period_of(r.detail.term))) < n,
+        Kind::Patch => records::ends_beyond(records::limit_of(g, 1), r.detail.place, n),
         Kind::Get => lent < records::limit_of(g, 1),
         Kind::Wipe => false,
     }
@@ -101,25 +101,25 @@ fn is_oversize(g: Geometry, kind: Kind, d: Detail, n: usize, lent: usize) -> boo
 
 // 14: a put's term, or a get's date of today.
 #[tactic(auto, unfolding(slots::specs::Refusals::is_misdated))]
-fn is_misdated(kind: Kind, d: Detail) -> bool
-    ensures { result ≡ is_misdated kind d }
+fn is_misdated(r: Request) -> bool
+    ensures { result ≡ is_misdated r.kind r.detail }
 {
-    match kind {
-        Kind::Put => !dates::is_term(d.term),
-        Kind::Get => !dates::is_date(d.today),
+    match r.kind {
+        Kind::Put => !dates::is_term(r.detail.term),
+        Kind::Get => !dates::is_date(r.detail.today),
         Kind::Patch | Kind::Wipe => false,
     }
 }
 
 // What is met of 5 and 14.
 #[tactic(auto, unfolding(slots::specs::Refusals::flaws_in))]
-fn flaws_in(g: Geometry, kind: Kind, d: Detail, n: usize, lent: usize) -> Flaws
+fn flaws_in(g: Geometry, r: Request, n: usize, lent: usize) -> Flaws
     requires { Pages g }
-    ensures { result ≡ flaws_in kind g d n lent }
+    ensures { result ≡ flaws_in r.kind g r.detail n lent }
 {
     Flaws {
-        size: is_oversize(g, kind, d, n, lent),
-        dates: is_misdated(kind, d),
+        size: is_oversize(g, r, n, lent),
+        dates: is_misdated(r),
     }
 }
 
@@ -150,8 +150,7 @@ fn refusal_on(g: Geometry, r: Request, n: usize, lent: usize) -> Answer
     requires { Pages g }
     ensures { result ≡ start_refusal (Some g) (asking r.kind r.slot r.limit) r.detail n lent }
 {
-    let flaws = flaws_in(g, r.kind, r.detail, n, lent);
-    early_refusal(g, r.kind, r.slot, r.limit, flaws)
+    early_refusal(g, r.kind, r.slot, r.limit, flaws_in(g, r, n, lent))
 }
 
 #[tactic(auto, using(records::proofs::Parts::part_pages), unfolding(worlds::specs::Start::start_refusal))]

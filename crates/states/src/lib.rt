@@ -54,7 +54,8 @@ fn fault(p: Option<Geometry>, d: Driver) -> Answer
     }
 }
 
-// The stage as it counts.
+// The stage as it counts. The part goes beside the state, here and in crates results and driver, with a clause that it is the array's: these public
+// functions ask for it so.
 #[tactic(auto, unfolding(worlds::specs::Step::stage_by, slots::specs::Driver::is_ended))]
 pub fn stage(p: Option<Geometry>, d: Driver) -> Option<Answer>
     requires { p ≡ part_of d.array }

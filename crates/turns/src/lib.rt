@@ -27,7 +27,7 @@ fn opcode_of(c: Command) -> u8
     }
 }
 
-// The first four bytes: opcode and address, highest byte first.
+// The first four bytes: opcode and address, highest byte first. The address is any number, so to_be_bytes would be no plainer.
 #[tactic(auto, using(crate::proofs::Frames::four_set))]
 fn put_address(opcode: u8, n: usize, frame: &mut [u8])
     requires { 4 ≤ length frame.old }

@@ -6,4 +6,4 @@ use Rattle.worlds.proofs.Going.{going-sound}
 use Rattle.driver.proofs.poll_on.Goals as goal
 
 pub step_at-requires : goal.step_at-requires
-step_at-requires c = sound-slot (going-sound c.args.g c.args.d c.requires (sym c.is_over_on.ensures ∙ c.if-not-is_over_on.true))
+step_at-requires c = sound-slot (going-sound c.args.g c.args.d c.requires (sym c.is_over_on-over.ensures ∙ c.if-over.false))
