@@ -30,11 +30,11 @@ went_stopped i block array log out text line e =
     (went_none i.read (place i.reader block array log out text line))
 
 -- a piece is read, and what waits is written
-pub went_by : {n k : ℕ} {x y z : Place} (xs : List ℕ) → length xs ≡ k → Reads xs x y → Reads [] y z → Went n x (n + k) z
-went_by xs e f g =
+pub went_by : {n k m : ℕ} {x y z : Place} (xs : List ℕ) → length xs ≡ k → m ≡ n + k → Reads xs x y → Reads [] y z → Went n x m z
+went_by xs e h f g =
     record {
       input = xs ++ [];
-      counted = omega (arith, e, length-append xs []);
+      counted = omega (arith, e, h, length-append xs []);
       reads = reads_more xs [] f g;
     }
 

@@ -5,8 +5,5 @@ use Rattle.outline.proofs.end_input.Goals as goal
 pub returns-then-i : goal.returns-then-i
 returns-then-i c = closes_unread c.args.i.failed c.if-i.true
 
-pub finish-requires : goal.finish-requires
-finish-requires c = c.requires
-
 pub returns : goal.returns
 returns c = closes_read c.args.i.failed c.if-i.false c.finish.ensures
