@@ -3,11 +3,11 @@
 -- Assumes nothing.
 use Rattle.state.specs.declared.Answer.{Answer}
 use Rattle.std.specs.Prelude.{None, Option, Some}
-use Prim.Native.Nat.{ℕ, ◌+◌, ◌-◌, ◌/◌, ◌%◌, ◌<◌, ◌≤◌}
+use Prim.Native.Nat.{ℕ, ◌+◌, ◌-◌, ◌<◌, ◌≤◌}
 use native.Mathlib.Numerals.{add-one}
 use native.Mathlib.Omega.{arith}
 use mathlib.Core.Path.{◌≡◌, sym, ap, ◌∙◌}
-use mathlib.Core.Bool.{Bool, cond, not, ◌&&◌}
+use mathlib.Core.Bool.{Bool, cond, not}
 use mathlib.Core.List.{List}
 use lib.Dec.{eqb}
 use lib.ListN.{get_or}
@@ -21,7 +21,7 @@ use Rattle.state.specs.declared.Answer.TheVariants.{Done}
 use Rattle.slots.specs.declared.Course.{Course}
 use Rattle.slots.specs.declared.Step.{Step}
 use Rattle.slots.specs.Plans.{is_end}
-use Rattle.slots.specs.Driver.{register_in, heard, moved, marking, noted, course_by, compare_in}
+use Rattle.slots.specs.Driver.{register_in, heard, moved, marking, noted, course_by}
 
 -- on to the next step
 pub goes_on : (c : Course) (limit : ℕ) (s : Option Answer) (last listed guarded : Bool) → s ≡ cond last (Some Done) None → (next : Step) → is_end next ≡ last
@@ -30,9 +30,9 @@ goes_on c limit s last listed guarded h next e =
     λ i. record { place = add-one c.place i; left = limit; stage = (h ∙ ap (λ (b : Bool). cond b (Some Done) None) (sym e)) i; listed = listed; guarded = guarded }
 
 -- the bits of a sector after 0b
-pub set-high : (g : Geometry) (reply : List ℕ) (s : ℕ) → Roomed g → 2 ≤ s → s < register_room + 1 → not (eqb (get_or reply (3 + s) 255) 0) ≡ has_bits g (register_in g reply) s
+pub set_high : (g : Geometry) (reply : List ℕ) (s : ℕ) → Roomed g → 2 ≤ s → s < register_room + 1 → not (eqb (get_or reply (3 + s) 255) 0) ≡ has_bits g (register_in g reply) s
 unfolding has_bits register_in
-set-high g reply s r h l =
+set_high g reply s r h l =
     let k : 4 + (s - 1) ≡ 3 + s = omega arith in
     ap (λ (x : ℕ). not (eqb x 0))
     (sym (bits_high g (tabulate g.register (λ j. get_or reply (4 + j) 255)) s h (omega arith)
@@ -51,8 +51,3 @@ pub by_step : (g : Geometry) {x y : Step} {last : Bool} {r : Course} (c : Course
     → ((next : Step) → is_end next ≡ last → r ≡ course_by y next limit c (heard g y sector reply))
     → (next : Step) → is_end next ≡ last → r ≡ course_by x next limit c (heard g x sector reply)
 by_step g c limit sector reply e h next l = h next l ∙ ap (λ (z : Step). course_by z next limit c (heard g z sector reply)) (sym e)
-
--- the compare bit by a status and what its bit 7 tells
-pub compare_by : (reply : List ℕ) {s : ℕ} {ready : Bool} → s ≡ get_or reply 1 255 → eqb (s / 128 % 2) 1 ≡ ready → ready && eqb (s / 64 % 2) 1 ≡ compare_in reply
-unfolding compare_in
-compare_by reply {s} e f = (λ i. sym f i && eqb (s / 64 % 2) 1) ∙ ap (λ (x : ℕ). eqb (x / 128 % 2) 1 && eqb (x / 64 % 2) 1) e

@@ -16,10 +16,10 @@ use Rattle.slots.specs.declared.Step.{Step}
 use Rattle.slots.specs.Driver.{shape_of, frame_of, is_ended, frame_room}
 use Rattle.slots.proofs.Accepted.{picked}
 use Rattle.slots.proofs.Driven.{other}
-use Rattle.records.proofs.Parts.{part-pages}
+use Rattle.records.proofs.Parts.{part_pages}
 use Rattle.worlds.proofs.Shapes.{frame-length, shape_fits}
 use Rattle.worlds.specs.Turns.{holding_of, step_in}
-use Rattle.worlds.specs.Step.{stage_by, frame_by, frame_in, took_in, staged_in, next_in}
+use Rattle.worlds.specs.Step.{stage_by, frame_by, frame_in}
 
 -- ---- what is written
 
@@ -54,7 +54,7 @@ module _ (d : Driver) (payload staged : List ℕ) where
       go : (b : Bool) → is_ended (stage_by (Some g) d) ≡ b → length (frame_by (Some g) d payload staged) ≤ frame_room
       go true e = omega (arith, ap (λ (l : List ℕ). length l) (ended-frame g e))
       go false e =
-          omega (arith, ap (λ (l : List ℕ). length l) (going-frame g e), frame-length g d.kind (holding_of d payload staged) (step_in g d), shape_fits g (step_in g d) (part-pages d.array g p).most (omega (arith, (part-pages d.array g p).full)))
+          omega (arith, ap (λ (l : List ℕ). length l) (going-frame g e), frame-length g d.kind (holding_of d payload staged) (step_in g d), shape_fits g (step_in g d) (part_pages d.array g p).most (omega (arith, (part_pages d.array g p).full)))
 
   -- the buffer after a frame by the array's part
   pub framed : (xs : List ℕ) {p : Option Geometry} {n : ℕ} {ys : List ℕ} → p ≡ part_of d.array → length (frame_by p d payload staged) ≤ length xs
@@ -67,13 +67,3 @@ module _ (d : Driver) (payload staged : List ℕ) where
         over_front (frame_by p d payload staged) xs w.0 h w.1 ∙ f,
         w.1 ∙ ap (λ (z : List ℕ). over z xs) f,
       )
-
--- the frame after a reply is that of the state and the bytes that were taken in
-pub next-framed : (d : Driver) (payload staged reply frame : List ℕ) {e : Driver} {n : ℕ} {xs ys : List ℕ}
-    → (e ≡ took_in d payload staged reply) × (xs ≡ staged_in d payload staged reply)
-    → (n ≡ length (frame_in e payload xs)) × (take n ys ≡ frame_in e payload xs) × (ys ≡ over (frame_in e payload xs) frame)
-    → (e ≡ took_in d payload staged reply) × (n ≡ length (next_in d payload staged reply)) × (xs ≡ staged_in d payload staged reply)
-    × (ys ≡ over (next_in d payload staged reply) frame)
-unfolding next_in
-next-framed d payload staged reply frame t w =
-    (t.0, w.0 ∙ (λ i. length (frame_in (t.0 i) payload (t.1 i))), t.1, w.2 ∙ (λ i. over (frame_in (t.0 i) payload (t.1 i)) frame))

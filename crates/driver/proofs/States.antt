@@ -1,4 +1,4 @@
--- A reply by the stage as it counts: an ended state stays as it is, one that goes on takes the reply in; and the part is the array's.
+-- A reply by the stage as it counts: an ended state stays as it is, one that goes on takes the reply in.
 -- Assumes nothing.
 use Rattle.state.specs.declared.Answer.{Answer}
 use Rattle.std.specs.Prelude.{Option, Some}
@@ -7,13 +7,12 @@ use mathlib.Core.Path.{◌≡◌, sym, ap, ◌∙◌}
 use mathlib.Core.Bool.{true, false}
 use mathlib.Core.List.{List}
 use Rattle.geometry.specs.declared.Geometry.{Geometry}
-use Rattle.geometry.specs.Parts.{part_of}
 use Rattle.slots.specs.declared.Driver.{Driver}
 use Rattle.slots.specs.Driver.{is_ended}
 use Rattle.slots.proofs.Accepted.{picked}
 use Rattle.slots.proofs.Driven.{other}
 use Rattle.worlds.specs.Turns.{with, data_after, took_on}
-use Rattle.worlds.specs.Step.{stage_by, staged_at, took_by, took_in, staged_by, staged_in}
+use Rattle.worlds.specs.Step.{stage_by, staged_at, took_by, staged_by}
 
 -- ---- a reply by the stage as it counts
 
@@ -32,15 +31,3 @@ module _ (g : Geometry) (d : Driver) (payload staged reply : List ℕ) where
       → (f ≡ took_by (Some g) d payload staged reply) × (ys ≡ staged_by (Some g) d payload staged reply)
   unfolding took_by staged_by
   going_took e h = (h.0 ∙ sym (other (is_ended (stage_by (Some g) d)) _ _ e), h.1 ∙ sym (other (is_ended (stage_by (Some g) d)) _ _ e))
-
--- ---- by the array's part
-
-module _ (d : Driver) {p : Option Geometry} (e : p ≡ part_of d.array) where
-  pub took_in_lem : (payload staged reply : List ℕ) {f : Driver} {ys : List ℕ}
-      → (f ≡ took_by p d payload staged reply) × (ys ≡ staged_by p d payload staged reply)
-      → (f ≡ took_in d payload staged reply) × (ys ≡ staged_in d payload staged reply)
-  unfolding took_in staged_in
-  took_in_lem payload staged reply h = (
-    h.0 ∙ ap (λ (q : Option Geometry). took_by q d payload staged reply) e,
-    h.1 ∙ ap (λ (q : Option Geometry). staged_by q d payload staged reply) e,
-  )

@@ -33,9 +33,7 @@ fn write_on(g: Geometry, d: Driver, payload: &[u8], staged: &[u8], frame: &mut [
     if states::is_over_on(g, d) {
         return 0;
     }
-    let c = d.course;
-    let k = d.kind;
-    let x = steps::step_at(k, d.slot, c.place);
+    let x = steps::step_at(d.kind, d.slot, d.course.place);
     turns::write_step(g, d, x, payload, staged, frame)
 }
 
@@ -43,33 +41,28 @@ fn write_on(g: Geometry, d: Driver, payload: &[u8], staged: &[u8], frame: &mut [
 pub fn write_frame(d: Driver, payload: &[u8], staged: &[u8; 2112], frame: &mut [u8; 272]) -> usize
     ensures { (result ≡ length (frame_in d payload.now staged.now)) × (take result frame.new ≡ frame_in d payload.now staged.now) × (frame.new ≡ over (frame_in d payload.now staged.now) frame.old) }
 {
-    let p = geometry::part_of(d.array);
-    match p {
+    match geometry::part_of(d.array) {
         Some(g) => write_on(g, d, payload, staged, frame),
         None => 0,
     }
 }
 
 // Whether the next frame is a poll, on a known part.
+#[tactic(auto, unfolding(worlds::specs::Step::poll_by))]
 fn poll_on(g: Geometry, d: Driver) -> bool
     requires { part_of d.array ≡ Some g }
     ensures { result ≡ poll_by (Some g) d }
 {
-    let over = states::is_over_on(g, d);
-    if over {
-        return false;
-    }
-    let c = d.course;
-    let k = d.kind;
-    turns::poll_count(steps::step_at(k, d.slot, c.place)) == 1
+    !states::is_over_on(g, d)
+        && turns::poll_count(steps::step_at(d.kind, d.slot, d.course.place)) == 1
 }
 
 // Whether the next frame is a poll: a status frame sent by a wait.
+#[tactic(auto, unfolding(worlds::specs::Step::poll_in, worlds::specs::Step::poll_by))]
 pub fn is_poll(d: Driver) -> bool
     ensures { result ≡ poll_in d }
 {
-    let p = geometry::part_of(d.array);
-    match p {
+    match geometry::part_of(d.array) {
         Some(g) => poll_on(g, d),
         None => false,
     }
@@ -85,12 +78,10 @@ fn take_on(g: Geometry, d: Driver, payload: &[u8], reply: &[u8], staged: &mut [u
     if courses::has_ended(s) {
         return results::with_stage(d, s);
     }
-    let c = d.course;
-    let k = d.kind;
     turns::take_step(
         g,
         d,
-        steps::step_at(k, d.slot, c.place),
+        steps::step_at(d.kind, d.slot, d.course.place),
         payload,
         reply,
         staged,
@@ -98,20 +89,18 @@ fn take_on(g: Geometry, d: Driver, payload: &[u8], reply: &[u8], staged: &mut [u
 }
 
 // The state after a reply; the bytes that a reply to D2 carries go among those read so far.
+#[tactic(auto, unfolding(worlds::specs::Step::took_in, worlds::specs::Step::staged_in, worlds::specs::Step::took_by, worlds::specs::Step::staged_by))]
 pub fn take_in(d: Driver, payload: &[u8], reply: &[u8], staged: &mut [u8; 2112]) -> Driver
     ensures { (result ≡ took_in d payload.now staged.old reply.now) × (staged.new ≡ staged_in d payload.now staged.old reply.now) }
 {
-    let p = geometry::part_of(d.array);
-    match p {
+    match geometry::part_of(d.array) {
         Some(g) => take_on(g, d, payload, reply, staged),
-        None => {
-            let s = states::stage(None, d);
-            results::with_stage(d, s)
-        }
+        None => results::with_stage(d, states::stage(None, d)),
     }
 }
 
 // Given the last reply, the next state and the next frame; a frame of length 0 is the end.
+#[tactic(auto, unfolding(worlds::specs::Step::next_in))]
 pub fn next_frame(
     d: Driver,
     payload: &[u8],
@@ -121,10 +110,7 @@ pub fn next_frame(
 ) -> Next
     ensures { (result.driver ≡ took_in d payload.now staged.old reply.now) × (result.length ≡ length (next_in d payload.now staged.old reply.now)) × (staged.new ≡ staged_in d payload.now staged.old reply.now) × (frame.new ≡ over (next_in d payload.now staged.old reply.now) frame.old) }
 {
-    let e = take_in(d, payload, reply, staged);
-    let n = write_frame(e, payload, staged, frame);
-    Next {
-        driver: e,
-        length: n,
-    }
+    let driver = take_in(d, payload, reply, staged);
+    let length = write_frame(driver, payload, staged, frame);
+    Next { driver, length }
 }

@@ -5,20 +5,21 @@ use native.Mathlib.Nat.{mul-le-mul, mul-zero}
 use native.Mathlib.Omega.{arith}
 use mathlib.Core.Path.{◌≡◌, refl, sym, ap, ◌∙◌}
 use mathlib.Core.Bool.{Bool, true, false, cond}
+use mathlib.Core.Logic.{◌⊎◌, inl, inr}
 use mathlib.Core.List.{List, ◌++◌}
 use lib.Dec.{eqb}
 use mir.Val.{Fits}
 use mir.Syntax.{w64}
-use lib.ListN.{length, get_or, take, drop}
+use lib.ListN.{length, get_or, take, drop, replicate}
 use borrow.Author.Tests.{eq-eqb, ne_eqb}
 use Rattle.geometry.specs.Parts.{slot_room, page_room}
 use Rattle.slices.specs.Lists.{tabulate, splice}
-use Rattle.slices.proofs.Laws.{length-tabulate, get_or-tabulate, tabulate-get_or, tabulate-same, tabulate_append, tabulate-part, length-splice, spliced, splice-part, run_length, run-part}
+use Rattle.slices.proofs.Laws.{tabulate_const, length-tabulate, get_or-tabulate, tabulate-get_or, tabulate-same, tabulate_append, tabulate-part, length-splice, spliced, splice-part, run_length, run-part}
 use Rattle.geometry.specs.declared.Geometry.{Geometry}
 use Rattle.slots.specs.declared.Aim.{Aim}
 use Rattle.slots.specs.declared.Period.{Period}
 use Rattle.slots.specs.declared.Kind.{Kind}
-use Rattle.slots.specs.declared.Kind.TheVariants.{Patch}
+use Rattle.slots.specs.declared.Kind.TheVariants.{Patch, Get, Wipe}
 use Rattle.slots.specs.declared.Verdict.{Verdict}
 use Rattle.slots.specs.Records.{head_size, version_of, head_of, version_in, changed, image, patched}
 use Rattle.slots.specs.Driver.{Holding, stored_by, judged, read_in}
@@ -48,6 +49,14 @@ page_apart size (suc page) h l = omega (arith, page_least size page h)
 page_zero : (size page : ℕ) → 64 ≤ size → size * page ≡ 0 → page ≡ 0
 page_zero size zero h e = refl
 page_zero size (suc page) h e = absurd (omega (arith, page_least size page h))
+
+-- ---- a get and a wipe
+
+-- they load zeros
+pub zeros : {k : Kind} {n size : ℕ} (h : Holding) (start : ℕ) → (k ≡ Get) ⊎ (k ≡ Wipe) → n ≡ size → replicate n 0 ≡ tabulate size (λ i. stored_by k h (start + i))
+unfolding stored_by
+zeros {n = n} h start (inl e) l = sym (tabulate_const n 0) ∙ (λ i. tabulate (l i) (λ j. stored_by (sym e i) h (start + j)))
+zeros {n = n} h start (inr e) l = sym (tabulate_const n 0) ∙ (λ i. tabulate (l i) (λ j. stored_by (sym e i) h (start + j)))
 
 -- ---- a put
 

@@ -10,7 +10,7 @@ ghost use Rattle.slots.specs.Driver.{stored_by, read_in};
 ghost use Rattle.records.specs.Held.{held, Pages};
 
 use geometry::Geometry;
-use slots::{Aim, Kind, Period, Verdict};
+use slots::{Driver, Kind, Period, Verdict};
 
 // ---- leaves
 
@@ -23,8 +23,7 @@ fn pad_from(part: &mut [u8], source: &[u8], from: usize, other: u8)
         return;
     }
     let n = numbers::lesser(source.len() - from, part.len());
-    let e = from + n;
-    slices::copy(&mut part[..n], &source[from..e]);
+    slices::copy(&mut part[..n], &source[from..from + n]);
 }
 
 // `part` becomes the bytes of `source` from index `from` on, and `other` past its end. Mostly the bytes reach.
@@ -32,21 +31,11 @@ fn copy_from(part: &mut [u8], source: &[u8], from: usize, other: u8)
     ensures { part.new ≡ tabulate (length part.old) (λ i. get_or source.now (from + i) other) }
 {
     let n = part.len();
-    if from <= source.len() {
-        if n <= source.len() - from {
-            let e = from + n;
-            slices::copy(part, &source[from..e]);
-            return;
-        }
+    if from <= source.len() && n <= source.len() - from {
+        slices::copy(part, &source[from..from + n]);
+        return;
     }
     pad_from(part, source, from, other);
-}
-
-// How much a exceeds b; 0 where it does not.
-fn excess(a: usize, b: usize) -> usize
-    ensures { result ≡ a - b }
-{
-    if a <= b { 0 } else { a - b }
 }
 
 // Where a page of the part begins among its slot's bytes.
@@ -67,6 +56,7 @@ fn low_byte(n: usize) -> u8
 }
 
 // The head of a recipe of n bytes, at the beginning of the room for the longest head.
+#[tactic(auto, unfolding(slots::specs::Records::head_size, slots::specs::Records::version_of, slots::specs::Records::day_bytes, slots::specs::Records::period_bytes))]
 fn head_bytes(period: Period, n: usize) -> [u8; 11]
     ensures { take (head_size (version_of period)) result ≡ head_of period n }
 {
@@ -74,10 +64,7 @@ fn head_bytes(period: Period, n: usize) -> [u8; 11]
     let b = low_byte(n);
     match period {
         Period::Always => [1, a, b, 0, 0, 0, 0, 0, 0, 0, 0],
-        Period::Days {
-            first: first,
-            last: last,
-        } => [
+        Period::Days { first, last } => [
             2,
             a,
             b,
@@ -117,8 +104,8 @@ fn lay_patch(head: usize, place: usize, bytes: &[u8], start: usize, part: &mut [
         return;
     }
     let first = place + head;
-    let to = excess(first, start);
-    let from = excess(start, first);
+    let to = first.saturating_sub(start);
+    let from = start.saturating_sub(first);
     if part.len() <= to {
         return;
     }
@@ -126,65 +113,52 @@ fn lay_patch(head: usize, place: usize, bytes: &[u8], start: usize, part: &mut [
         return;
     }
     let n = numbers::lesser(part.len() - to, bytes.len() - from);
-    let e = to + n;
-    let f = from + n;
-    slices::copy(&mut part[to..e], &bytes[from..f]);
+    slices::copy(&mut part[to..to + n], &bytes[from..from + n]);
 }
 
 // Whether a patch changes what it has read, by the verdict so far.
+#[tactic(auto, unfolding(slots::specs::Records::changed))]
 fn is_changing(v: Verdict) -> bool
     ensures { (head place : ℕ) (bytes : List ℕ) (old i : ℕ) → cond result (patched head place bytes old i) old ≡ changed v head place bytes old i }
 {
-    match v {
-        Verdict::Good => true,
-        Verdict::Blank => false,
-        Verdict::Beyond => false,
-        Verdict::Outside => false,
-        Verdict::Miscompared => true,
-    }
+    matches!(v, Verdict::Good | Verdict::Miscompared)
 }
 
 // The page as a patch changes it; under 12 or 13 as it was read.
-fn load_patched(
-    verdict: Verdict,
-    aim: Aim,
-    start: usize,
-    payload: &[u8],
-    staged: &[u8],
-    part: &mut [u8],
-)
+fn load_patched(d: Driver, start: usize, payload: &[u8], staged: &[u8], part: &mut [u8])
     requires { (length staged.now ≡ slot_room) × (start + length part.old ≤ slot_room) }
-    ensures { part.new ≡ tabulate (length part.old) (λ i. stored_by Kind.Patch (held verdict aim payload.now staged.now) (start + i)) }
+    ensures { part.new ≡ tabulate (length part.old) (λ i. stored_by Kind.Patch (held d.verdict d.aim payload.now staged.now) (start + i)) }
 {
-    let e = start + part.len();
-    slices::copy(part, &staged[start..e]);
-    if !is_changing(verdict) {
-        return;
+    slices::copy(part, &staged[start..start + part.len()]);
+    if is_changing(d.verdict) {
+        lay_patch(
+            records::body_start(staged),
+            d.aim.place,
+            payload,
+            start,
+            part,
+        );
     }
-    lay_patch(records::body_start(staged), aim.place, payload, start, part);
 }
 
 // The page that an 84 carries.
+#[tactic(auto, unfolding(slots::specs::Driver::stored_by))]
 pub fn load_page(
     g: Geometry,
-    kind: Kind,
-    verdict: Verdict,
-    aim: Aim,
+    d: Driver,
     page: usize,
     payload: &[u8],
     staged: &[u8],
     part: &mut [u8],
 )
     requires { (Pages g) × (length staged.now ≡ slot_room) × (length part.old ≡ g.size) }
-    ensures { part.new ≡ tabulate g.size (λ i. stored_by kind (held verdict aim payload.now staged.now) (g.size * (page % 8) + i)) }
+    ensures { part.new ≡ tabulate g.size (λ i. stored_by d.kind (held d.verdict d.aim payload.now staged.now) (g.size * (page % 8) + i)) }
 {
     let start = page_start(g, page);
-    let period = aim.period;
-    match kind {
-        Kind::Put => load_image(start, period, payload, part),
-        Kind::Patch => load_patched(verdict, aim, start, payload, staged, part),
-        Kind::Get => slices::fill(part, 0),
-        Kind::Wipe => slices::fill(part, 0),
+    match d.kind {
+        Kind::Put => load_image(start, d.aim.period, payload, part),
+        Kind::Patch => load_patched(d, start, payload, staged, part),
+        Kind::Get | Kind::Wipe => slices::fill(part, 0),
     }
 }
 
@@ -193,23 +167,19 @@ pub fn load_page(
 // The page of a reply to D2 is put among the bytes read, and a slot's first page is judged.
 pub fn read_page(
     g: Geometry,
-    kind: Kind,
-    verdict: Verdict,
-    aim: Aim,
+    d: Driver,
     page: usize,
     payload: &[u8],
     reply: &[u8],
     staged: &mut [u8],
 ) -> Verdict
     requires { (Pages g) × (length staged.old ≡ slot_room) }
-    ensures { held result aim payload.now staged.new ≡ read_in g kind page (held verdict aim payload.now staged.old) (tabulate g.size (λ i. get_or reply.now (8 + i) 255)) }
+    ensures { held result d.aim payload.now staged.new ≡ read_in g d.kind page (held d.verdict d.aim payload.now staged.old) (tabulate g.size (λ i. get_or reply.now (8 + i) 255)) }
 {
-    let size = g.size;
     let start = page_start(g, page);
-    let e = start + size;
-    copy_from(&mut staged[start..e], reply, 8, 255);
+    copy_from(&mut staged[start..start + g.size], reply, 8, 255);
     if start == 0 {
-        return records::judge(g, kind, aim, payload, &staged[..size]);
+        return records::judge(g, d.kind, d.aim, payload, &staged[..g.size]);
     }
-    verdict
+    d.verdict
 }

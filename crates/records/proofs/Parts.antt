@@ -10,8 +10,8 @@ use Rattle.geometry.specs.Parts.{part_of}
 use Rattle.geometry.proofs.Pages.{sized}
 use Rattle.records.specs.Held.{Pages}
 
-pub part-pages : (n : ℕ) (g : Geometry) → part_of n ≡ Some g → Pages g
-part-pages n g p =
+pub part_pages : (n : ℕ) (g : Geometry) → part_of n ≡ Some g → Pages g
+part_pages n g p =
     let z = sized n g p in
     let f = mul-le-mul_left {m = 1} {n = g.pages} g.field (omega (arith, z.blocks)) in
     record { some = z.some; most = z.most; named = omega (arith, f, z.named); full = z.short }

@@ -9,7 +9,7 @@ ghost use Rattle.slots.specs.Lists.{asking};
 ghost use Rattle.refusals.specs.Largest.{largest_in};
 
 use geometry::Geometry;
-use slots::{Detail, Kind};
+use slots::Request;
 use state::Answer;
 
 fn greater(a: u8, b: u8) -> u8
@@ -32,21 +32,20 @@ fn largest(script: &[u8]) -> u8
 }
 
 // 7: a byte that is none of 0, 1 and 2; or a cut, and junk of a wrong length.
+#[tactic(auto, using(crate::proofs::Scripts::fine_below, crate::proofs::Scripts::bad_above, crate::proofs::Scripts::cut_two))]
 fn bad_script(g: Geometry, array: usize, script: &[u8], junk: usize) -> bool
     requires { Sized g array }
     ensures { result ≡ bad_script g array script.now junk }
 {
-    let most = largest(script);
-    if most < 2 {
-        return false;
+    match largest(script) {
+        0 | 1 => false,
+        2 => junk != 2 * g.size + array,
+        _ => true,
     }
-    if 2 < most {
-        return true;
-    }
-    junk != 2 * g.size + array
 }
 
 // 6 and 7: a log of fewer bytes than the least, and the script. The lengths are those of the array, the log and the junk.
+#[tactic(auto, unfolding(slots::specs::Refusals::late_refusal))]
 fn late_refusal(
     g: Geometry,
     array: usize,
@@ -71,10 +70,7 @@ fn late_refusal(
 pub fn call_refusal(
     g: Geometry,
     array: usize,
-    kind: Kind,
-    slot: usize,
-    limit: usize,
-    detail: Detail,
+    r: Request,
     n: usize,
     lent: usize,
     log: usize,
@@ -82,23 +78,19 @@ pub fn call_refusal(
     junk: usize,
 ) -> Answer
     requires { (Sized g array) × (part_of array ≡ Some g) }
-    ensures { result ≡ call_refusal g array (asking kind slot limit) (flaws_in kind g detail n lent) log script.now junk }
+    ensures { result ≡ call_refusal g array (asking r.kind r.slot r.limit) (flaws_in r.kind g r.detail n lent) log script.now junk }
 {
-    let a = starts::refusal(array, kind, slot, limit, detail, n, lent);
-    if state::number(a) != 0 {
-        return a;
+    match starts::refusal(array, r, n, lent) {
+        Answer::Done => {
+            let least = 6 * steps::bound_of(r.kind, r.limit);
+            late_refusal(g, array, log, least, script, junk)
+        }
+        early => early,
     }
-    late_refusal(
-        g,
-        array,
-        log,
-        6 * steps::bound_of(kind, limit),
-        script,
-        junk,
-    )
 }
 
 // Raw.
+#[tactic(auto, unfolding(slots::specs::Refusals::raw_refusal))]
 pub fn raw_refusal(
     g: Geometry,
     array: usize,

@@ -19,7 +19,7 @@ use Rattle.slots.specs.Calls.{count_by, count_of}
 use Rattle.slots.specs.Exchanges.{Begins, plain, termed}
 use Rattle.slots.proofs.Verdicts.{record_true}
 use Rattle.slots.proofs.Accepted.{picked}
-use Rattle.records.proofs.Parts.{part-pages}
+use Rattle.records.proofs.Parts.{part_pages}
 use Rattle.worlds.specs.Step.{told_in, count_told}
 use Rattle.worlds.specs.Step as step
 
@@ -44,7 +44,7 @@ pub record_count : (g : Geometry) (d : Driver) (staged : List ℕ) {t : Option A
     → m ≡ count_told t d.kind staged → (m ≡ step.count_by (Some g) d staged) × (m ≤ slot_room - 3)
 unfolding step.count_by length_in
 record_count g d staged {t} {m} p r e h =
-    let z = part-pages d.array g p in
+    let z = part_pages d.array g p in
     let l = fits (record_true g staged (omega (arith, z.some)) r) in (
       h ∙ ap (λ (u : Option Answer). count_told u d.kind staged) e ∙ sym (picked (is_record g staged) (count_told (told_in d) d.kind staged) 0 r),
       omega (arith, h, told-few t d.kind staged, l, z.most),

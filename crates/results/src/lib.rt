@@ -6,7 +6,6 @@ ghost use Rattle.std.specs.Prelude.{◌≡◌, ◌≤◌, ◌-◌, Some};
 ghost use Rattle.geometry.specs.declared.Geometry.{Geometry};
 ghost use Rattle.geometry.specs.Parts.{part_of, slot_room};
 ghost use Rattle.slots.specs.Driver.{is_ended};
-ghost use Rattle.slots.specs.declared.Stage.{Stage};
 ghost use Rattle.worlds.specs.Turns.{with};
 ghost use Rattle.worlds.specs.Step.{stage_in, staged_at, halted, told_in, count_by, count_in};
 
@@ -18,26 +17,11 @@ use state::Answer;
 pub fn with_stage(d: Driver, s: Option<Answer>) -> Driver
     ensures { result ≡ with d d.verdict (staged_at s d.course) }
 {
-    let k = d.kind;
-    let v = d.verdict;
-    let aim = d.aim;
-    let c = d.course;
     let course = Course {
-        place: c.place,
-        left: c.left,
         stage: s,
-        listed: c.listed,
-        guarded: c.guarded,
+        ..d.course
     };
-    Driver {
-        array: d.array,
-        slot: d.slot,
-        limit: d.limit,
-        aim: aim,
-        kind: k,
-        verdict: v,
-        course: course,
-    }
+    Driver { course, ..d }
 }
 
 // The state ended with an answer, where something outside the driver ends the call.
@@ -47,22 +31,21 @@ pub fn halt(d: Driver, a: Answer) -> Driver
     with_stage(d, Some(a))
 }
 
+#[tactic(auto, unfolding(worlds::specs::Step::stage_in))]
 pub fn is_ended(d: Driver) -> bool
     ensures { result ≡ is_ended (stage_in d) }
 {
-    let p = geometry::part_of(d.array);
-    let s = states::stage(p, d);
+    let s = states::stage(geometry::part_of(d.array), d);
     courses::has_ended(s)
 }
 
 // The call's answer, if it has ended.
+#[tactic(auto, unfolding(worlds::specs::Step::told_in, worlds::specs::Step::stage_in))]
 pub fn answer(d: Driver) -> Option<Answer>
     ensures { result ≡ told_in d }
 {
-    let p = geometry::part_of(d.array);
-    let s = states::stage(p, d);
-    let v = d.verdict;
-    tellings::tell(s, v)
+    let s = states::stage(geometry::part_of(d.array), d);
+    tellings::tell(s, d.verdict)
 }
 
 fn count_on(g: Geometry, d: Driver, staged: &[u8]) -> usize
@@ -72,21 +55,19 @@ fn count_on(g: Geometry, d: Driver, staged: &[u8]) -> usize
     if !records::is_record(g, staged) {
         return 0;
     }
-    let t = answer(d);
-    let k = d.kind;
-    match t {
+    match answer(d) {
         None => 0,
-        Some(a) => tellings::count_of(k, a, staged),
+        Some(a) => tellings::count_of(d.kind, a, staged),
     }
 }
 
 // Of a get that has ended with 0 the recipe's length; the recipe stands in the bytes read behind the head. Else 0.
+#[tactic(auto, unfolding(worlds::specs::Step::count_in, worlds::specs::Step::count_by))]
 pub fn count(d: Driver, staged: &[u8; 2112]) -> usize
     ensures { (result ≡ count_in d staged.now) × (result ≤ slot_room - 3) }
 {
-    let p = geometry::part_of(d.array);
-    match p {
-        Some(g) => count_on(g, d, staged),
-        None => 0,
-    }
+    let Some(g) = geometry::part_of(d.array) else {
+        return 0;
+    };
+    count_on(g, d, staged)
 }

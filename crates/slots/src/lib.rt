@@ -66,6 +66,15 @@ pub struct Detail {
     pub today: Date,
 }
 
+// A call by its kind: the slot, the poll limit, and what it is told.
+#[derive(Clone, Copy)]
+pub struct Request {
+    pub kind: Kind,
+    pub slot: usize,
+    pub limit: usize,
+    pub detail: Detail,
+}
+
 // A recipe's term in day numbers: none, or from the first to the last day, both inside.
 #[derive(Clone, Copy)]
 pub enum Period {

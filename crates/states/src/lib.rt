@@ -6,7 +6,6 @@ ghost use Rattle.std.specs.Prelude.{◌≡◌, ◌<◌, ◌*◌, Some};
 ghost use Rattle.geometry.specs.declared.Geometry.{Geometry};
 ghost use Rattle.geometry.specs.Parts.{part_of};
 ghost use Rattle.slots.specs.Driver.{is_ended};
-ghost use Rattle.slots.specs.declared.Stage.{Stage};
 ghost use Rattle.worlds.specs.Step.{stray_refusal, fault_by, stage_by};
 
 use geometry::Geometry;
@@ -14,40 +13,37 @@ use slots::{Driver, Flaws};
 use state::Answer;
 
 // The polls left, and the place.
+#[tactic(auto, unfolding(worlds::specs::Step::stray_refusal))]
 fn stray_refusal(d: Driver) -> Answer
     requires { 8 * d.slot < 4096 }
     ensures { (g : Geometry) → result ≡ stray_refusal g d }
 {
     let c = d.course;
-    let k = d.kind;
-    if c.left < 1 {
+    if c.left < 1 || d.limit < c.left {
         return Answer::Limit;
     }
-    if d.limit < c.left {
-        return Answer::Limit;
-    }
-    if steps::is_end(steps::step_at(k, d.slot, c.place)) {
+    if steps::is_end(steps::step_at(d.kind, d.slot, c.place)) {
         return Answer::Slot;
     }
     Answer::Done
 }
 
+#[tactic(auto, unfolding(worlds::specs::Step::fault_by, slots::specs::Refusals::or_else, state::specs::Answers::number_of))]
 fn fault_on(g: Geometry, d: Driver) -> Answer
     requires { part_of d.array ≡ Some g }
     ensures { result ≡ fault_by (Some g) d }
 {
-    let k = d.kind;
     let flaws = Flaws {
         size: false,
         dates: false,
     };
-    let early = starts::early_refusal(g, k, d.slot, d.limit, flaws);
-    if state::number(early) != 0 {
-        return early;
+    match starts::early_refusal(g, d.kind, d.slot, d.limit, flaws) {
+        Answer::Done => stray_refusal(d),
+        early => early,
     }
-    stray_refusal(d)
 }
 
+#[tactic(auto, unfolding(worlds::specs::Step::fault_by))]
 fn fault(p: Option<Geometry>, d: Driver) -> Answer
     requires { p ≡ part_of d.array }
     ensures { result ≡ fault_by p d }
@@ -59,22 +55,20 @@ fn fault(p: Option<Geometry>, d: Driver) -> Answer
 }
 
 // The stage as it counts.
+#[tactic(auto, unfolding(worlds::specs::Step::stage_by, slots::specs::Driver::is_ended))]
 pub fn stage(p: Option<Geometry>, d: Driver) -> Option<Answer>
     requires { p ≡ part_of d.array }
     ensures { result ≡ stage_by p d }
 {
-    let c = d.course;
-    let s = c.stage;
-    if courses::has_ended(s) {
-        return s;
+    match d.course.stage {
+        None => starts::first_stage(fault(p, d)),
+        ended => ended,
     }
-    starts::first_stage(fault(p, d))
 }
 
 pub fn is_over_on(g: Geometry, d: Driver) -> bool
     requires { part_of d.array ≡ Some g }
     ensures { result ≡ is_ended (stage_by (Some g) d) }
 {
-    let s = stage(Some(g), d);
-    courses::has_ended(s)
+    courses::has_ended(stage(Some(g), d))
 }

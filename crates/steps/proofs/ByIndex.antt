@@ -107,18 +107,10 @@ module _ (k : Kind) (g : Geometry) (slot : ℕ) where
 
 -- ---- the first steps, by their number
 
-pub at_first : (x : Step) (xs : List Step) (j : ℕ) → j ≡ 0 → x ≡ step_at (x ∷ xs) j
-unfolding step_at
-at_first x xs j e = ap (step_at (x ∷ xs)) (sym e)
-
 pub at_later : (x : Step) (xs : List Step) (j : ℕ) → (j ≡ 0 → ⊥) → step_at xs (j - 1) ≡ step_at (x ∷ xs) j
 unfolding step_at
 at_later x xs zero e = absurd (e refl)
 at_later x xs (suc j) e = let z : suc j - 1 ≡ j = omega arith in ap (step_at xs) z
-
-pub at_second : (x y : Step) (xs : List Step) (j : ℕ) → j ≡ 1 → y ≡ step_at (x ∷ y ∷ xs) j
-unfolding step_at
-at_second x y xs j e = ap (step_at (x ∷ y ∷ xs)) (sym e)
 
 pub at_third : (x y z : Step) (xs : List Step) (j : ℕ) → j ≡ 2 → z ≡ step_at (x ∷ y ∷ z ∷ xs) j
 unfolding step_at
@@ -146,19 +138,6 @@ at_two x y (suc (suc j)) e f = refl
 
 -- ---- the opening, with or without 32 and 35
 
-pub opens_first : (i : ℕ) → i ≡ 0 → (b : Bool) → i < length (opening b) → Wait false ≡ step_at (opening b) i
-opens_first i e true l = at_first (Wait false) (Protection ∷ Lockdown ∷ []) i e
-opens_first i e false l = at_first (Wait false) [] i e
-
-pub opens_second : (i : ℕ) → i ≡ 1 → (b : Bool) → i < length (opening b) → Protection ≡ step_at (opening b) i
-opens_second i e true l = at_second (Wait false) Protection (Lockdown ∷ []) i e
-opens_second i e false l = absurd (omega arith)
-
 pub opens_third : (i : ℕ) → (i ≡ 0 → ⊥) → (i ≡ 1 → ⊥) → (b : Bool) → i < length (opening b) → Lockdown ≡ step_at (opening b) i
 opens_third i e f true l = at_third (Wait false) Protection Lockdown [] i (omega arith)
 opens_third i e f false l = absurd (omega arith)
-
--- ---- a call's steps for a page, by the call
-
-pub by_kind : {k l : Kind} {r : Step} (p j : ℕ) → k ≡ l → r ≡ step_at (page_steps l p) j → r ≡ step_at (page_steps k p) j
-by_kind p j e h = h ∙ ap (λ (c : Kind). step_at (page_steps c p) j) (sym e)

@@ -1,19 +1,15 @@
 -- No step of a plan is the end, so a place is the end exactly from the plan's length on.
 -- Assumes nothing.
 use Prim.Native.Nat.{ℕ, zero, suc}
-use mathlib.Core.Path.{◌≡◌, refl, sym, ap, ◌∙◌}
-use mathlib.Core.Bool.{true, false, not}
+use mathlib.Core.Path.{◌≡◌, sym, ap, ◌∙◌}
+use mathlib.Core.Bool.{true, not}
 use mathlib.Core.List.{List, [], ◌∷◌}
 use lib.ListN.{length}
 use lib.Dec.{leb, leb-zero, leb-suc-zero, leb-suc-suc}
-use types.Run.{OneOf, miss}
-use denote.Enum.Declared.{tag_of}
 use borrow.Author.Tests.{not-true}
 use Rattle.geometry.specs.declared.Geometry.{Geometry}
 use Rattle.slots.specs.declared.Kind.{Kind}
 use Rattle.slots.specs.declared.Step.{Step}
-use Rattle.slots.specs.declared.Step.TheVariants.{Wait, Protection, Lockdown, Read, Load, Send, End}
-use Rattle.slots.specs.contracts.Step.{the_type}
 use Rattle.slots.specs.Plans.{plan_by, step_at, is_end, frames_of}
 use Rattle.slots.proofs.Counts.{steps}
 use Rattle.slots.proofs.Places.{every, both, second, plan_proper}
@@ -28,14 +24,3 @@ end_from (x ∷ xs) (suc i) e = leb-suc-suc (length xs) i ∙ end_from xs i (sec
 pub last_from : {n : ℕ} (k : Kind) (i : ℕ) → frames_of k ≡ suc n → (g : Geometry) (slot : ℕ) → leb n i ≡ is_end (step_at (plan_by k g slot) (suc i))
 last_from {n} k i e g slot =
     sym (leb-suc-suc n i) ∙ ap (λ (m : ℕ). leb m (suc i)) (sym (steps k g slot ∙ e)) ∙ end_from (plan_by k g slot) (suc i) (plan_proper k g slot)
-
--- a step whose tag is not the end's
-pub not_end : (x : Step) → OneOf (0 ∷ 1 ∷ 2 ∷ 3 ∷ 4 ∷ 5 ∷ []) (tag_of the_type x) → false ≡ is_end x
-unfolding is_end
-not_end (Wait c) h = refl
-not_end Protection h = refl
-not_end Lockdown h = refl
-not_end (Read p) h = refl
-not_end (Load p) h = refl
-not_end (Send c p) h = refl
-not_end End h = absurd (miss (0 ∷ 1 ∷ 2 ∷ 3 ∷ 4 ∷ 5 ∷ []) 6 tt h)

@@ -1,6 +1,6 @@
 -- What a turn's code goes by: a sound state's place lies in the plan, and its slot's pages in the part.
 -- Assumes nothing.
-use Prim.Native.Nat.{ℕ, ◌*◌, ◌+◌, ◌<◌, ◌≤◌}
+use Prim.Native.Nat.{ℕ, ◌*◌, ◌+◌, ◌<◌}
 use native.Mathlib.Omega.{arith}
 use mathlib.Core.Path.{◌≡◌, refl}
 use mathlib.Core.Bool.{Bool, true, false, cond, ◌&&◌}
@@ -14,16 +14,15 @@ use Rattle.slots.specs.declared.Driver.{Driver}
 use Rattle.slots.specs.declared.Kind.{Kind}
 use Rattle.slots.specs.declared.Step.{Step}
 use Rattle.slots.specs.declared.Step.TheVariants.{Wait, Protection, Lockdown, Read, Load, Send, End}
-use Rattle.slots.specs.Plans.{is_wait}
 use Rattle.slots.specs.Driver.{Holding, compare_in, miscomparing, marred, taken_by}
 use Rattle.slots.proofs.Counts.{place-few}
 use Rattle.records.specs.Held.{Pages}
-use Rattle.records.proofs.Parts.{part-pages}
+use Rattle.records.proofs.Parts.{part_pages}
 use Rattle.worlds.specs.Turns.{Sound}
 
 module _ {g : Geometry} {d : Driver} (s : Sound g d) where
   pub sound-pages : Pages g
-  sound-pages = part-pages d.array g s.part
+  sound-pages = part_pages d.array g s.part
 
   pub sound_sized : Sized g (g.pages * g.size)
   sound_sized = sized_own g d.array (sized d.array g s.part)
@@ -60,13 +59,3 @@ taken_wait c g k h reply = go (c && compare_in reply)
     go : (b : Bool) → (cond b (miscomparing h.verdict) h.verdict ≡ (cond b (marred h) h).verdict) × (h.staged ≡ (cond b (marred h) h).staged)
     go true = (refl, refl)
     go false = (refl, refl)
-
-pub no_wait : (x : Step) → ((c : Bool) → x ≡ Wait c → ⊥) → (◌≡◌ {A = ℕ} 0 (cond (is_wait x) 1 0)) × (0 ≤ 1)
-unfolding is_wait
-no_wait (Wait c) w = absurd (w c refl)
-no_wait Protection w = (refl, omega arith)
-no_wait Lockdown w = (refl, omega arith)
-no_wait (Read p) w = (refl, omega arith)
-no_wait (Load p) w = (refl, omega arith)
-no_wait (Send c p) w = (refl, omega arith)
-no_wait End w = (refl, omega arith)

@@ -16,6 +16,7 @@ use slots::{Command, Course, Driver, Step, Verdict};
 
 // ---- frames
 
+#[tactic(auto, unfolding(slots::specs::Driver::opcode_of))]
 fn opcode_of(c: Command) -> u8
     ensures { result ≡ opcode_of c }
 {
@@ -27,6 +28,7 @@ fn opcode_of(c: Command) -> u8
 }
 
 // The first four bytes: opcode and address, highest byte first.
+#[tactic(auto, using(crate::proofs::Frames::four_set))]
 fn put_address(opcode: u8, n: usize, frame: &mut [u8])
     requires { 4 ≤ length frame.old }
     ensures { frame.new ≡ over (opcode ∷ n / 65536 % 256 ∷ n / 256 % 256 ∷ n % 256 ∷ []) frame.old }
@@ -48,6 +50,7 @@ fn write_long(opcode: u8, n: usize, size: usize, frame: &mut [u8]) -> usize
 }
 
 // A poll.
+#[tactic(auto, using(crate::proofs::Frames::two_set))]
 fn write_poll(frame: &mut [u8]) -> usize
     requires { 2 ≤ length frame.old }
     ensures { (result ≡ 2) × (frame.new ≡ over (0xD7 ∷ 0 ∷ []) frame.old) }
@@ -78,12 +81,9 @@ fn write_load(
     requires { (Pages g) × (length staged.now ≡ slot_room) × (length frame.old ≡ frame_room) }
     ensures { (result ≡ 4 + g.size) × (frame.new ≡ over (frame_of g d.kind (holding_of d payload.now staged.now) (Step.Load page)) frame.old) }
 {
-    let k = d.kind;
-    let v = d.verdict;
-    let aim = d.aim;
     let e = 4 + g.size;
     put_address(0x84, 0, frame);
-    page_data::load_page(g, k, v, aim, page, payload, staged, &mut frame[4..e]);
+    page_data::load_page(g, d, page, payload, staged, &mut frame[4..e]);
     e
 }
 
@@ -99,31 +99,26 @@ pub fn write_step(
     requires { (Pages g) × (page_by x < 4096) × (length staged.now ≡ slot_room) × (length frame.old ≡ frame_room) }
     ensures { (result ≡ (shape_of g x).length) × (frame.new ≡ over (frame_of g d.kind (holding_of d payload.now staged.now) x) frame.old) }
 {
-    let size = g.size;
-    let field = g.field;
-    let register = g.register;
     match x {
-        Step::Wait { checked: _ } => write_poll(frame),
-        Step::Protection => write_long(0x32, 0, 4 + register, frame),
-        Step::Lockdown => write_long(0x35, 0, 4 + register, frame),
-        Step::Read { page: p } => write_long(0xD2, field * p, 8 + size, frame),
-        Step::Load { page: p } => write_load(g, d, p, payload, staged, frame),
-        Step::Send {
-            command: c,
-            page: p,
-        } => write_send(c, field * p, frame),
+        Step::Wait { .. } => write_poll(frame),
+        Step::Protection => write_long(0x32, 0, 4 + g.register, frame),
+        Step::Lockdown => write_long(0x35, 0, 4 + g.register, frame),
+        Step::Read { page } => write_long(0xD2, g.field * page, 8 + g.size, frame),
+        Step::Load { page } => write_load(g, d, page, payload, staged, frame),
+        Step::Send { command, page } => write_send(command, g.field * page, frame),
         Step::End => 0,
     }
 }
 
 // 1 where the step's frame is a poll, else 0.
+#[tactic(auto, unfolding(slots::specs::Plans::is_wait))]
 pub fn poll_count(x: Step) -> usize
     ensures { (result ≡ cond (is_wait x) 1 0) × (result ≤ 1) }
 {
-    if let Step::Wait { checked: _ } = x {
-        return 1;
+    match x {
+        Step::Wait { .. } => 1,
+        _ => 0,
     }
-    0
 }
 
 // ---- replies
@@ -133,24 +128,19 @@ pub fn take_course(g: Geometry, d: Driver, x: Step, reply: &[u8]) -> Course
     requires { (Sound g d) × (x ≡ step_in g d) }
     ensures { result ≡ course_after g d reply.now }
 {
-    let k = d.kind;
-    let c = d.course;
     let sector = geometry::sector_of(g, 8 * d.slot);
-    let last = steps::is_last(k, c.place);
-    courses::take_course(c, x, last, d.limit, sector, reply)
+    let last = steps::is_last(d.kind, d.course.place);
+    courses::take_course(d.course, x, last, d.limit, sector, reply)
 }
 
 // The verdict after a wait's reply: if the wait is checked, a compare bit of 1 tells of a page that differs.
 fn take_compare(v: Verdict, checked: bool, reply: &[u8]) -> Verdict
     ensures { result ≡ cond (checked && compare_in reply.now) (miscomparing v) v }
 {
-    if !checked {
-        return v;
+    if checked && courses::compare_bit(reply) {
+        return records::miscompare(v);
     }
-    if !courses::compare_bit(reply) {
-        return v;
-    }
-    records::miscompare(v)
+    v
 }
 
 // The verdict after a step's reply, and the bytes read.
@@ -165,13 +155,10 @@ pub fn take_data(
     requires { (Sound g d) × (x ≡ step_in g d) × (length staged.old ≡ slot_room) }
     ensures { (result ≡ (data_after g d payload.now staged.old reply.now).verdict) × (staged.new ≡ (data_after g d payload.now staged.old reply.now).staged) }
 {
-    let k = d.kind;
-    let v = d.verdict;
-    let aim = d.aim;
     match x {
-        Step::Wait { checked: c } => take_compare(v, c, reply),
-        Step::Read { page: p } => page_data::read_page(g, k, v, aim, p, payload, reply, staged),
-        _ => v,
+        Step::Wait { checked } => take_compare(d.verdict, checked, reply),
+        Step::Read { page } => page_data::read_page(g, d, page, payload, reply, staged),
+        _ => d.verdict,
     }
 }
 
@@ -179,16 +166,10 @@ pub fn take_data(
 pub fn with(d: Driver, verdict: Verdict, course: Course) -> Driver
     ensures { result ≡ with d verdict course }
 {
-    let k = d.kind;
-    let aim = d.aim;
     Driver {
-        array: d.array,
-        slot: d.slot,
-        limit: d.limit,
-        aim: aim,
-        kind: k,
-        verdict: verdict,
-        course: course,
+        verdict,
+        course,
+        ..d
     }
 }
 

@@ -31,8 +31,8 @@ some a e z = ne_eqb (number_of a) 0 (λ h. z (e ∙ h))
 -- ---- states
 
 module _ (g : Geometry) (d : Driver) (p : part_of d.array ≡ Some g) where
-  pub asked-slot : eqb (number_of (early_refusal g (asked_of d) flawless)) 0 ≡ true → 8 * d.slot < 4096
-  asked-slot e = let z = sized d.array g p in omega (arith, (early g (asked_of d) flawless e).fits, z.few)
+  pub asked_slot : eqb (number_of (early_refusal g (asked_of d) flawless)) 0 ≡ true → 8 * d.slot < 4096
+  asked_slot e = let z = sized d.array g p in omega (arith, (early g (asked_of d) flawless e).fits, z.few)
 
   pub going-sound : is_ended (stage_by (Some g) d) ≡ false → Sound g d
   going-sound e =

@@ -11,12 +11,12 @@ use borrow.Author.Rules.{rules}
 use Rattle.driver.proofs.write_frame.Goals as goal
 
 pub write_on-requires : goal.write_on-requires
-write_on-requires c = (sym c.part_of-p.ensures ∙ c.in-Some.is, search rules, search rules)
+write_on-requires c = (sym c.part_of.ensures ∙ c.in-Some.is, search rules, search rules)
 
 pub returns-in-Some : goal.returns-in-Some
 returns-in-Some c =
     let a = c.args in
-    let p = sym c.part_of-p.ensures ∙ c.in-Some.is in
+    let p = sym c.part_of.ensures ∙ c.in-Some.is in
     let long : length a.frame.now ≡ frame_room = search rules in
     framed a.d a.payload.now a.staged.now a.frame.now (sym p) (omega (arith, long, frame-fits a.d a.payload.now a.staged.now _ p)) c.write_on.ensures
 
@@ -24,4 +24,4 @@ pub returns-in-None : goal.returns-in-None
 unfolding frame_by
 returns-in-None c =
     let a = c.args in
-    framed a.d a.payload.now a.staged.now a.frame.now (sym c.in-None.is ∙ c.part_of-p.ensures) (omega arith) (nothing [] a.frame.now refl)
+    framed a.d a.payload.now a.staged.now a.frame.now (sym c.in-None.is ∙ c.part_of.ensures) (omega arith) (nothing [] a.frame.now refl)

@@ -1,7 +1,7 @@
 -- `driver::write_on` meets its contract: a state that counts as ended has no frame, any other that of its step.
 -- Assumes nothing.
 use mathlib.Core.Path.{sym, ◌∙◌}
-use Rattle.records.proofs.Parts.{part-pages}
+use Rattle.records.proofs.Parts.{part_pages}
 use Rattle.turns.proofs.Turns.{sound-slot}
 use Rattle.driver.proofs.Frames.{nothing, ended-frame, written}
 use Rattle.worlds.proofs.Going.{going-sound}
@@ -16,7 +16,7 @@ pub step_at-x-requires : goal.step_at-x-requires
 step_at-x-requires c = sound-slot (going-sound c.args.g c.args.d c.requires.0 (sym c.is_over_on.ensures ∙ c.if-is_over_on.false))
 
 pub write_step-requires : goal.write_step-requires
-write_step-requires c = (part-pages _ _ c.requires.0, c.step_at-x.ensures.1, c.requires.1, c.requires.2)
+write_step-requires c = (part_pages _ _ c.requires.0, c.step_at-x.ensures.1, c.requires.1, c.requires.2)
 
 pub returns : goal.returns
 returns c =

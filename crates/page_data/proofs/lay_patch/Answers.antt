@@ -16,18 +16,18 @@ returns-then-place-ge2112 c =
 pub returns-then-part-to : goal.returns-then-part-to
 returns-then-part-to c =
     let a = c.args in
-    laid_before a.head a.place a.bytes.now a.start a.part.now c.excess-to.result c.excess-to.ensures c.if-part-to.true
+    laid_before a.head a.place a.bytes.now a.start a.part.now c.saturating_sub-to.result c.saturating_sub-to.ensures c.if-part-to.true
 
 pub returns-then-bytes-from : goal.returns-then-bytes-from
 returns-then-bytes-from c =
     let a = c.args in
-    laid-after a.head a.place a.bytes.now a.start a.part.now c.excess-from.result c.excess-from.ensures c.if-bytes-from.true
+    laid-after a.head a.place a.bytes.now a.start a.part.now c.saturating_sub-from.result c.saturating_sub-from.ensures c.if-bytes-from.true
 
 pub copy-requires : goal.copy-requires
 copy-requires c =
-    let excess = c.excess-to in
+    let excess = c.saturating_sub-to in
     let lesser = c.lesser-n in
-    let excess2 = c.excess-from in
+    let excess2 = c.saturating_sub-from in
     let a = c.args in
     run_length excess.result lesser.result a.part.now (run-left (length a.part.now) (length a.bytes.now)
     excess.result excess2.result lesser.result lesser.ensures c.if-part-to.false)
@@ -36,8 +36,8 @@ copy-requires c =
 
 pub returns : goal.returns
 returns c =
-    let excess = c.excess-to in
-    let excess2 = c.excess-from in
+    let excess = c.saturating_sub-to in
+    let excess2 = c.saturating_sub-from in
     let lesser = c.lesser-n in
     let copy = c.copy in
     let a = c.args in

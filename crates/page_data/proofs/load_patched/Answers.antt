@@ -5,20 +5,20 @@ use lib.ListN.{length}
 use Rattle.page_data.proofs.Pages.{patch-kept, patch-laid}
 use Rattle.page_data.proofs.load_patched.Goals as goal
 
-pub returns-then-not-is_changing : goal.returns-then-not-is_changing
-returns-then-not-is_changing c =
+pub returns-else-is_changing : goal.returns-else-is_changing
+returns-else-is_changing c =
     let a = c.args in
     let r = c.copy in
     let h = c.is_changing in
-    patch-kept a.verdict a.aim a.payload.now a.staged.now a.start (length a.part.now) (omega (arith, c.requires.0, c.requires.1)) r.new.part r.ensures
-    h.ensures c.if-not-is_changing.true
+    patch-kept a.d.verdict a.d.aim a.payload.now a.staged.now a.start (length a.part.now) (omega (arith, c.requires.0, c.requires.1)) r.new.part r.ensures
+    h.ensures c.if-is_changing.false
 
-pub returns : goal.returns
-returns c =
+pub returns-then-is_changing : goal.returns-then-is_changing
+returns-then-is_changing c =
     let a = c.args in
     let r = c.copy in
     let b = c.body_start in
     let l = c.lay_patch in
     let h = c.is_changing in
-    patch-laid a.verdict a.aim a.payload.now a.staged.now a.start (length a.part.now) (omega (arith, c.requires.0, c.requires.1)) r.new.part r.ensures
-    b.result l.new.part h.ensures c.if-not-is_changing.false b.ensures.0 l.ensures
+    patch-laid a.d.verdict a.d.aim a.payload.now a.staged.now a.start (length a.part.now) (omega (arith, c.requires.0, c.requires.1)) r.new.part r.ensures
+    b.result l.new.part h.ensures c.if-is_changing.true b.ensures.0 l.ensures

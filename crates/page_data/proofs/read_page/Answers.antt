@@ -10,18 +10,18 @@ slice_bounds-judge-end-then-start-eq0 c =
     let a = c.args in
     let p = c.page_start-start in
     let r = c.copy_from in
-    sym (length-take-le a.g.size _ (read_room c.requires.0 a.kind a.verdict a.aim a.page a.payload.now a.staged.now p.result p.ensures.0 c.requires.1 a.reply.now r.new.part r.ensures))
+    sym (length-take-le a.g.size _ (read_room c.requires.0 a.d.kind a.d.verdict a.d.aim a.page a.payload.now a.staged.now p.result p.ensures.0 c.requires.1 a.reply.now r.new.part r.ensures))
 
 pub returns-then-start-eq0 : goal.returns-then-start-eq0
 returns-then-start-eq0 c =
     let a = c.args in
     let p = c.page_start-start in
     let r = c.copy_from in
-    read_first c.requires.0 a.kind a.verdict a.aim a.page a.payload.now a.staged.now p.result p.ensures.0 c.requires.1 a.reply.now r.new.part r.ensures c.judge.result c.if-start-eq0.true (c.judge.ensures a.verdict a.staged.now)
+    read_first c.requires.0 a.d.kind a.d.verdict a.d.aim a.page a.payload.now a.staged.now p.result p.ensures.0 c.requires.1 a.reply.now r.new.part r.ensures c.judge.result c.if-start-eq0.true (c.judge.ensures a.d.verdict a.staged.now)
 
 pub returns : goal.returns
 returns c =
     let a = c.args in
     let p = c.page_start-start in
     let r = c.copy_from in
-    read_later c.requires.0 a.kind a.verdict a.aim a.page a.payload.now a.staged.now p.result p.ensures.0 c.requires.1 a.reply.now r.new.part r.ensures c.if-start-eq0.false
+    read_later c.requires.0 a.d.kind a.d.verdict a.d.aim a.page a.payload.now a.staged.now p.result p.ensures.0 c.requires.1 a.reply.now r.new.part r.ensures c.if-start-eq0.false

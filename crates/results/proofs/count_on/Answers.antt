@@ -2,33 +2,32 @@
 -- Assumes nothing.
 use native.Mathlib.Omega.{arith}
 use mathlib.Core.Path.{refl, sym, ◌∙◌}
-use borrow.Author.Tests.{not-true, not-false}
 use Rattle.slots.proofs.Driven.{other}
-use Rattle.records.proofs.Parts.{part-pages}
+use Rattle.records.proofs.Parts.{part_pages}
 use Rattle.worlds.specs.Step.{told_in, count_told, count_by}
 use Rattle.results.proofs.Counts.{record_count}
 use Rattle.results.proofs.count_on.Goals as goal
 
 pub is_record-requires : goal.is_record-requires
-is_record-requires c = part-pages _ _ c.requires
+is_record-requires c = part_pages _ _ c.requires
 
 pub returns-then-not-is_record : goal.returns-then-not-is_record
 unfolding count_by
 returns-then-not-is_record c =
     let a = c.args in
     let r = c.is_record in
-    (sym (other _ (count_told (told_in a.d) a.d.kind a.staged.now) 0 (sym r.ensures ∙ not-true r.result c.if-not-is_record.true-raw)), omega arith)
+    (sym (other _ (count_told (told_in a.d) a.d.kind a.staged.now) 0 (sym r.ensures ∙ c.if-not-is_record.true)), omega arith)
 
 pub returns-in-None : goal.returns-in-None
 unfolding count_told
 returns-in-None c =
     let r = c.is_record in
-    record_count c.args.g c.args.d c.args.staged.now c.requires (sym r.ensures ∙ not-false r.result c.if-not-is_record.false-raw)
-    (sym c.in-None.is ∙ c.answer-t.ensures) refl
+    record_count c.args.g c.args.d c.args.staged.now c.requires (sym r.ensures ∙ c.if-not-is_record.false)
+    (sym c.in-None.is ∙ c.answer.ensures) refl
 
 pub returns-in-Some : goal.returns-in-Some
 unfolding count_told
 returns-in-Some c =
     let r = c.is_record in
-    record_count c.args.g c.args.d c.args.staged.now c.requires (sym r.ensures ∙ not-false r.result c.if-not-is_record.false-raw)
-    (sym c.in-Some.is ∙ c.answer-t.ensures) c.count_of.ensures.0
+    record_count c.args.g c.args.d c.args.staged.now c.requires (sym r.ensures ∙ c.if-not-is_record.false)
+    (sym c.in-Some.is ∙ c.answer.ensures) c.count_of.ensures.0

@@ -14,7 +14,7 @@ pub returns-in-Wait : goal.returns-in-Wait
 returns-in-Wait c =
     let a = c.args in
     let h = holding_of a.d a.payload.now a.staged.now in
-    let took = taken_wait c.in-Wait.c a.g a.d.kind h a.reply.now in
+    let took = taken_wait c.in-Wait.checked a.g a.d.kind h a.reply.now in
     let e = ap (λ (x : Step). taken_by x a.g a.d.kind h a.reply.now) (sym c.in-Wait.is ∙ c.requires.1) in
     (c.take_compare.ensures ∙ took.0 ∙ ap (λ (k : Holding). k.verdict) e, took.1 ∙ ap (λ (k : Holding). k.staged) e)
 

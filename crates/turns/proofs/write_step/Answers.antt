@@ -9,25 +9,25 @@ use Rattle.turns.proofs.Frames.{wait_form, protection_form, lockdown_form, read_
 use native.Mathlib.Omega.{arith}
 use Rattle.turns.proofs.write_step.Goals as goal
 
-pub overflow_add-register : goal.overflow_add-register
-overflow_add-register c = omega (arith, c.requires.0.full)
+pub overflow_add-g : goal.overflow_add-g
+overflow_add-g c = omega (arith, c.requires.0.full)
 
 pub write_long-requires : goal.write_long-requires
 write_long-requires c = (omega arith, omega (arith, c.requires.0.full, c.requires.3))
 
-pub overflow_add-register-in-Lockdown : goal.overflow_add-register-in-Lockdown
-overflow_add-register-in-Lockdown c = omega (arith, c.requires.0.full)
+pub overflow_add-g-in-Lockdown : goal.overflow_add-g-in-Lockdown
+overflow_add-g-in-Lockdown c = omega (arith, c.requires.0.full)
 
 pub write_long-requires-in-Lockdown : goal.write_long-requires-in-Lockdown
 write_long-requires-in-Lockdown c = (omega arith, omega (arith, c.requires.0.full, c.requires.3))
 
-pub overflow_mul-field : goal.overflow_mul-field
+pub overflow_mul-g : goal.overflow_mul-g
 unfolding page_by
-overflow_mul-field c = address-fits _ _ c.requires.0.named (named-few c.args.x c.requires.1 c.in-Read.is)
+overflow_mul-g c = address-fits _ _ c.requires.0.named (named-few c.args.x c.requires.1 c.in-Read.is)
 
-pub overflow_mul-field-in-Send : goal.overflow_mul-field-in-Send
+pub overflow_mul-g-in-Send : goal.overflow_mul-g-in-Send
 unfolding page_by
-overflow_mul-field-in-Send c = address-fits _ _ c.requires.0.named (named-few c.args.x c.requires.1 c.in-Send.is)
+overflow_mul-g-in-Send c = address-fits _ _ c.requires.0.named (named-few c.args.x c.requires.1 c.in-Send.is)
 
 pub returns-in-Wait : goal.returns-in-Wait
 unfolding shape_of
