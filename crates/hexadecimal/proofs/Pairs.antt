@@ -13,26 +13,27 @@ use lib.Seq.{drop-cons, get_or-take}
 use borrow.Author.Tests.{eq-eqb, ne_eqb, leb-true, leb-false}
 use Rattle.slices.specs.Lists.{same, over, splice}
 use Rattle.slices.proofs.Laws.{over_nil, length_over, splice_nil, splice_cons}
-use Rattle.text.specs.declared.values.Hex.{Hex}
-use Rattle.text.specs.declared.values.Hex.TheVariants.{Bytes, NotHex, Odd}
+use Rattle.std.specs.Prelude.{Result, Ok, Err}
+use Rattle.text.specs.declared.values.HexError.{HexError}
+use Rattle.text.specs.declared.values.HexError.TheVariants.{NotHex, Odd}
 use Rattle.text.specs.Lists.{every}
 use Rattle.text.specs.Hexadecimal.{is_hex_digit, pair_of, pairs, hex_of, count_of, bytes_of}
 
 -- ---- what a word says
 module _ (xs : List ℕ) where
-  pub hex_dash : same xs (45 ∷ []) ≡ true → Bytes 0 ≡ hex_of xs
+  pub hex_dash : same xs (45 ∷ []) ≡ true → Ok 0 ≡ hex_of xs
   unfolding hex_of
   hex_dash d = rw d refl
 
-  pub hex_other : same xs (45 ∷ []) ≡ false → every is_hex_digit xs ≡ false → NotHex ≡ hex_of xs
+  pub hex_other : same xs (45 ∷ []) ≡ false → every is_hex_digit xs ≡ false → Err NotHex ≡ hex_of xs
   unfolding hex_of
   hex_other d e = rw (d, e) refl
 
-  pub hex_even : same xs (45 ∷ []) ≡ false → every is_hex_digit xs ≡ true → length xs % 2 ≡ 0 → Bytes (length xs / 2) ≡ hex_of xs
+  pub hex_even : same xs (45 ∷ []) ≡ false → every is_hex_digit xs ≡ true → length xs % 2 ≡ 0 → Ok (length xs / 2) ≡ hex_of xs
   unfolding hex_of
   hex_even d e h = rw (d, e, eq-eqb (length xs % 2) 0 h) refl
 
-  pub hex_odd : same xs (45 ∷ []) ≡ false → every is_hex_digit xs ≡ true → (length xs % 2 ≡ 0 → ⊥) → Odd ≡ hex_of xs
+  pub hex_odd : same xs (45 ∷ []) ≡ false → every is_hex_digit xs ≡ true → (length xs % 2 ≡ 0 → ⊥) → Err Odd ≡ hex_of xs
   unfolding hex_of
   hex_odd d e h = rw (d, e, ne_eqb (length xs % 2) 0 h) refl
 
@@ -89,17 +90,17 @@ module _ (word : List ℕ) (n : ℕ) (fits : n * 2 ≤ length word) where
       go false e = splice_past i (drop i (take n (pairs word))) out (omega (arith, leb-false n i e))
 
   -- the bytes of a word that makes n
-  bytes_taken : hex_of word ≡ Bytes n → bytes_of word ≡ take n (pairs word)
+  bytes_taken : hex_of word ≡ Ok n → bytes_of word ≡ take n (pairs word)
   unfolding bytes_of
   bytes_taken e = ap (λ (k : ℕ). take k (pairs word)) (ap count_of e)
 
-  pub bytes-length : hex_of word ≡ Bytes n → length (bytes_of word) ≡ n
+  pub bytes-length : hex_of word ≡ Ok n → length (bytes_of word) ≡ n
   bytes-length e = ap length (bytes_taken e) ∙ taken_length
 
-  pub unhexed : (h : Hex) (out last : List ℕ) (r : ℕ) → h ≡ hex_of word → h ≡ Bytes n → r ≡ min n (length out) → last ≡ over (take n (pairs word)) out
+  pub unhexed : (h : Result ℕ HexError) (out last : List ℕ) (r : ℕ) → h ≡ hex_of word → h ≡ Ok n → r ≡ min n (length out) → last ≡ over (take n (pairs word)) out
       → (r ≤ length last) × (r ≡ min (length (bytes_of word)) (length out)) × (last ≡ over (bytes_of word) out) × (r ≡ length (take r last))
   unhexed h out last r e f m s =
-      let b : hex_of word ≡ Bytes n = sym e ∙ f in
+      let b : hex_of word ≡ Ok n = sym e ∙ f in
       let l : length last ≡ length out = ap length s ∙ length_over (take n (pairs word)) out in (
         omega arith,
         omega (arith, bytes-length b),
@@ -108,7 +109,7 @@ module _ (word : List ℕ) (n : ℕ) (fits : n * 2 ≤ length word) where
       )
 
 -- a word that makes none
-pub unhexed_none : (word : List ℕ) (h : Hex) (out : List ℕ) → h ≡ hex_of word → count_of h ≡ 0
+pub unhexed_none : (word : List ℕ) (h : Result ℕ HexError) (out : List ℕ) → h ≡ hex_of word → count_of h ≡ 0
     → (0 ≤ length out) × (0 ≡ min (length (bytes_of word)) (length out)) × (out ≡ over (bytes_of word) out) × (0 ≡ length (take 0 out))
 unfolding bytes_of
 unhexed_none word h out e k =

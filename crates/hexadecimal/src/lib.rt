@@ -5,7 +5,7 @@ ghost use Rattle.std.specs.Prelude.{◌≡◌, ◌+◌, ◌*◌, ◌/◌, ◌≤
 ghost use Rattle.slices.specs.Lists.{over};
 ghost use Rattle.text.specs.Hexadecimal.{digit_of, pair_of, pairs, hex_of, count_of, bytes_of};
 
-use text::{Class, Hex};
+use text::{Class, HexError};
 
 // The upper-case hexadecimal digit of `n % 16`.
 pub fn digit(n: u8) -> u8
@@ -16,32 +16,29 @@ pub fn digit(n: u8) -> u8
 }
 
 // How many bytes the digits of a word make; `-` alone and an empty word make none.
-pub fn hex(word: &[u8]) -> Hex
+pub fn hex(word: &[u8]) -> Result<usize, HexError>
     ensures { (result ≡ hex_of word.now) × (count_of result * 2 ≤ length word.now) }
 {
-    let dash = [45u8];
-    if text::is_same(word, &dash) {
-        return Hex::Bytes(0);
+    if text::is_same(word, b"-") {
+        return Ok(0);
     }
     if !text::all(Class::HexDigit, word) {
-        return Hex::NotHex;
+        return Err(HexError::NotHex);
     }
     if word.len() % 2 == 0 {
-        return Hex::Bytes(word.len() / 2);
+        return Ok(word.len() / 2);
     }
-    Hex::Odd
+    Err(HexError::Odd)
 }
 
-// The bytes that a word makes, at the start of `out` and as far as it reaches; how many were stored. A word for which `hex` gives no
-// `Bytes` stores none.
+// The bytes that a word makes, at the start of `out` and as far as it reaches; how many were stored. A word for which `hex` gives an
+// error stores none.
 pub fn unhex(word: &[u8], out: &mut [u8]) -> usize
     ensures { (result ≤ length out.new) × (result ≡ min (length (bytes_of word.now)) (length out.old)) × (out.new ≡ over (bytes_of word.now) out.old) × (result ≡ length (take result out.new)) }
 {
-    let h = hex(word);
-    match h {
-        Hex::Bytes(n) => store(word, n, out),
-        Hex::NotHex => 0,
-        Hex::Odd => 0,
+    match hex(word) {
+        Ok(n) => store(word, n, out),
+        Err(_) => 0,
     }
 }
 

@@ -1,6 +1,7 @@
 -- Laws of the input. A line is kept up to one character more than the longest has, and what a longer one says does not depend on the rest; bytes
 -- read in pieces are read in a row.
 -- Assumes nothing.
+use Rattle.std.specs.Prelude.{Err}
 use mathlib.Core.Path.{◌≡◌, refl, sym, ap, subst, ◌∙◌}
 use mathlib.Core.List.{List, [], ◌∷◌, ◌++◌, append-nil}
 use mathlib.Core.Bool.{Bool, true, false, cond, true≢false}
@@ -11,8 +12,6 @@ use lib.ListN.{length, take, drop, set, get_or, length-append, length-set}
 use lib.Seq.{take_all, take-append-le, length-take-le, take-set-le}
 use lib.Dec.{leb, ltb, eqb}
 use borrow.Author.Tests.{leb-true, leb-false, lt-ltb, eqb-true, eq-eqb}
-use Rattle.orders.specs.declared.Reading.{Reading}
-use Rattle.orders.specs.declared.Reading.TheVariants as Reading
 use Rattle.faults.specs.declared.Fault.TheVariants as Fault
 use Rattle.orders.specs.Lines.{read_of}
 use Rattle.printing.specs.declared.Output.{Output}
@@ -28,7 +27,7 @@ use Rattle.inputs.specs.Places.{line_room, Place, place, Kept, Keeps, At, Reads,
 -- ---- a line longer than the longest
 
 -- it is cut, and says the same
-too_long : (xs : List ℕ) → 8192 < length xs → read_of xs ≡ Reading.Fault Fault.TooLong
+too_long : (xs : List ℕ) → 8192 < length xs → read_of xs ≡ Err Fault.TooLong
 unfolding read_of
 too_long xs h = rw (lt-ltb 8192 (length xs) h) refl
 

@@ -2,7 +2,7 @@
 -- each of its two numbers and a known part's array is short enough.
 -- Assumes nothing.
 use Rattle.std.specs.Prelude.{None, Option, Some}
-use mathlib.Core.Path.{◌≡◌, refl, sym, ap, subst, ◌∙◌}
+use mathlib.Core.Path.{◌≡◌, refl, sym, ap, ◌∙◌}
 use mathlib.Core.Bool.{true}
 use Prim.Native.Nat.{ℕ, ◌+◌, ◌-◌, ◌*◌, ◌≤◌, min}
 use native.Mathlib.Omega.{arith}
@@ -16,9 +16,7 @@ use Rattle.slots.specs.Plans.{stated}
 use Rattle.slots.specs.Records.{head_size, limit_of, slot_size}
 use Rattle.words.specs.declared.Command.{Command}
 use Rattle.words.specs.declared.Command.TheVariants as C
-use Rattle.orders.specs.declared.Order.{Order}
-use Rattle.lengths.specs.declared.room.Lengths.{Lengths}
-use Rattle.lengths.specs.Lengths.{log_room, out_room, junk_room, frames_for, log_for, junk_for, buffer_for, lengths_by}
+use Rattle.lengths.specs.Lengths.{log_room, out_room, junk_room, frames_for, log_for, junk_for, buffer_for}
 
 -- the junk as long as needed is what a cut takes
 pub junk-fits : (g : Geometry) (n : ℕ) → cut_fits g n (junk_for (Some g) n) ≡ true
@@ -69,15 +67,3 @@ module _ (n : ℕ) {p : Option Geometry} (e : p ≡ part_of n) (k : p ≡ None) 
   pub buffer_unknown : 0 ≡ buffer_for (part_of n)
   unfolding buffer_for
   buffer_unknown = ap buffer_for (sym k ∙ e)
-
--- what an arm makes is what its command lends, each length within its room
-module _ (o : Order) (size count : ℕ) {c : Command} (d : Command) (e : c ≡ d) {r : Lengths} (f : r ≡ lengths_by d o size count) where
-  pub lent_so : r.junk ≤ junk_room → r.log ≤ log_room → r.out ≤ out_room
-      → (r ≡ lengths_by c o size count) × (r.junk ≤ junk_room) × (r.log ≤ log_room) × (r.out ≤ out_room)
-  lent_so j l u = (f ∙ ap (λ (k : Command). lengths_by k o size count) (sym e), j, l, u)
-
-  pub alone_so : (x : Lengths) → r ≡ x → x.junk ≤ junk_room → x.log ≤ log_room → x.out ≤ out_room
-      → (r ≡ lengths_by c o size count) × (r.junk ≤ junk_room) × (r.log ≤ log_room) × (r.out ≤ out_room)
-  alone_so x g j l u =
-      let h = sym g in
-      lent_so (subst (λ (k : Lengths). k.junk ≤ junk_room) h j) (subst (λ (k : Lengths). k.log ≤ log_room) h l) (subst (λ (k : Lengths). k.out ≤ out_room) h u)

@@ -8,8 +8,6 @@ use Rattle.slots.specs.Plans.{stated}
 use Rattle.slots.specs.Records.{limit_of}
 use Rattle.words.specs.declared.Command.{Command}
 use Rattle.words.specs.declared.Command.TheVariants as Command
-use Rattle.orders.specs.declared.Lent.{Lent}
-use Rattle.orders.specs.declared.Lent.TheVariants.{Needed, Given}
 use Rattle.orders.specs.declared.Order.{Order}
 use Rattle.lengths.specs.declared.room.Lengths.{Lengths}
 
@@ -32,9 +30,9 @@ abbrev pub junk_room : ℕ
 junk_room = 1114112
 
 -- a length as needed, or as given; at most the room that there is
-abbrev pub lent_by : Lent → ℕ → ℕ → ℕ
-lent_by Needed needed room = min needed room
-lent_by (Given n) needed room = min n room
+abbrev pub lent_by : Option ℕ → ℕ → ℕ → ℕ
+lent_by None needed room = min needed room
+lent_by (Some n) needed room = min n room
 
 -- ---- what is needed
 

@@ -9,6 +9,7 @@ use orders::{Command, Order};
 use slots::Kind;
 
 // The most frames that a call with this poll limit sends.
+#[tactic(auto, unfolding(crate::specs::Lengths::frames_for))]
 fn frames_for(c: Command, limit: usize) -> usize
     requires { limit ≤ 1000 }
     ensures { (result ≡ frames_for c limit) × (result ≤ 17034) }
@@ -19,28 +20,23 @@ fn frames_for(c: Command, limit: usize) -> usize
         Command::Get => steps::bound_of(Kind::Get, limit),
         Command::Wipe => steps::bound_of(Kind::Wipe, limit),
         Command::Raw => 1,
-        Command::Send => 0,
-        Command::End => 0,
-        Command::Pin => 0,
-        Command::Cut => 0,
-        Command::Part => 0,
-        Command::Sum => 0,
+        _ => 0,
     }
 }
 
 // Six bytes for each frame; a limit over 1,000 counts as 1,000.
+#[tactic(auto, unfolding(crate::specs::Lengths::log_for))]
 fn log_for(c: Command, limit: usize) -> usize
     ensures { result ≡ log_for c limit }
 {
-    6 * frames_for(c, numbers::lesser(limit, 1000))
+    6 * frames_for(c, limit.min(1000))
 }
 
 // The junk that a cut takes: for both buffers and the array, which has `size` bytes.
 fn junk_for(size: usize) -> usize
     ensures { (result ≡ junk_for (part_of size) size) × (result ≤ junk_room) }
 {
-    let p = geometry::part_of(size);
-    match p {
+    match geometry::part_of(size) {
         Some(g) => 2 * g.size + size,
         None => 0,
     }
@@ -50,8 +46,7 @@ fn junk_for(size: usize) -> usize
 fn buffer_for(size: usize) -> usize
     ensures { result ≡ buffer_for (part_of size) }
 {
-    let p = geometry::part_of(size);
-    match p {
+    match geometry::part_of(size) {
         Some(g) => 8 * g.size - 3,
         None => 0,
     }
@@ -80,41 +75,28 @@ fn junk_alone(n: usize) -> Lengths
 }
 
 // A call's junk and log, and `out` bytes for a get buffer or reply.
+#[tactic(auto, unfolding(crate::specs::Lengths::call_lengths))]
 fn call_lengths(o: Order, size: usize, out: usize) -> Lengths
     ensures { (result ≡ call_lengths o size out) × (result.junk ≤ junk_room) × (result.log ≤ log_room) × (result.out ≡ out) }
 {
-    let c = o.command;
-    let j = o.junk;
-    let l = o.log;
     Lengths {
-        junk: room::lent(j, junk_for(size), JUNK_ROOM),
-        log: room::lent(l, log_for(c, o.limit), LOG_ROOM),
-        out: out,
+        junk: room::lent(o.junk, junk_for(size), JUNK_ROOM),
+        log: room::lent(o.log, log_for(o.command, o.limit), LOG_ROOM),
+        out,
     }
 }
 
 // What the step lends: an array of `size` bytes is the chip's, and HEX has `count` bytes.
+#[tactic(auto, unfolding(crate::specs::Lengths::lengths_by))]
 pub fn lengths(o: Order, size: usize, count: usize) -> Lengths
     ensures { (result ≡ lengths_of o size count) × (result.junk ≤ junk_room) × (result.log ≤ log_room) × (result.out ≤ out_room) }
 {
-    let c = o.command;
-    match c {
-        Command::Put => call_lengths(o, size, 0),
-        Command::Patch => call_lengths(o, size, 0),
-        Command::Get => {
-            let b = o.buffer;
-            call_lengths(o, size, room::lent(b, buffer_for(size), OUT_ROOM))
-        }
-        Command::Wipe => call_lengths(o, size, 0),
-        Command::Raw => {
-            let r = o.reply;
-            call_lengths(o, size, room::lent(r, count, OUT_ROOM))
-        }
-        Command::Send => reply_alone(numbers::lesser(count, OUT_ROOM)),
-        Command::End => reply_alone(0),
-        Command::Pin => reply_alone(0),
+    match o.command {
+        Command::Put | Command::Patch | Command::Wipe => call_lengths(o, size, 0),
+        Command::Get => call_lengths(o, size, room::lent(o.buffer, buffer_for(size), OUT_ROOM)),
+        Command::Raw => call_lengths(o, size, room::lent(o.reply, count, OUT_ROOM)),
+        Command::Send => reply_alone(count.min(OUT_ROOM)),
         Command::Cut => junk_alone(junk_for(size)),
-        Command::Part => reply_alone(0),
-        Command::Sum => reply_alone(0),
+        _ => reply_alone(0),
     }
 }

@@ -2,8 +2,6 @@
 ghost use Rattle.std.specs.Prelude.{◌≡◌, ◌≤◌};
 ghost use Rattle.lengths.specs.Lengths.{lent_by};
 
-use orders::Lent;
-
 // For a log: six bytes for each of the most frames that a call sends.
 pub const LOG_ROOM: usize = 102204;
 // For a get buffer or a reply.
@@ -19,12 +17,9 @@ pub struct Lengths {
     pub out: usize,
 }
 
-// A length as needed, or as given; at most `room`.
-pub fn lent(l: Lent, needed: usize, room: usize) -> usize
-    ensures { (result ≡ lent_by l needed room) × (result ≤ room) }
+// A length as given, else as needed; at most `room`.
+pub fn lent(given: Option<usize>, needed: usize, room: usize) -> usize
+    ensures { (result ≡ lent_by given needed room) × (result ≤ room) }
 {
-    match l {
-        Lent::Needed => numbers::lesser(needed, room),
-        Lent::Given(n) => numbers::lesser(n, room),
-    }
+    given.unwrap_or(needed).min(room)
 }

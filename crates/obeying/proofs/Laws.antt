@@ -1,7 +1,7 @@
 -- Laws of a line's work. What is lent is the first part of a buffer, and comes back as the first part; so the desk is what the step left. What a
 -- fresh part is depends on the array's length alone.
 -- Assumes nothing.
-use Rattle.std.specs.Prelude.{Option, Some}
+use Rattle.std.specs.Prelude.{Option, Some, Result, Ok, Err}
 use mathlib.Core.Path.{◌≡◌, refl, sym, ap, subst, ◌∙◌}
 use mathlib.Core.Logic.{inl, inr}
 use mathlib.Core.List.{List, [], ◌∷◌, ◌++◌}
@@ -24,8 +24,6 @@ use Rattle.words.specs.declared.Command.{Command}
 use Rattle.words.specs.declared.Command.TheVariants as Command
 use Rattle.orders.specs.declared.Order.{Order}
 use Rattle.faults.specs.declared.Fault.{Fault}
-use Rattle.orders.specs.declared.Reading.{Reading}
-use Rattle.orders.specs.declared.Reading.TheVariants as Reading
 use Rattle.words.specs.Words.{is_call}
 use Rattle.operands.specs.Operands.{first_of}
 use Rattle.words.specs.Words as Words
@@ -223,7 +221,7 @@ part-done o line s {r} d {text} {block} {array} {log} {out} {text'} e f k h q =
 -- ---- a line
 
 -- an order, on the desk with a line more
-pub order_done : {o : Order} (line : List ℕ) {d : Desk} (e : Desk) (s t : Session) {r : Session} {text block array log out text' : List ℕ} → Reading.Order o ≡ read_of line → d ≡ counted e
+pub order_done : {o : Order} (line : List ℕ) {d : Desk} (e : Desk) (s t : Session) {r : Session} {text block array log out text' : List ℕ} → Ok o ≡ read_of line → d ≡ counted e
     → t.output ≡ s.output → Obeyed (obeyed o line d) (shown o line d) t text r block array log out text'
     → Obeyed (after_line line e) (line_text line e) s text r block array log out text'
 unfolding after_line line_text
@@ -234,7 +232,7 @@ order_done {o} line {d} e s t {r} {text} {block} {array} {log} {out} {text'} h k
     }
 
 -- a fault
-pub fault_done : {f : Fault} (line : List ℕ) (e : Desk) (s t : Session) {r : Session} {text block array log out text' : List ℕ} → Reading.Fault f ≡ read_of line
+pub fault_done : {f : Fault} (line : List ℕ) (e : Desk) (s t : Session) {r : Session} {text block array log out text' : List ℕ} → Err f ≡ read_of line
     → desk_of t block array log out ≡ counted e → t.output ≡ s.output → r ≡ with_output t r.output
     → Printed (fault_text t.lines (text_of f)) t.output text r.output text'
     → Obeyed (after_line line e) (line_text line e) s text r block array log out text'

@@ -1,14 +1,13 @@
 -- What a line does, and what it prints (docs/OUTLINE.md).
 -- Assumes nothing.
-use Rattle.std.specs.Prelude.{Bool, true, false, cond, List, [], ℕ, length}
+use Rattle.std.specs.Prelude.{Bool, true, false, cond, List, [], ℕ, length, Result, Ok, Err}
 use Rattle.text.specs.Hexadecimal.{bytes_of}
 use Rattle.words.specs.declared.Command.{Command}
 use Rattle.words.specs.declared.Command.TheVariants.{Put, Patch, Get, Wipe, Raw, Send, End, Pin, Cut, Part, Sum}
 use Rattle.orders.specs.declared.Order.{Order}
-use Rattle.orders.specs.declared.Reading.{Reading}
-use Rattle.orders.specs.declared.Reading.TheVariants as Reading
 use Rattle.words.specs.Words.{is_call, part_of}
 use Rattle.orders.specs.Lines.{read_of}
+use Rattle.faults.specs.declared.Fault.{Fault}
 use Rattle.faults.specs.Messages.{text_of}
 use Rattle.lines.specs.Texts.{answer_text, fault_text}
 use Rattle.printing.specs.Texts.{call_text, sum_line}
@@ -87,14 +86,14 @@ shown o line d =
 -- ---- a line
 
 -- the desk after a line that says this
-abbrev pub after_reading : Reading → List ℕ → Desk → Desk
-after_reading (Reading.Order o) line d = obeyed o line d
-after_reading (Reading.Fault f) line d = d
+abbrev pub after_reading : Result Order Fault → List ℕ → Desk → Desk
+after_reading (Ok o) line d = obeyed o line d
+after_reading (Err f) line d = d
 
 -- what it prints: the order's text, or what is wrong
-abbrev pub reading_text : Reading → List ℕ → Desk → List ℕ
-reading_text (Reading.Order o) line d = shown o line d
-reading_text (Reading.Fault f) line d = fault_text d.lines (text_of f)
+abbrev pub reading_text : Result Order Fault → List ℕ → Desk → List ℕ
+reading_text (Ok o) line d = shown o line d
+reading_text (Err f) line d = fault_text d.lines (text_of f)
 
 -- the desk after a line, which counts whatever it says
 unfoldable pub after_line : List ℕ → Desk → Desk

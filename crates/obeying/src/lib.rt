@@ -19,7 +19,7 @@ ghost use Rattle.obeying.specs.Promises.{Roomy, Obeyed, Obeys, Ran, after_step, 
 
 use acting::Totals;
 use lines::count;
-use orders::{Command, Fault, Order, Reading};
+use orders::{Command, Fault, Order};
 use printing::Output;
 use std::io::Stdout;
 
@@ -297,7 +297,7 @@ pub fn act_on(stdout: Stdout, s: Session, line: &[u8], room: &mut Room) -> Sessi
 {
     let t = next_line(s);
     match orders::read(line) {
-        Reading::Order(o) => obey(stdout, o, t, line, room),
-        Reading::Fault(f) => tell(stdout, t, f, &mut room.text),
+        Ok(o) => obey(stdout, o, t, line, room),
+        Err(f) => tell(stdout, t, f, &mut room.text),
     }
 }

@@ -1,5 +1,6 @@
 -- The bounds of the operands. A word lies in the line, and a number is one of those that its test lets pass: so each step keeps the bounds.
 -- Assumes nothing.
+use Rattle.std.specs.Prelude.{Result, Ok, Err}
 use mathlib.Core.Path.{refl}
 use mathlib.Core.Bool.{Bool, true, false, cond}
 use mathlib.Core.List.{List, [], ◌∷◌}
@@ -23,30 +24,24 @@ use Rattle.faults.specs.declared.Fault.{Fault}
 use Rattle.faults.specs.declared.Fault.TheVariants as Fault
 use Rattle.word_values.specs.declared.First.{First}
 use Rattle.word_values.specs.declared.First.TheVariants as First
-use Rattle.word_values.specs.declared.Numbered.{Numbered}
-use Rattle.word_values.specs.declared.Numbered.TheVariants as Numbered
-use Rattle.word_values.specs.declared.Tested.{Tested}
-use Rattle.word_values.specs.declared.Tested.TheVariants as Tested
 use Rattle.operands.specs.declared.Taken.{Taken}
-use Rattle.operands.specs.declared.Step.{Step}
-use Rattle.operands.specs.declared.Step.TheVariants as Step
 use Rattle.words.proofs.Spans.{word-within}
 
 -- a fact of both arms holds of the one that a test picks
-pick_step : (n : ℕ) (k : First) (b : Bool) (s t : Step) → SoundStep n k s → SoundStep n k t → SoundStep n k (cond b s t)
+pick_step : (n : ℕ) (k : First) (b : Bool) (s t : Result Taken Fault) → SoundStep n k s → SoundStep n k t → SoundStep n k (cond b s t)
 pick_step n k true s t p q = p
 pick_step n k false s t p q = q
 
 -- ---- numbers
-any_slot : (n : Numbered) → SoundNumber First.Slot n
-any_slot (Numbered.Value v) = tt
-any_slot (Numbered.Fault f) = tt
+any_slot : (n : Result ℕ Fault) → SoundNumber First.Slot n
+any_slot (Ok v) = tt
+any_slot (Err f) = tt
 
-reduced-seed : (n : Numbered) → SoundNumber First.Seed (reduced n)
-reduced-seed (Numbered.Value v) = omega arith
-reduced-seed (Numbered.Fault f) = tt
+reduced-seed : (n : Result ℕ Fault) → SoundNumber First.Seed (reduced n)
+reduced-seed (Ok v) = omega arith
+reduced-seed (Err f) = tt
 
-pick_number : (k : First) (b : Bool) (m n : Numbered) → SoundNumber k m → SoundNumber k n → SoundNumber k (cond b m n)
+pick_number : (k : First) (b : Bool) (m n : Result ℕ Fault) → SoundNumber k m → SoundNumber k n → SoundNumber k (cond b m n)
 pick_number k true m n p q = p
 pick_number k false m n p q = q
 
@@ -54,12 +49,12 @@ pick_number k false m n p q = q
 table_sound : (k : First) (word : List ℕ) (rs : List Row) (f : Fault) → ((n : ℕ) → Among n rs → Ranged k n) → SoundNumber k (in_table word rs f)
 table_sound k word [] f h = tt
 table_sound k word (r ∷ rs) f h =
-    pick_number k (same word r.word) (Numbered.Value r.number) (in_table word rs f) (h r.number (inl refl))
+    pick_number k (same word r.word) (Ok r.number) (in_table word rs f) (h r.number (inl refl))
     (table_sound k word rs f (λ n m. h n (inr m)))
 
 given-sound : (k : First) (word : List ℕ) (name : Name) (rs : List Row) (f : Fault) → ((n : ℕ) → Among n rs → Ranged k n) → SoundNumber k (if_given word name (in_table word rs f))
 given-sound k word name rs f h =
-    pick_number k (eqb (length word) 0) (Numbered.Fault (Fault.Missing name)) (in_table word rs f) tt (table_sound k word rs f h)
+    pick_number k (eqb (length word) 0) (Err (Fault.Missing name)) (in_table word rs f) tt (table_sound k word rs f h)
 
 level_most : (n : ℕ) → Among n levels → n ≤ 1
 level_most n (inl e) = omega arith
@@ -75,9 +70,9 @@ number-sound word First.Part = given-sound First.Part word Name.Part parts Fault
 number-sound word First.Nothing = refl
 
 -- ---- the operands
-numbered-sound : (n at : ℕ) (k : First) (v : Numbered) → SoundNumber k v → SoundStep n k (with_number_to at v)
-numbered-sound n at k (Numbered.Value v) h = ((zero-le, zero-le), h)
-numbered-sound n at k (Numbered.Fault f) h = tt
+numbered-sound : (n at : ℕ) (k : First) (v : Result ℕ Fault) → SoundNumber k v → SoundStep n k (with_number_to at v)
+numbered-sound n at k (Ok v) h = ((zero-le, zero-le), h)
+numbered-sound n at k (Err f) h = tt
 
 numbered_in : (xs : List ℕ) (k : First) (w : Span) → SoundStep (length xs) k (number_in xs k w)
 numbered_in xs k w = numbered-sound (length xs) w.end k (number_as (part_of xs w) k) (number-sound (part_of xs w) k)
@@ -90,31 +85,31 @@ first-sound xs at First.Level = numbered_in xs First.Level (word_from xs at)
 first-sound xs at First.Part = numbered_in xs First.Part (word_from xs at)
 first-sound xs at First.Nothing = ((zero-le, zero-le), refl)
 
-placed-sound : (n : ℕ) (k : First) (t : Taken) (at : ℕ) (v : Numbered) → SoundTaken n k t → SoundStep n k (with_place_to t at v)
-placed-sound n k t at (Numbered.Value v) h = h
-placed-sound n k t at (Numbered.Fault f) h = tt
+placed-sound : (n : ℕ) (k : First) (t : Taken) (at : ℕ) (v : Result ℕ Fault) → SoundTaken n k t → SoundStep n k (with_place_to t at v)
+placed-sound n k t at (Ok v) h = h
+placed-sound n k t at (Err f) h = tt
 
-place-sound : (xs : List ℕ) (c : Command) (k : First) (s : Step) → SoundStep (length xs) k s → SoundStep (length xs) k (then_place xs c s)
+place-sound : (xs : List ℕ) (c : Command) (k : First) (s : Result Taken Fault) → SoundStep (length xs) k s → SoundStep (length xs) k (then_place xs c s)
 unfolding take_place
-place-sound xs c k (Step.More t) h =
+place-sound xs c k (Ok t) h =
     let w = word_from xs t.at in
-    pick_step (length xs) k (takes_place c) (with_place_to t w.end (decimal_of (part_of xs w) Name.Place)) (Step.More t)
+    pick_step (length xs) k (takes_place c) (with_place_to t w.end (decimal_of (part_of xs w) Name.Place)) (Ok t)
     (placed-sound (length xs) k t w.end (decimal_of (part_of xs w) Name.Place) h) h
-place-sound xs c k (Step.Fault f) h = tt
+place-sound xs c k (Err f) h = tt
 
-hexed_sound : (n : ℕ) (k : First) (t : Taken) (w : Span) (h : Tested) → Within n w → SoundTaken n k t → SoundStep n k (with_bytes_to t w h)
-hexed_sound n k t w Tested.Fine i h = (i, h.1)
-hexed_sound n k t w (Tested.Fault f) i h = tt
+hexed_sound : (n : ℕ) (k : First) (t : Taken) (w : Span) (h : Result Unit Fault) → Within n w → SoundTaken n k t → SoundStep n k (with_bytes_to t w h)
+hexed_sound n k t w (Ok tt) i h = (i, h.1)
+hexed_sound n k t w (Err f) i h = tt
 
-bytes-sound : (xs : List ℕ) (c : Command) (k : First) (s : Step) → SoundStep (length xs) k s → SoundStep (length xs) k (then_bytes xs c s)
+bytes-sound : (xs : List ℕ) (c : Command) (k : First) (s : Result Taken Fault) → SoundStep (length xs) k s → SoundStep (length xs) k (then_bytes xs c s)
 unfolding take_bytes
-bytes-sound xs c k (Step.More t) h =
+bytes-sound xs c k (Ok t) h =
     let w = word_from xs t.at in
     let v = with_bytes_to t w (test_hex (part_of xs w) Name.Hex) in
-    pick_step (length xs) k (takes_bytes c) (cond (eqb w.start w.end) (Step.Fault (Fault.Missing Name.Hex)) v) (Step.More t)
-    (pick_step (length xs) k (eqb w.start w.end) (Step.Fault (Fault.Missing Name.Hex)) v tt
+    pick_step (length xs) k (takes_bytes c) (cond (eqb w.start w.end) (Err (Fault.Missing Name.Hex)) v) (Ok t)
+    (pick_step (length xs) k (eqb w.start w.end) (Err (Fault.Missing Name.Hex)) v tt
     (hexed_sound (length xs) k t w (test_hex (part_of xs w) Name.Hex) (word-within xs t.at) h)) h
-bytes-sound xs c k (Step.Fault f) h = tt
+bytes-sound xs c k (Err f) h = tt
 
 pub operands_sound : (xs : List ℕ) (c : Command) (at : ℕ) → SoundStep (length xs) (first_of c) (operands_of xs c at)
 unfolding operands_of

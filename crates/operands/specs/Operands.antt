@@ -1,22 +1,17 @@
 -- The words behind a command that have a place (docs/OUTLINE.md): its number, PLACE and HEX, taken left to right. The first fault stays.
 -- Assumes nothing.
-use Rattle.std.specs.Prelude.{ℕ, Bool, true, false, cond, List, eqb}
+use Rattle.std.specs.Prelude.{ℕ, Bool, true, false, cond, List, eqb, Result, Ok, Err}
 use Rattle.words.specs.Words.{word_from, part_of, nowhere}
 use Rattle.words.specs.declared.Command.{Command}
 use Rattle.words.specs.declared.Command.TheVariants as Command
 use Rattle.words.specs.declared.Span.{Span}
 use Rattle.faults.specs.declared.Name.TheVariants as Name
+use Rattle.faults.specs.declared.Fault.{Fault}
 use Rattle.faults.specs.declared.Fault.TheVariants as Fault
 use Rattle.word_values.specs.Values.{decimal_of, number_as, test_hex}
 use Rattle.word_values.specs.declared.First.{First}
 use Rattle.word_values.specs.declared.First.TheVariants as First
-use Rattle.word_values.specs.declared.Numbered.{Numbered}
-use Rattle.word_values.specs.declared.Numbered.TheVariants as Numbered
-use Rattle.word_values.specs.declared.Tested.{Tested}
-use Rattle.word_values.specs.declared.Tested.TheVariants as Tested
 use Rattle.operands.specs.declared.Taken.{Taken}
-use Rattle.operands.specs.declared.Step.{Step}
-use Rattle.operands.specs.declared.Step.TheVariants as Step
 
 -- ---- what each command takes
 
@@ -65,12 +60,12 @@ takes_bytes Command.Sum = false
 -- ---- the words in their places
 
 -- the operands with the number, read up to index at
-abbrev pub with_number_to : ℕ → Numbered → Step
-with_number_to at (Numbered.Value v) = Step.More (record { number = v; place = 0; bytes = nowhere; at = at })
-with_number_to at (Numbered.Fault f) = Step.Fault f
+abbrev pub with_number_to : ℕ → Result ℕ Fault → Result Taken Fault
+with_number_to at (Ok v) = Ok (record { number = v; place = 0; bytes = nowhere; at = at })
+with_number_to at (Err f) = Err f
 
 -- the number that the word w is
-abbrev pub number_in : List ℕ → First → Span → Step
+abbrev pub number_in : List ℕ → First → Span → Result Taken Fault
 number_in xs k w = with_number_to w.end (number_as (part_of xs w) k)
 
 -- the command has no number
@@ -82,46 +77,46 @@ is_nothing First.Part = false
 is_nothing First.Nothing = true
 
 -- the number, where the command has one
-unfoldable pub take_first : List ℕ → ℕ → First → Step
+unfoldable pub take_first : List ℕ → ℕ → First → Result Taken Fault
 take_first xs at k =
-    cond (is_nothing k) (Step.More (record { number = 0; place = 0; bytes = nowhere; at = at })) (number_in xs k (word_from xs at))
+    cond (is_nothing k) (Ok (record { number = 0; place = 0; bytes = nowhere; at = at })) (number_in xs k (word_from xs at))
 
 -- the operands with PLACE, read up to index at
-abbrev pub with_place_to : Taken → ℕ → Numbered → Step
-with_place_to t at (Numbered.Value v) = Step.More (record { number = t.number; place = v; bytes = t.bytes; at = at })
-with_place_to t at (Numbered.Fault f) = Step.Fault f
+abbrev pub with_place_to : Taken → ℕ → Result ℕ Fault → Result Taken Fault
+with_place_to t at (Ok v) = Ok (record { number = t.number; place = v; bytes = t.bytes; at = at })
+with_place_to t at (Err f) = Err f
 
 -- the PLACE that the word w is
-abbrev pub place_in : List ℕ → Taken → Span → Step
+abbrev pub place_in : List ℕ → Taken → Span → Result Taken Fault
 place_in xs t w = with_place_to t w.end (decimal_of (part_of xs w) Name.Place)
 
 -- PLACE, where the command has it
-unfoldable pub take_place : List ℕ → Command → Taken → Step
-take_place xs c t = cond (takes_place c) (place_in xs t (word_from xs t.at)) (Step.More t)
+unfoldable pub take_place : List ℕ → Command → Taken → Result Taken Fault
+take_place xs c t = cond (takes_place c) (place_in xs t (word_from xs t.at)) (Ok t)
 
 -- the operands with HEX, read up to its end
-abbrev pub with_bytes_to : Taken → Span → Tested → Step
-with_bytes_to t w Tested.Fine = Step.More (record { number = t.number; place = t.place; bytes = w; at = w.end })
-with_bytes_to t w (Tested.Fault f) = Step.Fault f
+abbrev pub with_bytes_to : Taken → Span → Result Unit Fault → Result Taken Fault
+with_bytes_to t w (Ok tt) = Ok (record { number = t.number; place = t.place; bytes = w; at = w.end })
+with_bytes_to t w (Err f) = Err f
 
 -- the HEX that the word w is
-abbrev pub bytes_in : List ℕ → Taken → Span → Step
-bytes_in xs t w = cond (eqb w.start w.end) (Step.Fault (Fault.Missing Name.Hex)) (with_bytes_to t w (test_hex (part_of xs w) Name.Hex))
+abbrev pub bytes_in : List ℕ → Taken → Span → Result Taken Fault
+bytes_in xs t w = cond (eqb w.start w.end) (Err (Fault.Missing Name.Hex)) (with_bytes_to t w (test_hex (part_of xs w) Name.Hex))
 
 -- HEX, where the command has it
-unfoldable pub take_bytes : List ℕ → Command → Taken → Step
-take_bytes xs c t = cond (takes_bytes c) (bytes_in xs t (word_from xs t.at)) (Step.More t)
+unfoldable pub take_bytes : List ℕ → Command → Taken → Result Taken Fault
+take_bytes xs c t = cond (takes_bytes c) (bytes_in xs t (word_from xs t.at)) (Ok t)
 
 -- PLACE, after operands without a fault
-abbrev pub then_place : List ℕ → Command → Step → Step
-then_place xs c (Step.More t) = take_place xs c t
-then_place xs c (Step.Fault f) = Step.Fault f
+abbrev pub then_place : List ℕ → Command → Result Taken Fault → Result Taken Fault
+then_place xs c (Ok t) = take_place xs c t
+then_place xs c (Err f) = Err f
 
 -- HEX, after operands without a fault
-abbrev pub then_bytes : List ℕ → Command → Step → Step
-then_bytes xs c (Step.More t) = take_bytes xs c t
-then_bytes xs c (Step.Fault f) = Step.Fault f
+abbrev pub then_bytes : List ℕ → Command → Result Taken Fault → Result Taken Fault
+then_bytes xs c (Ok t) = take_bytes xs c t
+then_bytes xs c (Err f) = Err f
 
 -- the words behind the command, which ends before index at
-unfoldable pub operands_of : List ℕ → Command → ℕ → Step
+unfoldable pub operands_of : List ℕ → Command → ℕ → Result Taken Fault
 operands_of xs c at = then_bytes xs c (then_place xs c (take_first xs at (first_of c)))

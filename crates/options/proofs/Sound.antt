@@ -1,5 +1,8 @@
 -- The bounds of the options. A value lies in its word, and one over its room is a fault: so each word keeps the bounds.
 -- Assumes nothing.
+use Rattle.std.specs.Prelude.{Option, Some, None, Result, Ok, Err}
+use Rattle.std.specs.Option.{is_some}
+use Rattle.dates.specs.declared.Date.{Date}
 use mathlib.Core.Path.{◌≡◌, refl}
 use mathlib.Core.Bool.{Bool, true, false, cond}
 use mathlib.Core.List.{List}
@@ -9,8 +12,8 @@ use lib.ListN.{length}
 use lib.Dec.{ltb}
 use borrow.Author.Tests.{ltb-false}
 use Rattle.slices.proofs.Laws.{part_length}
-use Rattle.text.specs.declared.values.Number.{Number}
-use Rattle.text.specs.declared.values.Number.TheVariants as Number
+use Rattle.text.specs.declared.values.NumberError.{NumberError}
+use Rattle.text.specs.declared.values.NumberError.TheVariants as NumberError
 use Rattle.text.specs.Decimal.{number_of}
 use Rattle.words.specs.Words.{word_from, part_of, is_call, key_of}
 use Rattle.word_values.specs.Values.{test_hex}
@@ -26,19 +29,11 @@ use Rattle.words.specs.declared.Key.TheVariants as Key
 use Rattle.faults.specs.declared.Name.TheVariants as Name
 use Rattle.faults.specs.declared.Fault.{Fault}
 use Rattle.faults.specs.declared.Fault.TheVariants as Fault
-use Rattle.words.specs.declared.Keyed.{Keyed}
-use Rattle.words.specs.declared.Keyed.TheVariants as Keyed
-use Rattle.word_values.specs.declared.Tested.{Tested}
-use Rattle.word_values.specs.declared.Tested.TheVariants as Tested
-use Rattle.word_values.specs.declared.Dated.{Dated}
-use Rattle.word_values.specs.declared.Dated.TheVariants as Dated
 use Rattle.settings.specs.declared.Settings.{Settings}
-use Rattle.options.specs.declared.Choice.{Choice}
-use Rattle.options.specs.declared.Choice.TheVariants as Choice
 use Rattle.words.proofs.Spans.{word-within, key_within}
 
 -- a fact of both arms holds of the one that a test picks
-pick_choice : (n : ℕ) (b : Bool) (s t : Choice) → SoundChoice n s → SoundChoice n t → SoundChoice n (cond b s t)
+pick_choice : (n : ℕ) (b : Bool) (s t : Result Settings Fault) → SoundChoice n s → SoundChoice n t → SoundChoice n (cond b s t)
 pick_choice n true s t p q = p
 pick_choice n false s t p q = q
 
@@ -55,22 +50,22 @@ set-sound n s Key.First v e h = h
 set-sound n s Key.Last v e h = h
 set-sound n s Key.Today v e h = h
 
-given-sound : (n : ℕ) (s : Settings) (k : Key) (v : Number) → SoundSettings n s → SoundChoice n (number_taken s k v)
-given-sound n s k (Number.Value v) h = go (ltb (room_of k) v) refl
+given-sound : (n : ℕ) (s : Settings) (k : Key) (v : Result ℕ NumberError) → SoundSettings n s → SoundChoice n (number_taken s k v)
+given-sound n s k (Ok v) h = go (ltb (room_of k) v) refl
   where
-    go : (b : Bool) → ltb (room_of k) v ≡ b → SoundChoice n (cond b (Choice.Fault (Fault.Over k)) (Choice.More (with_number s k v)))
+    go : (b : Bool) → ltb (room_of k) v ≡ b → SoundChoice n (cond b (Err (Fault.Over k)) (Ok (with_number s k v)))
     go true e = tt
     go false e = set-sound n s k v (ltb-false (room_of k) v e) h
-given-sound n s k Number.NotNumber h = tt
-given-sound n s k Number.TooLarge h = tt
+given-sound n s k (Err NumberError.NotNumber) h = tt
+given-sound n s k (Err NumberError.TooLarge) h = tt
 
-date-sound : (n : ℕ) (s : Settings) (k : Key) (d : Dated) → SoundSettings n s → SoundChoice n (date_taken s k d)
-date-sound n s k (Dated.Value x) h = record { script = h.script; junk = h.junk; log = h.log; buffer = h.buffer; reply = h.reply }
-date-sound n s k (Dated.Fault f) h = tt
+date-sound : (n : ℕ) (s : Settings) (k : Key) (d : Result Date Fault) → SoundSettings n s → SoundChoice n (date_taken s k d)
+date-sound n s k (Ok x) h = record { script = h.script; junk = h.junk; log = h.log; buffer = h.buffer; reply = h.reply }
+date-sound n s k (Err f) h = tt
 
-script-sound : (n : ℕ) (s : Settings) (w : Span) (h : Tested) → Within n w → SoundSettings n s → SoundChoice n (script_taken s w h)
-script-sound n s w Tested.Fine i h = record { script = i; junk = h.junk; log = h.log; buffer = h.buffer; reply = h.reply }
-script-sound n s w (Tested.Fault f) i h = tt
+script-sound : (n : ℕ) (s : Settings) (w : Span) (h : Result Unit Fault) → Within n w → SoundSettings n s → SoundChoice n (script_taken s w h)
+script-sound n s w (Ok tt) i h = record { script = i; junk = h.junk; log = h.log; buffer = h.buffer; reply = h.reply }
+script-sound n s w (Err f) i h = tt
 
 value_sound : (xs : List ℕ) (s : Settings) (k : Key) (w : Span) → Within (length xs) w → SoundSettings (length xs) s
     → SoundChoice (length xs) (take_value xs s k w)
@@ -80,7 +75,7 @@ value_sound xs s k w i h =
     let a = script_taken s w (test_hex (part_of xs w) (Name.Option Key.Script)) in
     let b = date_taken s k (date_of (part_of xs w) (Name.Option k)) in
     let d = number_taken s k (number_of (part_of xs w)) in
-    pick_choice n (is_given s k) (Choice.Fault Fault.Twice) (cond (is_script k) a (cond (is_day k) b d)) tt
+    pick_choice n (is_given s k) (Err Fault.Twice) (cond (is_script k) a (cond (is_day k) b d)) tt
     (pick_choice n (is_script k) a (cond (is_day k) b d)
     (script-sound n s w (test_hex (part_of xs w) (Name.Option Key.Script)) i h)
     (pick_choice n (is_day k) b d (date-sound n s k (date_of (part_of xs w) (Name.Option k)) h) (given-sound n s k (number_of (part_of xs w)) h)))
@@ -90,20 +85,20 @@ option_sound : (xs : List ℕ) (s : Settings) (w : Span) → Within (length xs) 
 unfolding take_option
 option_sound xs s w i h = go (key_of (part_of xs w)) (key_within (part_of xs w))
   where
-    go : (k : Keyed) → SoundKeyed (length (part_of xs w)) k → SoundChoice (length xs) (key_taken xs s w k)
-    go (Keyed.Known k j) q =
+    go : (k : Option (Key × ℕ)) → SoundKeyed (length (part_of xs w)) k → SoundChoice (length xs) (key_taken xs s w k)
+    go (Some (k, j)) q =
         let l : length (part_of xs w) ≡ w.end - w.start = part_length w.start w.end xs i.0 i.1 in
         value_sound xs s k (record { start = w.start + j; end = w.end }) (omega arith, i.1) h
-    go Keyed.Unknown q = tt
+    go None q = tt
 
-taken_sound : (xs : List ℕ) (c : Command) (s : Choice) (w : Span) → Within (length xs) w → SoundChoice (length xs) s
+taken_sound : (xs : List ℕ) (c : Command) (s : Result Settings Fault) (w : Span) → Within (length xs) w → SoundChoice (length xs) s
     → SoundChoice (length xs) (take_word xs c s w)
 unfolding take_word
-taken_sound xs c (Choice.More s) w i h =
-    pick_choice (length xs) (is_call c) (take_option xs s w) (Choice.Fault Fault.TooManyWords) (option_sound xs s w i h) tt
-taken_sound xs c (Choice.Fault f) w i h = tt
+taken_sound xs c (Ok s) w i h =
+    pick_choice (length xs) (is_call c) (take_option xs s w) (Err Fault.TooManyWords) (option_sound xs s w i h) tt
+taken_sound xs c (Err f) w i h = tt
 
-words_sound : (n : ℕ) (xs : List ℕ) (c : Command) (s : Choice) (w : Span) → Within (length xs) w → SoundChoice (length xs) s
+words_sound : (n : ℕ) (xs : List ℕ) (c : Command) (s : Result Settings Fault) (w : Span) → Within (length xs) w → SoundChoice (length xs) s
     → SoundChoice (length xs) (take_words n xs c s w)
 unfolding take_words
 words_sound zero xs c s w i h = h
@@ -118,9 +113,9 @@ pair_sound n s true false h = tt
 pair_sound n s false true h = tt
 pair_sound n s false false h = h
 
-paired-sound : (n : ℕ) (p : Choice) → SoundChoice n p → SoundChoice n (paired p)
-paired-sound n (Choice.More s) h = pair_sound n s s.days.first.given s.days.last.given h
-paired-sound n (Choice.Fault f) h = tt
+paired-sound : (n : ℕ) (p : Result Settings Fault) → SoundChoice n p → SoundChoice n (paired p)
+paired-sound n (Ok s) h = pair_sound n s (is_some s.days.first) (is_some s.days.last) h
+paired-sound n (Err f) h = tt
 
 pub options_sound : (xs : List ℕ) (c : Command) (at : ℕ) → SoundChoice (length xs) (options_of xs c at)
 unfolding words_of options_of

@@ -16,34 +16,32 @@ use Rattle.words.specs.Bounds.{Within}
 use Rattle.words.specs.declared.Command.{Command}
 use Rattle.words.specs.declared.Span.{Span}
 use Rattle.settings.specs.declared.Settings.{Settings}
-use Rattle.options.specs.declared.Choice.{Choice}
-use Rattle.options.specs.declared.Choice.TheVariants as Choice
 use Rattle.words.proofs.Spans.{word-within, word_on}
-use mathlib.Core.Path.{◌≡◌, sym, ap, ◌∙◌}
-use Prim.Native.Nat.{ℕ}
-use Rattle.words.specs.Words.{word_from, is_call}
-use Rattle.options.specs.Options.{take_option, take_word}
-use Rattle.faults.specs.declared.Fault.TheVariants as Fault
-
--- a word behind the operands
-pub word_more : (xs : List ℕ) (c : Command) (s : Choice) (t : Settings) (w : Span) (b : Bool) (r : Choice) → s ≡ Choice.More t → is_call c ≡ b
-    → r ≡ cond b (take_option xs t w) (Choice.Fault Fault.TooManyWords) → r ≡ take_word xs c s w
-unfolding take_word
-word_more xs c s t w b r p e q =
-    q ∙ ap (λ (d : Bool). cond d (take_option xs t w) (Choice.Fault Fault.TooManyWords)) (sym e) ∙ ap (λ (k : Choice). take_word xs c k w) (sym p)
+use Rattle.faults.specs.declared.Fault.{Fault}
+use Rattle.std.specs.Prelude.{Result, Ok, Err}
 
 module _ (xs : List ℕ) (c : Command) where
-  turn : (n : ℕ) (s : Choice) (w : Span) → w.start < w.end
+  turn : (n : ℕ) (s : Result Settings Fault) (w : Span) → w.start < w.end
       → take_words (suc n) xs c s w ≡ take_words n xs c (take_word xs c s w) (word_from xs w.end)
   unfolding take_words
   turn n s w h = ap (λ (b : Bool). cond b (take_words n xs c (take_word xs c s w) (word_from xs w.end)) s) (lt-ltb w.start w.end h)
 
-  pub stop : (n : ℕ) (s : Choice) (w : Span) → w.end ≤ w.start → take_words n xs c s w ≡ s
+  pub stop : (n : ℕ) (s : Result Settings Fault) (w : Span) → w.end ≤ w.start → take_words n xs c s w ≡ s
   unfolding take_words
   stop zero s w h = refl
   stop (suc n) s w h = ap (λ (b : Bool). cond b (take_words n xs c (take_word xs c s w) (word_from xs w.end)) s) (le-ltb w.start w.end h)
 
-  enough : (n m : ℕ) (s : Choice) (w : Span) → Within (length xs) w → length xs ≤ n + w.start → length xs ≤ m + w.start
+  -- a fault stays
+  pub stuck : (n : ℕ) (f : Fault) (w : Span) → take_words n xs c (Err f) w ≡ Err f
+  unfolding take_words take_word
+  stuck zero f w = refl
+  stuck (suc n) f w = go (ltb w.start w.end) (stuck n f (word_from xs w.end))
+    where
+      go : (b : Bool) → take_words n xs c (Err f) (word_from xs w.end) ≡ Err f → cond b (take_words n xs c (Err f) (word_from xs w.end)) (Err f) ≡ Err f
+      go true e = e
+      go false e = refl
+
+  enough : (n m : ℕ) (s : Result Settings Fault) (w : Span) → Within (length xs) w → length xs ≤ n + w.start → length xs ≤ m + w.start
       → take_words n xs c s w ≡ take_words m xs c s w
   enough zero m s w i h k = stop zero s w (omega arith) ∙ sym (stop m s w (omega arith))
   enough (suc n) zero s w i h k = stop (suc n) s w (omega arith) ∙ sym (stop zero s w (omega arith))
@@ -65,17 +63,17 @@ module _ (xs : List ℕ) (c : Command) where
           stop (suc n) s w l ∙ sym (stop (suc m) s w l)
 
   -- one turn of the loop
-  pub turned : (at : ℕ) (s r : Choice) (w v : Span) → Within (length xs) w → w.start < w.end
+  pub turned : (at : ℕ) (s r : Result Settings Fault) (w v : Span) → Within (length xs) w → w.start < w.end
       → take_words (length xs) xs c s w ≡ words_of xs c at → r ≡ take_word xs c s w → v ≡ word_from xs w.end
       → take_words (length xs) xs c r v ≡ words_of xs c at
   turned at s r w v i h e p q =
-      ap (λ (d : Choice). take_words (length xs) xs c d v) p
+      ap (λ (d : Result Settings Fault). take_words (length xs) xs c d v) p
       ∙ ap (take_words (length xs) xs c (take_word xs c s w)) q
       ∙ sym (turn (length xs) s w h)
       ∙ enough (suc (length xs)) (length xs) s w i (omega arith) (omega arith)
       ∙ e
 
-  pub begun : (at : ℕ) (s : Settings) (w : Span) → s ≡ unset_of → w ≡ word_from xs at → take_words (length xs) xs c (Choice.More s) w ≡ words_of xs c at
+  pub begun : (at : ℕ) (s : Settings) (w : Span) → s ≡ unset_of → w ≡ word_from xs at → take_words (length xs) xs c (Ok s) w ≡ words_of xs c at
   unfolding words_of
   begun at s w p q =
-      ap (λ (d : Settings). take_words (length xs) xs c (Choice.More d) w) p ∙ ap (take_words (length xs) xs c (Choice.More unset_of)) q
+      ap (λ (d : Settings). take_words (length xs) xs c (Ok d) w) p ∙ ap (take_words (length xs) xs c (Ok unset_of)) q

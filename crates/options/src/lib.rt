@@ -11,162 +11,113 @@ ghost use Rattle.options.specs.Options.{number_taken, date_taken, script_taken, 
 
 use faults::{Fault, Name};
 use settings::Settings;
-use text::Number;
-use word_values::{Dated, Tested};
-use words::{Command, Key, Keyed, Span};
+use words::{Command, Key, Span};
 
-#[derive(Clone, Copy)]
-pub enum Choice {
-    More(Settings),
-    Fault(Fault),
-}
-
-fn take_number(s: Settings, k: Key, word: &[u8]) -> Choice
+fn take_number(s: Settings, k: Key, word: &[u8]) -> Result<Settings, Fault>
     ensures { result ≡ number_taken s k (number_of word.now) }
 {
-    let n = text::number(word);
-    match n {
-        Number::Value(v) => {
-            let x = v as usize;
-            if settings::room_of(k) < x {
-                return Choice::Fault(Fault::Over(k));
-            }
-            Choice::More(settings::with_number(s, k, x))
-        }
-        Number::NotNumber => Choice::Fault(Fault::NotNumber(Name::Option(k))),
-        Number::TooLarge => Choice::Fault(Fault::TooLarge(Name::Option(k))),
+    let n = word_values::number(word, Name::Option(k))?;
+    if settings::room_of(k) < n {
+        return Err(Fault::Over(k));
     }
+    Ok(settings::with_number(s, k, n))
 }
 
-fn take_date(s: Settings, k: Key, word: &[u8]) -> Choice
+fn take_date(s: Settings, k: Key, word: &[u8]) -> Result<Settings, Fault>
     ensures { result ≡ date_taken s k (date_of word.now (Name.Option k)) }
 {
-    let d = word_values::date(word, Name::Option(k));
-    match d {
-        Dated::Value(date) => {
-            let days = s.days;
-            let mut t = s;
-            t.days = settings::with_day(days, k, date);
-            Choice::More(t)
-        }
-        Dated::Fault(f) => Choice::Fault(f),
-    }
+    let date = word_values::date(word, Name::Option(k))?;
+    Ok(Settings {
+        days: settings::with_day(s.days, k, date),
+        ..s
+    })
 }
 
-fn take_script(line: &[u8], s: Settings, w: Span) -> Choice
+fn take_script(line: &[u8], s: Settings, w: Span) -> Result<Settings, Fault>
     requires { Within (length line.now) w }
     ensures { result ≡ script_taken s w (test_hex (part_of line.now w) (Name.Option Key.Script)) }
 {
-    let start = w.start;
-    let end = w.end;
-    let h = word_values::test_hex(&line[start..end], Name::Option(Key::Script));
-    match h {
-        Tested::Fine => {
-            let mut t = s;
-            t.scripted = true;
-            t.script = w;
-            Choice::More(t)
-        }
-        Tested::Fault(f) => Choice::Fault(f),
-    }
+    word_values::test_hex(&line[w.start..w.end], Name::Option(Key::Script))?;
+    Ok(Settings {
+        script: Some(w),
+        ..s
+    })
 }
 
 // The value of an option.
-fn take_value(line: &[u8], s: Settings, k: Key, w: Span) -> Choice
+#[tactic(auto, unfolding(crate::specs::Options::take_value))]
+fn take_value(line: &[u8], s: Settings, k: Key, w: Span) -> Result<Settings, Fault>
     requires { Within (length line.now) w }
     ensures { result ≡ take_value line.now s k w }
 {
     if settings::is_given(s, k) {
-        return Choice::Fault(Fault::Twice);
+        return Err(Fault::Twice);
     }
     if settings::is_script(k) {
         return take_script(line, s, w);
     }
-    let start = w.start;
-    let end = w.end;
+    let word = &line[w.start..w.end];
     if settings::is_day(k) {
-        return take_date(s, k, &line[start..end]);
+        return take_date(s, k, word);
     }
-    take_number(s, k, &line[start..end])
+    take_number(s, k, word)
 }
 
 // One option.
-fn take_option(line: &[u8], s: Settings, w: Span) -> Choice
+fn take_option(line: &[u8], s: Settings, w: Span) -> Result<Settings, Fault>
     requires { Within (length line.now) w }
     ensures { result ≡ take_option line.now s w }
 {
-    let start = w.start;
-    let end = w.end;
-    let k = words::key_of(&line[start..end]);
-    match k {
-        Keyed::Known(key, from) => take_value(
-            line,
-            s,
-            key,
-            Span {
-                start: start + from,
-                end: end,
-            },
-        ),
-        Keyed::Unknown => Choice::Fault(Fault::UnknownOption),
-    }
+    let Some((key, from)) = words::key_of(&line[w.start..w.end]) else {
+        return Err(Fault::UnknownOption);
+    };
+    let value = Span {
+        start: w.start + from,
+        end: w.end,
+    };
+    take_value(line, s, key, value)
 }
 
 // One word behind those that have a place.
-fn take_word(line: &[u8], c: Command, s: Choice, w: Span) -> Choice
+#[tactic(auto, unfolding(crate::specs::Options::take_word))]
+fn take_word(line: &[u8], c: Command, s: Settings, w: Span) -> Result<Settings, Fault>
     requires { Within (length line.now) w }
-    ensures { result ≡ take_word line.now c s w }
+    ensures { result ≡ take_word line.now c (Ok s) w }
 {
-    match s {
-        Choice::More(t) => {
-            if !words::is_call(c) {
-                return Choice::Fault(Fault::TooManyWords);
-            }
-            take_option(line, t, w)
-        }
-        Choice::Fault(f) => Choice::Fault(f),
+    if !words::is_call(c) {
+        return Err(Fault::TooManyWords);
     }
+    take_option(line, s, w)
 }
 
 // All words from index `at` on.
-fn read_words(line: &[u8], c: Command, at: usize) -> Choice
+fn read_words(line: &[u8], c: Command, at: usize) -> Result<Settings, Fault>
     ensures { result ≡ words_of line.now c at }
 {
-    let mut s = Choice::More(settings::unset());
+    let mut s = settings::unset();
     let mut w = words::next_word(line, at);
     while w.start < w.end {
-        s = take_word(line, c, s, w);
+        s = take_word(line, c, s, w)?;
         w = words::next_word(line, w.end);
     }
-    s
+    Ok(s)
 }
 
 // The options, if first= and last= are given both or neither.
-fn pair(s: Choice) -> Choice
-    ensures { result ≡ paired s }
+fn pair(s: Settings) -> Result<Settings, Fault>
+    ensures { result ≡ paired (Ok s) }
 {
-    match s {
-        Choice::More(t) => {
-            let first = t.days.first.given;
-            let last = t.days.last.given;
-            if first {
-                if last {
-                    return Choice::More(t);
-                }
-                return Choice::Fault(Fault::Missing(Name::Option(Key::Last)));
-            }
-            if last {
-                return Choice::Fault(Fault::Missing(Name::Option(Key::First)));
-            }
-            Choice::More(t)
-        }
-        Choice::Fault(f) => Choice::Fault(f),
+    match (s.days.first, s.days.last) {
+        (Some(_), None) => Err(Fault::Missing(Name::Option(Key::Last))),
+        (None, Some(_)) => Err(Fault::Missing(Name::Option(Key::First))),
+        _ => Ok(s),
     }
 }
 
 // The options from index `at` on.
-pub fn read_options(line: &[u8], c: Command, at: usize) -> Choice
+#[tactic(auto, unfolding(crate::specs::Options::options_of))]
+pub fn read_options(line: &[u8], c: Command, at: usize) -> Result<Settings, Fault>
     ensures { result ≡ options_of line.now c at }
 {
-    pair(read_words(line, c, at))
+    pair(read_words(line, c, at)?)
 }

@@ -1,19 +1,16 @@
 -- Where the parts of an order lie: spans in the line, lengths within their rooms, numbers within their ranges.
 -- Assumes nothing.
-use Rattle.std.specs.Prelude.{ℕ, ◌≤◌, ◌<◌}
-use Rattle.orders.specs.declared.Lent.{Lent}
-use Rattle.orders.specs.declared.Lent.TheVariants.{Needed, Given}
+use Rattle.std.specs.Prelude.{ℕ, ◌≤◌, ◌<◌, Option, Some, None, Result, Ok, Err}
+use Rattle.faults.specs.declared.Fault.{Fault}
 use Rattle.orders.specs.declared.Order.{Order}
-use Rattle.orders.specs.declared.Reading.{Reading}
-use Rattle.orders.specs.declared.Reading.TheVariants as Reading
 use Rattle.words.specs.Bounds.{Within}
 use Rattle.operands.specs.Operands.{first_of}
 use Rattle.operands.specs.Bounds.{Ranged}
 
 -- a length lent is within its room
-abbrev pub Roomed : ℕ → Lent → Type 0
-Roomed room Needed = Unit
-Roomed room (Given n) = n ≤ room
+abbrev pub Roomed : ℕ → Option ℕ → Type 0
+Roomed room None = Unit
+Roomed room (Some n) = n ≤ room
 
 -- an order read in a line of n characters
 pub record Sound (n : ℕ) (o : Order) : Type 0 where
@@ -28,6 +25,6 @@ pub record Sound (n : ℕ) (o : Order) : Type 0 where
   pub reply : Roomed 65536 o.reply
 
 -- a line's order, if it says one
-abbrev pub SoundReading : ℕ → Reading → Type 0
-SoundReading n (Reading.Order o) = Sound n o
-SoundReading n (Reading.Fault f) = Unit
+abbrev pub SoundReading : ℕ → Result Order Fault → Type 0
+SoundReading n (Ok o) = Sound n o
+SoundReading n (Err f) = Unit

@@ -4,26 +4,34 @@
 ghost use Rattle.std.specs.Prelude.{◌≡◌, length};
 ghost use Rattle.operands.specs.Operands.{operands_of};
 ghost use Rattle.orders.specs.Bounds.{SoundReading};
-ghost use Rattle.orders.specs.Orders.{value_or, lent_of, term_of, today_of, order_of};
+ghost use Rattle.orders.specs.Orders.{term_of, order_of};
 ghost use Rattle.orders.specs.Lines.{with_operands, read_of};
 
 use dates::{Date, Term};
 pub use faults::{Fault, message};
-use operands::{Step, Taken};
-use options::Choice;
-use settings::{DateSetting, Days, Setting, Settings};
-use words::Chosen;
+use operands::Taken;
+use settings::{Days, Settings};
 pub use words::{Command, Span, is_call};
 
 // The longest line, in characters.
 const LONGEST: usize = 8192;
 
-// A length lent: as the call needs, or as given.
-#[derive(Clone, Copy)]
-pub enum Lent {
-    Needed,
-    Given(usize),
-}
+// script= where it is not given.
+const NOWHERE: Span = Span { start: 0, end: 0 };
+
+// today= where it is not given.
+const FIRST_DAY: Date = Date {
+    year: 2000,
+    month: 1,
+    day: 1,
+};
+
+// last= where it is not given: no day.
+const NO_DATE: Date = Date {
+    year: 0,
+    month: 0,
+    day: 0,
+};
 
 #[derive(Clone, Copy)]
 pub struct Order {
@@ -40,128 +48,73 @@ pub struct Order {
     pub script: Span,
     // junk=, modulo 256.
     pub seed: usize,
-    // junklen=
-    pub junk: Lent,
-    pub log: Lent,
-    pub buffer: Lent,
-    pub reply: Lent,
+    // junklen=. Of these four, a length that is not given is as long as the call needs.
+    pub junk: Option<usize>,
+    pub log: Option<usize>,
+    pub buffer: Option<usize>,
+    pub reply: Option<usize>,
     // first= and last=
     pub term: Term,
     // today=, else 1 January 2000.
     pub today: Date,
 }
 
-#[derive(Clone, Copy)]
-pub enum Reading {
-    Order(Order),
-    Fault(Fault),
-}
-
 // What the line says (`read_of`). Of an order: its spans lie in the line, its lengths within their rooms, its numbers in their ranges.
-pub fn read(line: &[u8]) -> Reading
+pub fn read(line: &[u8]) -> Result<Order, Fault>
     ensures { SoundReading (length line.now) result × (result ≡ read_of line.now) }
 {
     if LONGEST < line.len() {
-        return Reading::Fault(Fault::TooLong);
+        return Err(Fault::TooLong);
     }
     let w = words::next_word(line, 0);
-    let start = w.start;
-    let end = w.end;
-    if start == end {
-        return Reading::Fault(Fault::NoCommand);
+    if w.start == w.end {
+        return Err(Fault::NoCommand);
     }
-    let k = words::command_of(&line[start..end]);
-    match k {
-        Chosen::Known(c) => read_rest(line, c, end),
-        Chosen::Unknown => Reading::Fault(Fault::UnknownCommand),
+    match words::command_of(&line[w.start..w.end]) {
+        Some(c) => read_rest(line, c, w.end),
+        None => Err(Fault::UnknownCommand),
     }
 }
 
 // What the line says from index `at` on, behind its command.
-fn read_rest(line: &[u8], c: Command, at: usize) -> Reading
+fn read_rest(line: &[u8], c: Command, at: usize) -> Result<Order, Fault>
     ensures { result ≡ with_operands line.now c (operands_of line.now c at) }
 {
-    let s = operands::read_operands(line, c, at);
-    match s {
-        Step::More(o) => {
-            let p = options::read_options(line, c, o.at);
-            match p {
-                Choice::More(q) => Reading::Order(order_of(c, o, q)),
-                Choice::Fault(f) => Reading::Fault(f),
-            }
-        }
-        Step::Fault(f) => Reading::Fault(f),
-    }
-}
-
-fn value_or(s: Setting, default: usize) -> usize
-    ensures { result ≡ value_or s default }
-{
-    if s.given { s.value } else { default }
-}
-
-fn lent_by(s: Setting) -> Lent
-    ensures { result ≡ lent_of s }
-{
-    if s.given {
-        Lent::Given(s.value)
-    } else {
-        Lent::Needed
-    }
+    let taken = operands::read_operands(line, c, at)?;
+    let set = options::read_options(line, c, taken.at)?;
+    Ok(order_of(c, taken, set))
 }
 
 // The term from first= to last=. They are given both or neither.
 fn term_of(d: Days) -> Term
     ensures { result ≡ term_of d }
 {
-    let first = d.first.date;
-    let last = d.last.date;
-    if d.first.given {
-        Term::Between { first, last }
-    } else {
-        Term::Unlimited
+    match d.first {
+        Some(first) => {
+            let last = d.last.unwrap_or(NO_DATE);
+            Term::Between { first, last }
+        }
+        None => Term::Unlimited,
     }
 }
 
-fn today_of(s: DateSetting) -> Date
-    ensures { result ≡ today_of s }
-{
-    if s.given {
-        return s.date;
-    }
-    Date {
-        year: 2000,
-        month: 1,
-        day: 1,
-    }
-}
-
+#[tactic(auto, unfolding(crate::specs::Orders::order_of))]
 fn order_of(c: Command, t: Taken, s: Settings) -> Order
     ensures { result ≡ order_of c t s }
 {
-    let bytes = t.bytes;
-    let script = s.script;
-    let limit = s.limit;
-    let seed = s.seed;
-    let junk = s.junk;
-    let log = s.log;
-    let buffer = s.buffer;
-    let reply = s.reply;
-    let days = s.days;
-    let today = days.today;
     Order {
         command: c,
         number: t.number,
         place: t.place,
-        bytes: bytes,
-        limit: value_or(limit, 1),
-        script: script,
-        seed: value_or(seed, 0) % 256,
-        junk: lent_by(junk),
-        log: lent_by(log),
-        buffer: lent_by(buffer),
-        reply: lent_by(reply),
-        term: term_of(days),
-        today: today_of(today),
+        bytes: t.bytes,
+        limit: s.limit.unwrap_or(1),
+        script: s.script.unwrap_or(NOWHERE),
+        seed: s.seed.unwrap_or(0) % 256,
+        junk: s.junk,
+        log: s.log,
+        buffer: s.buffer,
+        reply: s.reply,
+        term: term_of(s.days),
+        today: s.days.today.unwrap_or(FIRST_DAY),
     }
 }

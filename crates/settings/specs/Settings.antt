@@ -1,37 +1,26 @@
 -- What the options of a call set (docs/OUTLINE.md): numbers within their rooms, the script, dates.
 -- Assumes nothing.
-use Rattle.std.specs.Prelude.{ℕ, Bool, true, false}
-use Rattle.words.specs.Words.{nowhere}
+use Rattle.std.specs.Prelude.{ℕ, Bool, true, false, Some, None}
+use Rattle.std.specs.Option.{is_some}
 use Rattle.dates.specs.declared.Date.{Date}
 use Rattle.words.specs.declared.Span.{Span}
 use Rattle.words.specs.declared.Key.{Key}
 use Rattle.words.specs.declared.Key.TheVariants as Key
-use Rattle.settings.specs.declared.Setting.{Setting}
-use Rattle.settings.specs.declared.DateSetting.{DateSetting}
 use Rattle.settings.specs.declared.Days.{Days}
 use Rattle.settings.specs.declared.Settings.{Settings}
-
--- an option that is not given
-abbrev pub missing : Setting
-missing = record { given = false; value = 0 }
-
--- a date that is not given
-abbrev pub no_date : DateSetting
-no_date = record { given = false; date = record { year = 0; month = 0; day = 0 } }
 
 -- no option is given
 abbrev pub unset_of : Settings
 unset_of =
     record {
-      limit = missing;
-      seed = missing;
-      junk = missing;
-      log = missing;
-      buffer = missing;
-      reply = missing;
-      scripted = false;
-      script = nowhere;
-      days = record { first = no_date; last = no_date; today = no_date };
+      limit = None;
+      seed = None;
+      junk = None;
+      log = None;
+      buffer = None;
+      reply = None;
+      script = None;
+      days = record { first = None; last = None; today = None };
     }
 
 -- script= alone has HEX for its value
@@ -62,16 +51,16 @@ is_day Key.Today = true
 
 -- the option was given before
 abbrev pub is_given : Settings → Key → Bool
-is_given s Key.Limit = s.limit.given
-is_given s Key.Script = s.scripted
-is_given s Key.Seed = s.seed.given
-is_given s Key.Junk = s.junk.given
-is_given s Key.Log = s.log.given
-is_given s Key.Buffer = s.buffer.given
-is_given s Key.Reply = s.reply.given
-is_given s Key.First = s.days.first.given
-is_given s Key.Last = s.days.last.given
-is_given s Key.Today = s.days.today.given
+is_given s Key.Limit = is_some s.limit
+is_given s Key.Script = is_some s.script
+is_given s Key.Seed = is_some s.seed
+is_given s Key.Junk = is_some s.junk
+is_given s Key.Log = is_some s.log
+is_given s Key.Buffer = is_some s.buffer
+is_given s Key.Reply = is_some s.reply
+is_given s Key.First = is_some s.days.first
+is_given s Key.Last = is_some s.days.last
+is_given s Key.Today = is_some s.days.today
 
 -- the most that an option's number may be: the room of junklen, log, buffer and reply; of the others, any number that is read
 abbrev pub room_of : Key → ℕ
@@ -89,18 +78,18 @@ room_of Key.Today = 0xFFFF_FFFF_FFFF_FFFF
 -- the option set to the number
 abbrev pub with_number : Settings → Key → ℕ → Settings
 with_number s Key.Limit n =
-    record { limit = record { given = true; value = n }; seed = s.seed; junk = s.junk; log = s.log; buffer = s.buffer; reply = s.reply; scripted = s.scripted; script = s.script; days = s.days }
+    record { limit = Some n; seed = s.seed; junk = s.junk; log = s.log; buffer = s.buffer; reply = s.reply; script = s.script; days = s.days }
 with_number s Key.Script n = s
 with_number s Key.Seed n =
-    record { limit = s.limit; seed = record { given = true; value = n }; junk = s.junk; log = s.log; buffer = s.buffer; reply = s.reply; scripted = s.scripted; script = s.script; days = s.days }
+    record { limit = s.limit; seed = Some n; junk = s.junk; log = s.log; buffer = s.buffer; reply = s.reply; script = s.script; days = s.days }
 with_number s Key.Junk n =
-    record { limit = s.limit; seed = s.seed; junk = record { given = true; value = n }; log = s.log; buffer = s.buffer; reply = s.reply; scripted = s.scripted; script = s.script; days = s.days }
+    record { limit = s.limit; seed = s.seed; junk = Some n; log = s.log; buffer = s.buffer; reply = s.reply; script = s.script; days = s.days }
 with_number s Key.Log n =
-    record { limit = s.limit; seed = s.seed; junk = s.junk; log = record { given = true; value = n }; buffer = s.buffer; reply = s.reply; scripted = s.scripted; script = s.script; days = s.days }
+    record { limit = s.limit; seed = s.seed; junk = s.junk; log = Some n; buffer = s.buffer; reply = s.reply; script = s.script; days = s.days }
 with_number s Key.Buffer n =
-    record { limit = s.limit; seed = s.seed; junk = s.junk; log = s.log; buffer = record { given = true; value = n }; reply = s.reply; scripted = s.scripted; script = s.script; days = s.days }
+    record { limit = s.limit; seed = s.seed; junk = s.junk; log = s.log; buffer = Some n; reply = s.reply; script = s.script; days = s.days }
 with_number s Key.Reply n =
-    record { limit = s.limit; seed = s.seed; junk = s.junk; log = s.log; buffer = s.buffer; reply = record { given = true; value = n }; scripted = s.scripted; script = s.script; days = s.days }
+    record { limit = s.limit; seed = s.seed; junk = s.junk; log = s.log; buffer = s.buffer; reply = Some n; script = s.script; days = s.days }
 with_number s Key.First n = s
 with_number s Key.Last n = s
 with_number s Key.Today n = s
@@ -114,16 +103,16 @@ with_day d Key.Junk x = d
 with_day d Key.Log x = d
 with_day d Key.Buffer x = d
 with_day d Key.Reply x = d
-with_day d Key.First x = record { first = record { given = true; date = x }; last = d.last; today = d.today }
-with_day d Key.Last x = record { first = d.first; last = record { given = true; date = x }; today = d.today }
-with_day d Key.Today x = record { first = d.first; last = d.last; today = record { given = true; date = x } }
+with_day d Key.First x = record { first = Some x; last = d.last; today = d.today }
+with_day d Key.Last x = record { first = d.first; last = Some x; today = d.today }
+with_day d Key.Today x = record { first = d.first; last = d.last; today = Some x }
 
 -- the dates set to these
 abbrev pub with_days : Settings → Days → Settings
 with_days s d =
-    record { limit = s.limit; seed = s.seed; junk = s.junk; log = s.log; buffer = s.buffer; reply = s.reply; scripted = s.scripted; script = s.script; days = d }
+    record { limit = s.limit; seed = s.seed; junk = s.junk; log = s.log; buffer = s.buffer; reply = s.reply; script = s.script; days = d }
 
 -- the script set to a part of the line
 abbrev pub with_script : Settings → Span → Settings
 with_script s w =
-    record { limit = s.limit; seed = s.seed; junk = s.junk; log = s.log; buffer = s.buffer; reply = s.reply; scripted = true; script = w; days = s.days }
+    record { limit = s.limit; seed = s.seed; junk = s.junk; log = s.log; buffer = s.buffer; reply = s.reply; script = Some w; days = s.days }

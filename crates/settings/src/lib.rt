@@ -7,39 +7,24 @@ ghost use Rattle.settings.specs.Settings.{unset_of, is_script, is_day, is_given,
 use dates::Date;
 use words::{Key, Span};
 
-// A number that an option gives; 0 where it is not given.
-#[derive(Clone, Copy)]
-pub struct Setting {
-    pub given: bool,
-    pub value: usize,
-}
-
-// A date that an option gives; zeros where it is not given.
-#[derive(Clone, Copy)]
-pub struct DateSetting {
-    pub given: bool,
-    pub date: Date,
-}
-
-// first=, last= and today=.
+// first=, last= and today=, where they are given.
 #[derive(Clone, Copy)]
 pub struct Days {
-    pub first: DateSetting,
-    pub last: DateSetting,
-    pub today: DateSetting,
+    pub first: Option<Date>,
+    pub last: Option<Date>,
+    pub today: Option<Date>,
 }
 
 // What the options read so far say.
 #[derive(Clone, Copy)]
 pub struct Settings {
-    pub limit: Setting,
-    pub seed: Setting,
-    pub junk: Setting,
-    pub log: Setting,
-    pub buffer: Setting,
-    pub reply: Setting,
-    pub scripted: bool,
-    pub script: Span,
+    pub limit: Option<usize>,
+    pub seed: Option<usize>,
+    pub junk: Option<usize>,
+    pub log: Option<usize>,
+    pub buffer: Option<usize>,
+    pub reply: Option<usize>,
+    pub script: Option<Span>,
     pub days: Days,
 }
 
@@ -47,32 +32,18 @@ pub struct Settings {
 pub fn unset() -> Settings
     ensures { result ≡ unset_of }
 {
-    let s = Setting {
-        given: false,
-        value: 0,
-    };
-    let e = Span { start: 0, end: 0 };
-    let d = DateSetting {
-        given: false,
-        date: Date {
-            year: 0,
-            month: 0,
-            day: 0,
-        },
-    };
     Settings {
-        limit: s,
-        seed: s,
-        junk: s,
-        log: s,
-        buffer: s,
-        reply: s,
-        scripted: false,
-        script: e,
+        limit: None,
+        seed: None,
+        junk: None,
+        log: None,
+        buffer: None,
+        reply: None,
+        script: None,
         days: Days {
-            first: d,
-            last: d,
-            today: d,
+            first: None,
+            last: None,
+            today: None,
         },
     }
 }
@@ -81,36 +52,14 @@ pub fn unset() -> Settings
 pub fn is_script(k: Key) -> bool
     ensures { result ≡ is_script k }
 {
-    match k {
-        Key::Limit => false,
-        Key::Script => true,
-        Key::Seed => false,
-        Key::Junk => false,
-        Key::Log => false,
-        Key::Buffer => false,
-        Key::Reply => false,
-        Key::First => false,
-        Key::Last => false,
-        Key::Today => false,
-    }
+    matches!(k, Key::Script)
 }
 
 // first=, last= and today= have a date.
 pub fn is_day(k: Key) -> bool
     ensures { result ≡ is_day k }
 {
-    match k {
-        Key::Limit => false,
-        Key::Script => false,
-        Key::Seed => false,
-        Key::Junk => false,
-        Key::Log => false,
-        Key::Buffer => false,
-        Key::Reply => false,
-        Key::First => true,
-        Key::Last => true,
-        Key::Today => true,
-    }
+    matches!(k, Key::First | Key::Last | Key::Today)
 }
 
 // The option was given before.
@@ -118,16 +67,16 @@ pub fn is_given(s: Settings, k: Key) -> bool
     ensures { result ≡ is_given s k }
 {
     match k {
-        Key::Limit => s.limit.given,
-        Key::Script => s.scripted,
-        Key::Seed => s.seed.given,
-        Key::Junk => s.junk.given,
-        Key::Log => s.log.given,
-        Key::Buffer => s.buffer.given,
-        Key::Reply => s.reply.given,
-        Key::First => s.days.first.given,
-        Key::Last => s.days.last.given,
-        Key::Today => s.days.today.given,
+        Key::Limit => s.limit.is_some(),
+        Key::Script => s.script.is_some(),
+        Key::Seed => s.seed.is_some(),
+        Key::Junk => s.junk.is_some(),
+        Key::Log => s.log.is_some(),
+        Key::Buffer => s.buffer.is_some(),
+        Key::Reply => s.reply.is_some(),
+        Key::First => s.days.first.is_some(),
+        Key::Last => s.days.last.is_some(),
+        Key::Today => s.days.today.is_some(),
     }
 }
 
@@ -136,16 +85,10 @@ pub fn room_of(k: Key) -> usize
     ensures { result ≡ room_of k }
 {
     match k {
-        Key::Limit => 0xFFFF_FFFF_FFFF_FFFF,
-        Key::Script => 0xFFFF_FFFF_FFFF_FFFF,
-        Key::Seed => 0xFFFF_FFFF_FFFF_FFFF,
         Key::Junk => 1_114_112,
         Key::Log => 102_204,
-        Key::Buffer => 65_536,
-        Key::Reply => 65_536,
-        Key::First => 0xFFFF_FFFF_FFFF_FFFF,
-        Key::Last => 0xFFFF_FFFF_FFFF_FFFF,
-        Key::Today => 0xFFFF_FFFF_FFFF_FFFF,
+        Key::Buffer | Key::Reply => 65_536,
+        _ => usize::MAX,
     }
 }
 
@@ -153,40 +96,15 @@ pub fn room_of(k: Key) -> usize
 pub fn with_number(s: Settings, k: Key, n: usize) -> Settings
     ensures { result ≡ with_number s k n }
 {
-    let v = Setting {
-        given: true,
-        value: n,
-    };
-    let mut t = s;
+    let given = Some(n);
     match k {
-        Key::Limit => {
-            t.limit = v;
-            t
-        }
-        Key::Script => t,
-        Key::Seed => {
-            t.seed = v;
-            t
-        }
-        Key::Junk => {
-            t.junk = v;
-            t
-        }
-        Key::Log => {
-            t.log = v;
-            t
-        }
-        Key::Buffer => {
-            t.buffer = v;
-            t
-        }
-        Key::Reply => {
-            t.reply = v;
-            t
-        }
-        Key::First => t,
-        Key::Last => t,
-        Key::Today => t,
+        Key::Limit => Settings { limit: given, ..s },
+        Key::Seed => Settings { seed: given, ..s },
+        Key::Junk => Settings { junk: given, ..s },
+        Key::Log => Settings { log: given, ..s },
+        Key::Buffer => Settings { buffer: given, ..s },
+        Key::Reply => Settings { reply: given, ..s },
+        _ => s,
     }
 }
 
@@ -194,30 +112,20 @@ pub fn with_number(s: Settings, k: Key, n: usize) -> Settings
 pub fn with_day(days: Days, k: Key, date: Date) -> Days
     ensures { result ≡ with_day days k date }
 {
-    let v = DateSetting {
-        given: true,
-        date: date,
-    };
-    let mut t = days;
+    let given = Some(date);
     match k {
-        Key::Limit => t,
-        Key::Script => t,
-        Key::Seed => t,
-        Key::Junk => t,
-        Key::Log => t,
-        Key::Buffer => t,
-        Key::Reply => t,
-        Key::First => {
-            t.first = v;
-            t
-        }
-        Key::Last => {
-            t.last = v;
-            t
-        }
-        Key::Today => {
-            t.today = v;
-            t
-        }
+        Key::First => Days {
+            first: given,
+            ..days
+        },
+        Key::Last => Days {
+            last: given,
+            ..days
+        },
+        Key::Today => Days {
+            today: given,
+            ..days
+        },
+        _ => days,
     }
 }

@@ -11,8 +11,9 @@ use lib.Dec.{eqb}
 use lib.ListN.{length, drop, get_or, drop_of_length-le}
 use lib.Seq.{drop-cons}
 use borrow.Author.Tests.{lt-ltb, le-ltb, eq-eqb, ne_eqb}
-use Rattle.text.specs.declared.values.Number.{Number}
-use Rattle.text.specs.declared.values.Number.TheVariants.{Value, NotNumber, TooLarge}
+use Rattle.std.specs.Prelude.{Result, Ok, Err}
+use Rattle.text.specs.declared.values.NumberError.{NumberError}
+use Rattle.text.specs.declared.values.NumberError.TheVariants.{NotNumber, TooLarge}
 use Rattle.text.specs.Lists.{every}
 use Rattle.text.specs.Decimal.{is_digit, value_from, below_limit, number_of}
 
@@ -29,29 +30,29 @@ unfolding value_from
 value_grows v [] = le_refl v
 value_grows v (x ∷ xs) = omega (arith, value_grows (v * 10 + (x - 48)) xs)
 
-pub fits : (v : ℕ) → v < 2 ^ 64 → Value v ≡ below_limit v
+pub fits : (v : ℕ) → v < 2 ^ 64 → Ok v ≡ below_limit v
 unfolding below_limit
 fits v h = rw (lt-ltb v (2 ^ 64) h) refl
 
 -- the value so far, with the digit d, is 2 ^ 64 or more
-pub too_large : (v w : ℕ) (xs : List ℕ) (i d : ℕ) → i < length xs → d ≡ get_or xs i 0 - 48 → 2 ^ 64 ≤ v * 10 + d → value_from v (drop i xs) ≡ w → TooLarge ≡ below_limit w
+pub too_large : (v w : ℕ) (xs : List ℕ) (i d : ℕ) → i < length xs → d ≡ get_or xs i 0 - 48 → 2 ^ 64 ≤ v * 10 + d → value_from v (drop i xs) ≡ w → Err TooLarge ≡ below_limit w
 unfolding below_limit
 too_large v w xs i d h e l s =
     let g : v * 10 + (get_or xs i 0 - 48) ≤ value_from (v * 10 + (get_or xs i 0 - 48)) (drop (i + 1) xs) = value_grows _ _ in
     let k : 2 ^ 64 ≤ w = omega (arith, value_step v xs i h) in
     rw (le-ltb w (2 ^ 64) k) refl
 
-pub none_empty : (xs : List ℕ) → length xs ≡ 0 → NotNumber ≡ number_of xs
+pub none_empty : (xs : List ℕ) → length xs ≡ 0 → Err NotNumber ≡ number_of xs
 unfolding number_of
 none_empty xs e = rw (eq-eqb (length xs) 0 e) refl
 
-either : (b : Bool) (n : Number) → n ≡ cond b n n
+either : (b : Bool) (n : Result ℕ NumberError) → n ≡ cond b n n
 either true n = refl
 either false n = refl
 
-pub none_other : (xs : List ℕ) → every is_digit xs ≡ false → NotNumber ≡ number_of xs
+pub none_other : (xs : List ℕ) → every is_digit xs ≡ false → Err NotNumber ≡ number_of xs
 unfolding number_of
-none_other xs e = simp e (either (eqb (length xs) 0) NotNumber)
+none_other xs e = simp e (either (eqb (length xs) 0) (Err NotNumber))
 
 pub some_digits : (xs : List ℕ) → (length xs ≡ 0 → ⊥) → every is_digit xs ≡ true → below_limit (value_from 0 xs) ≡ number_of xs
 unfolding number_of

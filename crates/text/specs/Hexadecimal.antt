@@ -1,9 +1,9 @@
 -- Hexadecimal digits, and a word of them as bytes.
 -- Assumes nothing.
-use Rattle.std.specs.Prelude.{ℕ, ◌+◌, ◌-◌, ◌*◌, ◌/◌, ◌%◌, Bool, cond, List, [], ◌∷◌, length, take, eqb, leb, ltb}
+use Rattle.std.specs.Prelude.{ℕ, ◌+◌, ◌-◌, ◌*◌, ◌/◌, ◌%◌, Bool, cond, List, [], ◌∷◌, length, take, eqb, leb, ltb, Result, Ok, Err}
 use Rattle.slices.specs.Lists.{same}
-use Rattle.text.specs.declared.values.Hex.{Hex}
-use Rattle.text.specs.declared.values.Hex.TheVariants.{Bytes, NotHex, Odd}
+use Rattle.text.specs.declared.values.HexError.{HexError}
+use Rattle.text.specs.declared.values.HexError.TheVariants.{NotHex, Odd}
 use Rattle.text.specs.Lists.{every}
 
 -- the upper-case digit of n % 16
@@ -35,18 +35,17 @@ pairs (x ∷ []) = []
 pairs (x ∷ y ∷ xs) = pair_of x y ∷ pairs xs
 
 -- `-` alone makes no bytes; else hexadecimal digits only, and an even number of them
-unfoldable pub hex_of : List ℕ → Hex
+unfoldable pub hex_of : List ℕ → Result ℕ HexError
 hex_of xs =
-    cond (same xs (45 ∷ [])) (Bytes 0)
+    cond (same xs (45 ∷ [])) (Ok 0)
     (cond (every is_hex_digit xs)
-    (cond (eqb (length xs % 2) 0) (Bytes (length xs / 2)) Odd)
-    NotHex)
+    (cond (eqb (length xs % 2) 0) (Ok (length xs / 2)) (Err Odd))
+    (Err NotHex))
 
 -- how many bytes there are
-abbrev pub count_of : Hex → ℕ
-count_of (Bytes n) = n
-count_of NotHex = 0
-count_of Odd = 0
+abbrev pub count_of : Result ℕ HexError → ℕ
+count_of (Ok n) = n
+count_of (Err _) = 0
 
 -- the bytes that a word makes
 unfoldable pub bytes_of : List ℕ → List ℕ

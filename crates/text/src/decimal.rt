@@ -3,19 +3,19 @@ ghost use Rattle.std.specs.Prelude.{◌≡◌, ◌-◌, ◌<◌};
 ghost use Rattle.text.specs.Decimal.{is_digit, number_of, value_from, below_limit};
 
 use crate::scans::{Class, all};
-use crate::values::Number;
+use crate::values::NumberError;
 
 // The number that a word of decimal digits says: NotNumber for an empty word or one with another byte, TooLarge from 2^64 on.
-pub fn number(word: &[u8]) -> Number
+pub fn number(word: &[u8]) -> Result<u64, NumberError>
     ensures { result ≡ number_of word.now }
 {
     if word.len() == 0 {
-        return Number::NotNumber;
+        return Err(NumberError::NotNumber);
     }
     if all(Class::Digit, word) {
         return value(word);
     }
-    Number::NotNumber
+    Err(NumberError::NotNumber)
 }
 
 pub fn is_digit(b: u8) -> bool
@@ -28,7 +28,7 @@ pub fn is_digit(b: u8) -> bool
 }
 
 // The value of a word of digits. A sum is made only where it is below 2^64.
-fn value(word: &[u8]) -> Number
+fn value(word: &[u8]) -> Result<u64, NumberError>
     ensures { result ≡ below_limit (value_from 0 word.now) }
 {
     let mut v: u64 = 0;
@@ -36,12 +36,12 @@ fn value(word: &[u8]) -> Number
     while i < word.len() {
         let d = worth(word[i]);
         if (0xFFFF_FFFF_FFFF_FFFF - d) / 10 < v {
-            return Number::TooLarge;
+            return Err(NumberError::TooLarge);
         }
         v = v * 10 + d;
         i += 1;
     }
-    Number::Value(v)
+    Ok(v)
 }
 
 // What the digit `b` is worth.

@@ -6,7 +6,7 @@ pub use hyphens::{before_hyphen, behind_hyphen};
 pub use nibbles::nibble;
 pub use scans::{Class, all};
 pub use spans::{is_same, skip_blanks, word_end};
-pub use values::{Hex, Number};
+pub use values::{HexError, NumberError};
 
 mod decimal;
 mod hyphens;

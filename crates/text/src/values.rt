@@ -1,17 +1,15 @@
-// What a word is read as.
+// Why a word is not what it is read as.
 
-// A decimal number below 2^64, or why the word is none.
-#[derive(Clone, Copy)]
-pub enum Number {
-    Value(u64),
+// Why a word says no decimal number below 2^64.
+#[derive(Clone, Copy, PartialEq, Eq)]
+pub enum NumberError {
     NotNumber,
     TooLarge,
 }
 
-// How many bytes a word of hexadecimal digits makes, or why it makes none.
-#[derive(Clone, Copy)]
-pub enum Hex {
-    Bytes(usize),
+// Why a word makes no bytes.
+#[derive(Clone, Copy, PartialEq, Eq)]
+pub enum HexError {
     NotHex,
     Odd,
 }

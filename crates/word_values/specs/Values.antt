@@ -1,12 +1,12 @@
 -- What a word of a line is (docs/OUTLINE.md): the number behind a command, PLACE or HEX, or the fault that it has.
 -- Assumes nothing.
-use Rattle.std.specs.Prelude.{ℕ, ◌%◌, cond, List, [], ◌∷◌, length, eqb}
+use Rattle.std.specs.Prelude.{ℕ, ◌%◌, cond, List, [], ◌∷◌, length, eqb, Result, Ok, Err}
 use Prim.Native.String.{String}
 use Rattle.slices.specs.Lists.{same}
-use Rattle.text.specs.declared.values.Number.{Number}
-use Rattle.text.specs.declared.values.Number.TheVariants as Number
-use Rattle.text.specs.declared.values.Hex.{Hex}
-use Rattle.text.specs.declared.values.Hex.TheVariants as Hex
+use Rattle.text.specs.declared.values.NumberError.{NumberError}
+use Rattle.text.specs.declared.values.NumberError.TheVariants as NumberError
+use Rattle.text.specs.declared.values.HexError.{HexError}
+use Rattle.text.specs.declared.values.HexError.TheVariants as HexError
 use Rattle.text.specs.Decimal.{number_of}
 use Rattle.text.specs.Hexadecimal.{hex_of}
 use Rattle.words.specs.Letters.{bytes}
@@ -16,32 +16,28 @@ use Rattle.faults.specs.declared.Fault.{Fault}
 use Rattle.faults.specs.declared.Fault.TheVariants as Fault
 use Rattle.word_values.specs.declared.First.{First}
 use Rattle.word_values.specs.declared.First.TheVariants as First
-use Rattle.word_values.specs.declared.Numbered.{Numbered}
-use Rattle.word_values.specs.declared.Numbered.TheVariants as Numbered
-use Rattle.word_values.specs.declared.Tested.{Tested}
-use Rattle.word_values.specs.declared.Tested.TheVariants as Tested
 
 -- what a word is, if there is one; no word is an empty one
-abbrev pub if_given : List ℕ → Name → Numbered → Numbered
-if_given word name given = cond (eqb (length word) 0) (Numbered.Fault (Fault.Missing name)) given
+abbrev pub if_given : List ℕ → Name → Result ℕ Fault → Result ℕ Fault
+if_given word name given = cond (eqb (length word) 0) (Err (Fault.Missing name)) given
 
 -- a word's number, or the fault that it has none
-abbrev pub numbered : Name → Number → Numbered
-numbered name (Number.Value v) = Numbered.Value v
-numbered name Number.NotNumber = Numbered.Fault (Fault.NotNumber name)
-numbered name Number.TooLarge = Numbered.Fault (Fault.TooLarge name)
+abbrev pub numbered : Name → Result ℕ NumberError → Result ℕ Fault
+numbered name (Ok v) = Ok v
+numbered name (Err NumberError.NotNumber) = Err (Fault.NotNumber name)
+numbered name (Err NumberError.TooLarge) = Err (Fault.TooLarge name)
 
 -- a decimal number
-abbrev pub decimal_of : List ℕ → Name → Numbered
+abbrev pub decimal_of : List ℕ → Name → Result ℕ Fault
 decimal_of word name = if_given word name (numbered name (number_of word))
 
 -- modulo 256
-abbrev pub reduced : Numbered → Numbered
-reduced (Numbered.Value v) = Numbered.Value (v % 256)
-reduced (Numbered.Fault f) = Numbered.Fault f
+abbrev pub reduced : Result ℕ Fault → Result ℕ Fault
+reduced (Ok v) = Ok (v % 256)
+reduced (Err f) = Err f
 
 -- SEED, modulo 256
-abbrev pub seed_of : List ℕ → Numbered
+abbrev pub seed_of : List ℕ → Result ℕ Fault
 seed_of word = reduced (decimal_of word Name.Seed)
 
 -- ---- words that stand for numbers
@@ -56,12 +52,12 @@ abbrev pub row : String → ℕ → Row
 row s n = record { word = bytes s; number = n }
 
 -- the number, where the word is this one; else the other
-abbrev pub if_word : List ℕ → List ℕ → ℕ → Numbered → Numbered
-if_word word w n other = cond (same word w) (Numbered.Value n) other
+abbrev pub if_word : List ℕ → List ℕ → ℕ → Result ℕ Fault → Result ℕ Fault
+if_word word w n other = cond (same word w) (Ok n) other
 
 -- the number that the table has for the word, or this fault
-abbrev pub in_table : List ℕ → List Row → Fault → Numbered
-in_table word [] fault = Numbered.Fault fault
+abbrev pub in_table : List ℕ → List Row → Fault → Result ℕ Fault
+in_table word [] fault = Err fault
 in_table word (r ∷ rs) fault = if_word word r.word r.number (in_table word rs fault)
 
 -- the levels of a pin
@@ -82,27 +78,27 @@ parts =
     ∷ []
 
 -- 0 or 1
-abbrev pub level_of : List ℕ → Numbered
+abbrev pub level_of : List ℕ → Result ℕ Fault
 level_of word = if_given word Name.Level (in_table word levels Fault.NotLevel)
 
 -- the length of the array of the part that the word names
-abbrev pub length_of : List ℕ → Numbered
+abbrev pub length_of : List ℕ → Result ℕ Fault
 length_of word = if_given word Name.Part (in_table word parts Fault.NotPart)
 
 -- the number behind a command
-unfoldable pub number_as : List ℕ → First → Numbered
+unfoldable pub number_as : List ℕ → First → Result ℕ Fault
 number_as word First.Slot = decimal_of word Name.Slot
 number_as word First.Seed = seed_of word
 number_as word First.Level = level_of word
 number_as word First.Part = length_of word
-number_as word First.Nothing = Numbered.Value 0
+number_as word First.Nothing = Ok 0
 
 -- a word's digits make bytes, or the fault that they do not
-abbrev pub tested : Name → Hex → Tested
-tested name (Hex.Bytes n) = Tested.Fine
-tested name Hex.NotHex = Tested.Fault (Fault.NotHex name)
-tested name Hex.Odd = Tested.Fault (Fault.Odd name)
+abbrev pub tested : Name → Result ℕ HexError → Result Unit Fault
+tested name (Ok n) = Ok tt
+tested name (Err HexError.NotHex) = Err (Fault.NotHex name)
+tested name (Err HexError.Odd) = Err (Fault.Odd name)
 
 -- whether the word is an even number of hexadecimal digits, or `-`
-abbrev pub test_hex : List ℕ → Name → Tested
+abbrev pub test_hex : List ℕ → Name → Result Unit Fault
 test_hex word name = tested name (hex_of word)

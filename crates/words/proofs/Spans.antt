@@ -19,8 +19,7 @@ use Rattle.words.specs.Bounds.{Within, SoundKeyed}
 use Rattle.words.specs.declared.Span.{Span}
 use Rattle.words.specs.declared.Key.{Key}
 use Rattle.words.specs.declared.Key.TheVariants as Key
-use Rattle.words.specs.declared.Keyed.{Keyed}
-use Rattle.words.specs.declared.Keyed.TheVariants as Keyed
+use Rattle.std.specs.Prelude.{Option, Some, None}
 
 leading-short : (p : ℕ → Bool) (xs : List ℕ) → leading p xs ≤ length xs
 unfolding leading
@@ -58,10 +57,10 @@ begins-short w o e = leb-true (length o) (length w) (left (leb (length o) (lengt
     left true b e = refl
     left false b e = e
 
-keyed : (w o : List ℕ) (k : Key) (f : Keyed) → SoundKeyed (length w) f → SoundKeyed (length w) (if_begun w o k f)
+keyed : (w o : List ℕ) (k : Key) (f : Option (Key × ℕ)) → SoundKeyed (length w) f → SoundKeyed (length w) (if_begun w o k f)
 keyed w o k f h = go (begins_with w o) refl
   where
-    go : (b : Bool) → begins_with w o ≡ b → SoundKeyed (length w) (cond b (Keyed.Known k (length o)) f)
+    go : (b : Bool) → begins_with w o ≡ b → SoundKeyed (length w) (cond b (Some (k, length o)) f)
     go true e = begins-short w o e
     go false e = h
 
@@ -77,11 +76,11 @@ key_within w =
     (keyed w (bytes "reply=") Key.Reply _
     (keyed w (bytes "first=") Key.First _
     (keyed w (bytes "last=") Key.Last _
-    (keyed w (bytes "today=") Key.Today Keyed.Unknown tt)))))))))
+    (keyed w (bytes "today=") Key.Today None tt)))))))))
 
 -- the value of an option that a part of a line names lies in that part
-pub value_within : (xs : List ℕ) (w : Span) (k : Key) (i : ℕ) → Within (length xs) w → Keyed.Known k i ≡ key_of (part_of xs w) → w.start + i ≤ w.end
+pub value_within : (xs : List ℕ) (w : Span) (k : Key) (i : ℕ) → Within (length xs) w → Some (k, i) ≡ key_of (part_of xs w) → w.start + i ≤ w.end
 value_within xs w k i h e =
     let l : length (part_of xs w) ≡ w.end - w.start = part_length w.start w.end xs h.0 h.1 in
-    let n : i ≤ length (part_of xs w) = subst⁻¹ (λ (d : Keyed). SoundKeyed (length (part_of xs w)) d) e (key_within (part_of xs w)) in
+    let n : i ≤ length (part_of xs w) = subst⁻¹ (λ (d : Option (Key × ℕ)). SoundKeyed (length (part_of xs w)) d) e (key_within (part_of xs w)) in
     omega arith

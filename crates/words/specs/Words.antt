@@ -1,6 +1,6 @@
 -- The words of a line (docs/OUTLINE.md): where they lie, the commands, the names of the options, and which commands are calls.
 -- Assumes nothing.
-use Rattle.std.specs.Prelude.{ℕ, ◌-◌, Bool, true, false, cond, ◌&&◌, List, length, take, drop, leb}
+use Rattle.std.specs.Prelude.{ℕ, ◌-◌, Bool, true, false, cond, ◌&&◌, List, length, take, drop, leb, Option, Some, None}
 use Rattle.slices.specs.Lists.{same}
 use Rattle.text.specs.Lists.{scan}
 use Rattle.text.specs.Words.{is_blank, not_blank}
@@ -10,10 +10,6 @@ use Rattle.words.specs.declared.Command.{Command}
 use Rattle.words.specs.declared.Command.TheVariants.{Put, Patch, Get, Wipe, Raw, Send, End, Pin, Cut, Part, Sum}
 use Rattle.words.specs.declared.Key.{Key}
 use Rattle.words.specs.declared.Key.TheVariants.{Limit, Script, Seed, Junk, Log, Buffer, Reply, First, Last, Today}
-use Rattle.words.specs.declared.Chosen.{Chosen}
-use Rattle.words.specs.declared.Chosen.TheVariants as Chosen
-use Rattle.words.specs.declared.Keyed.{Keyed}
-use Rattle.words.specs.declared.Keyed.TheVariants as Keyed
 
 -- the first word from index at on: from the first byte that is no blank up to the next blank
 abbrev pub word_from : List ℕ → ℕ → Span
@@ -32,11 +28,11 @@ unfoldable pub begins_with : List ℕ → List ℕ → Bool
 begins_with word opening = leb (length opening) (length word) && same (take (length opening) word) opening
 
 -- the command c where the word is its name, else the other
-abbrev pub if_named : List ℕ → List ℕ → Command → Chosen → Chosen
-if_named word name c other = cond (same word name) (Chosen.Known c) other
+abbrev pub if_named : List ℕ → List ℕ → Command → Option Command → Option Command
+if_named word name c other = cond (same word name) (Some c) other
 
 -- the command that a word is
-unfoldable pub command_of : List ℕ → Chosen
+unfoldable pub command_of : List ℕ → Option Command
 command_of w =
     if_named w (bytes "put") Put
     (if_named w (bytes "patch") Patch
@@ -48,14 +44,14 @@ command_of w =
     (if_named w (bytes "pin") Pin
     (if_named w (bytes "cut") Cut
     (if_named w (bytes "part") Part
-    (if_named w (bytes "sum") Sum Chosen.Unknown))))))))))
+    (if_named w (bytes "sum") Sum None))))))))))
 
 -- the option k where the word begins with its name, and the index at which its value begins; else the other
-abbrev pub if_begun : List ℕ → List ℕ → Key → Keyed → Keyed
-if_begun word opening k other = cond (begins_with word opening) (Keyed.Known k (length opening)) other
+abbrev pub if_begun : List ℕ → List ℕ → Key → Option (Key × ℕ) → Option (Key × ℕ)
+if_begun word opening k other = cond (begins_with word opening) (Some (k, length opening)) other
 
 -- the option that a word is
-unfoldable pub key_of : List ℕ → Keyed
+unfoldable pub key_of : List ℕ → Option (Key × ℕ)
 key_of w =
     if_begun w (bytes "b=") Limit
     (if_begun w (bytes "script=") Script
@@ -66,7 +62,7 @@ key_of w =
     (if_begun w (bytes "reply=") Reply
     (if_begun w (bytes "first=") First
     (if_begun w (bytes "last=") Last
-    (if_begun w (bytes "today=") Today Keyed.Unknown)))))))))
+    (if_begun w (bytes "today=") Today None)))))))))
 
 -- the five calls alone take options
 abbrev pub is_call : Command → Bool

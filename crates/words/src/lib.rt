@@ -42,20 +42,6 @@ pub struct Span {
     pub end: usize,
 }
 
-// The command that a word names.
-#[derive(Clone, Copy)]
-pub enum Chosen {
-    Known(Command),
-    Unknown,
-}
-
-// The option that a word names, and the index in the word at which its value begins.
-#[derive(Clone, Copy)]
-pub enum Keyed {
-    Known(Key, usize),
-    Unknown,
-}
-
 // The first word from index `at` on; where there is none, an empty part.
 pub fn next_word(line: &[u8], at: usize) -> Span
     ensures { Within (length line.now) result × (at ≤ length line.now → at ≤ result.start) × (result ≡ word_from line.now at) }
@@ -69,20 +55,20 @@ pub fn next_word(line: &[u8], at: usize) -> Span
 }
 
 // The command `c` where the word is its name, else the other.
-fn if_named(word: &[u8], name: &[u8], c: Command, other: Chosen) -> Chosen
+fn if_named(word: &[u8], name: &[u8], c: Command, other: Option<Command>) -> Option<Command>
     ensures { result ≡ if_named word.now name.now c other }
 {
     if text::is_same(word, name) {
-        return Chosen::Known(c);
+        return Some(c);
     }
     other
 }
 
 // The command that a word is. The names differ, so that the order does not matter.
-pub fn command_of(word: &[u8]) -> Chosen
+pub fn command_of(word: &[u8]) -> Option<Command>
     ensures { result ≡ command_of word.now }
 {
-    let r = Chosen::Unknown;
+    let r = None;
     let r = if_named(word, b"sum", Command::Sum, r);
     let r = if_named(word, b"part", Command::Part, r);
     let r = if_named(word, b"cut", Command::Cut, r);
@@ -97,7 +83,12 @@ pub fn command_of(word: &[u8]) -> Chosen
 }
 
 // The option `k` where the word begins with its name, else the other. Its value lies behind that.
-fn if_begun(word: &[u8], opening: &[u8], k: Key, other: Keyed) -> Keyed
+fn if_begun(
+    word: &[u8],
+    opening: &[u8],
+    k: Key,
+    other: Option<(Key, usize)>,
+) -> Option<(Key, usize)>
     ensures { result ≡ if_begun word.now opening.now k other }
 {
     let n = opening.len();
@@ -105,16 +96,16 @@ fn if_begun(word: &[u8], opening: &[u8], k: Key, other: Keyed) -> Keyed
         return other;
     }
     if text::is_same(&word[..n], opening) {
-        return Keyed::Known(k, n);
+        return Some((k, n));
     }
     other
 }
 
-// The option that a word is.
-pub fn key_of(word: &[u8]) -> Keyed
+// The option that a word is, and the index in the word at which its value begins.
+pub fn key_of(word: &[u8]) -> Option<(Key, usize)>
     ensures { result ≡ key_of word.now }
 {
-    let r = Keyed::Unknown;
+    let r = None;
     let r = if_begun(word, b"today=", Key::Today, r);
     let r = if_begun(word, b"last=", Key::Last, r);
     let r = if_begun(word, b"first=", Key::First, r);

@@ -7,27 +7,21 @@ use Rattle.hexadecimal.proofs.unhex.Goals as goal
 
 pub store-requires : goal.store-requires
 store-requires c =
-    let x = c.hex-h in
-    let e : count_of x.result ≡ c.in-Bytes.n = ap count_of c.in-Bytes.is in
+    let x = c.hex in
+    let e : count_of x.result ≡ c.in-Ok.n = ap count_of c.in-Ok.is in
     omega (arith, x.ensures.1)
 
-pub returns-in-Bytes : goal.returns-in-Bytes
-returns-in-Bytes c =
+pub returns-in-Ok : goal.returns-in-Ok
+returns-in-Ok c =
     let a = c.args in
-    let x = c.hex-h in
+    let x = c.hex in
     let s = c.store in
-    let e : count_of x.result ≡ c.in-Bytes.n = ap count_of c.in-Bytes.is in
-    unhexed a.word.now c.in-Bytes.n (omega (arith, x.ensures.1)) x.result a.out.now s.new.out s.result
-    x.ensures.0 c.in-Bytes.is s.ensures.0 s.ensures.1
+    let e : count_of x.result ≡ c.in-Ok.n = ap count_of c.in-Ok.is in
+    unhexed a.word.now c.in-Ok.n (omega (arith, x.ensures.1)) x.result a.out.now s.new.out s.result
+    x.ensures.0 c.in-Ok.is s.ensures.0 s.ensures.1
 
-pub returns-in-NotHex : goal.returns-in-NotHex
-returns-in-NotHex c =
+pub returns-in-Err : goal.returns-in-Err
+returns-in-Err c =
     let a = c.args in
-    let x = c.hex-h in
-    unhexed_none a.word.now x.result a.out.now x.ensures.0 (ap count_of c.in-NotHex.is)
-
-pub returns-in-Odd : goal.returns-in-Odd
-returns-in-Odd c =
-    let a = c.args in
-    let x = c.hex-h in
-    unhexed_none a.word.now x.result a.out.now x.ensures.0 (ap count_of c.in-Odd.is)
+    let x = c.hex in
+    unhexed_none a.word.now x.result a.out.now x.ensures.0 (ap count_of c.in-Err.is)

@@ -1,34 +1,26 @@
--- `options::take_number` meets its contract: each arm is one of the definition's over what `number` gives, and a value over its room is a fault.
+-- `options::take_number` meets its contract: what is no number is the same fault to both, and a value over its room is a fault.
 -- Assumes nothing.
-use Rattle.options.specs.declared.Choice.TheVariants as Choice
-use Rattle.faults.specs.declared.Fault.TheVariants as Fault
+use Rattle.std.specs.Prelude.{ℕ, Result, Ok, Err}
+use Rattle.std.proofs.lemmas.Result.{err_from_is_err_and}
+use Rattle.text.specs.Decimal.{number_of}
+use Rattle.text.specs.declared.values.NumberError.{NumberError}
+use Rattle.text.specs.declared.values.NumberError.TheVariants as NumberError
+use Rattle.faults.specs.declared.Fault.{Fault}
+use Rattle.faults.specs.declared.Name.TheVariants as Name
+use Rattle.words.specs.declared.Key.{Key}
+use Rattle.settings.specs.declared.Settings.{Settings}
+use Rattle.word_values.specs.Values.{numbered}
 use Rattle.options.specs.Options.{number_taken}
-use Rattle.settings.specs.Settings.{with_number}
-use mathlib.Core.Bool.{Bool, cond}
-use mathlib.Core.Path.{sym, ap, subst, ◌∙◌}
-use Prim.Native.Nat.{ℕ, ◌≤◌, ◌<◌}
-use borrow.Author.Tests.{lt-ltb, le-ltb}
+use mathlib.Core.Path.{◌≡◌, sym, ◌∙◌}
 use Rattle.options.proofs.take_number.Goals as goal
 
-pub returns-then-room_of-x : goal.returns-then-room_of-x
-returns-then-room_of-x c =
-    let a = c.args in
-    ap (λ (b : Bool). cond b (Choice.Fault (Fault.Over a.k)) (Choice.More (with_number a.s a.k c.in-Value.v))) (sym (lt-ltb _ _ (subst (λ (m : ℕ). m < c.in-Value.v) c.room_of.ensures c.if-room_of-x.true)))
-    ∙ ap (number_taken a.s a.k) (sym c.in-Value.is ∙ c.number-n.ensures)
+refused : (s : Settings) (k : Key) (v : Result ℕ NumberError) (f : Fault) → numbered (Name.Option k) v ≡ Err f → number_taken s k v ≡ Err f
+refused s k (Ok x) f e = cc
+refused s k (Err NumberError.NotNumber) f e = cc
+refused s k (Err NumberError.TooLarge) f e = cc
 
-pub returns-else-room_of-x : goal.returns-else-room_of-x
-returns-else-room_of-x c =
+pub returns-in_err-n : goal.returns-in_err-n
+returns-in_err-n c =
     let a = c.args in
-    ap Choice.More c.with_number.ensures
-    ∙ ap (λ (b : Bool). cond b (Choice.Fault (Fault.Over a.k)) (Choice.More (with_number a.s a.k c.in-Value.v))) (sym (le-ltb _ _ (subst (λ (m : ℕ). c.in-Value.v ≤ m) c.room_of.ensures c.if-room_of-x.false)))
-    ∙ ap (number_taken a.s a.k) (sym c.in-Value.is ∙ c.number-n.ensures)
-
-pub returns-in-NotNumber : goal.returns-in-NotNumber
-returns-in-NotNumber c =
-    let a = c.args in
-    ap (number_taken a.s a.k) (sym c.in-NotNumber.is ∙ c.number-n.ensures)
-
-pub returns-in-TooLarge : goal.returns-in-TooLarge
-returns-in-TooLarge c =
-    let a = c.args in
-    ap (number_taken a.s a.k) (sym c.in-TooLarge.is ∙ c.number-n.ensures)
+    let p = err_from_is_err_and c.from_residual.result c.from_residual.ensures.1 in
+    rw (p.1, p.2) (sym (refused a.s a.k (number_of a.word.now) c.in_err-n.field-0.0 (sym c.number.ensures ∙ c.in_err-n.was)))

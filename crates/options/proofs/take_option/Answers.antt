@@ -6,24 +6,24 @@ use native.Mathlib.Omega.{arith}
 use mathlib.Core.Path.{sym, ap, ◌∙◌}
 use Rattle.options.proofs.take_option.Goals as goal
 
-pub overflow_add-start : goal.overflow_add-start
-overflow_add-start c =
+pub overflow_add-value : goal.overflow_add-value
+overflow_add-value c =
     let a = c.args in
-    omega (arith, value_within a.line.now a.w c.in-Known.key c.in-Known.from c.requires (sym c.in-Known.is ∙ c.key_of-k.ensures))
+    omega (arith, value_within a.line.now a.w c.in-Some.key c.in-Some.from c.requires (sym c.in-Some.is ∙ c.key_of.ensures))
 
 pub take_value-requires : goal.take_value-requires
 take_value-requires c =
     let a = c.args in
-    (value_within a.line.now a.w c.in-Known.key c.in-Known.from c.requires (sym c.in-Known.is ∙ c.key_of-k.ensures), c.requires.1)
+    (value_within a.line.now a.w c.in-Some.key c.in-Some.from c.requires (sym c.in-Some.is ∙ c.key_of.ensures), c.requires.1)
 
-pub returns-in-Known : goal.returns-in-Known
+pub returns-in_default : goal.returns-in_default
 unfolding take_option
-returns-in-Known c =
+returns-in_default c =
     let a = c.args in
-    c.take_value.ensures ∙ ap (key_taken a.line.now a.s a.w) (sym c.in-Known.is ∙ c.key_of-k.ensures)
+    ap (key_taken a.line.now a.s a.w) (sym c.in_default.is ∙ c.key_of.ensures)
 
-pub returns-in-Unknown : goal.returns-in-Unknown
+pub returns : goal.returns
 unfolding take_option
-returns-in-Unknown c =
+returns c =
     let a = c.args in
-    ap (key_taken a.line.now a.s a.w) (sym c.in-Unknown.is ∙ c.key_of-k.ensures)
+    c.take_value.ensures ∙ ap (key_taken a.line.now a.s a.w) (sym c.in-Some.is ∙ c.key_of.ensures)

@@ -1,6 +1,0 @@
--- `lengths::lending::junk_alone` meets its contract: it is the definition. Assumes nothing.
-use mathlib.Core.Path.{refl}
-use Rattle.lengths.proofs.lending.junk_alone.Goals as goal
-
-pub returns : goal.returns
-returns c = refl

@@ -1,6 +1,0 @@
--- `word_values::level` meets its contract: each call is one row of the table, from the last to the first.
--- Assumes nothing.
-use Rattle.word_values.proofs.level.Goals as goal
-
-pub returns : goal.returns
-returns c = rw (c.if_given.ensures, c.if_word-r-2.ensures, c.if_word-r.ensures)
