@@ -2,8 +2,7 @@
 // The function named to others has no `requires`: bad input is refused, and a refusal changes nothing. The entry points are in crate calls.
 #![tactic(auto)]
 
-ghost use Rattle.std.specs.Prelude.{◌≡◌, replicate, Some};
-ghost use Rattle.geometry.specs.Parts.{slot_room};
+ghost use Rattle.std.specs.Prelude.{◌≡◌, Some};
 ghost use Rattle.state.specs.Outcomes.{part_in};
 ghost use Rattle.slots.specs.Lists.{Op, asking};
 ghost use Rattle.blocks.specs.Promises.{held_in};
@@ -12,31 +11,24 @@ ghost use Rattle.runs.specs.Runs.{Started, RunBy};
 
 use geometry::Geometry;
 use runs::{Done, Session};
-use slots::{Detail, Driver, Kind};
+use slots::{Driver, Request};
 use state::Answer;
 
 // The call of a kind.
 pub fn call(
     block: &mut [u8; 765],
     array: &mut [u8],
-    kind: Kind,
-    slot: usize,
-    limit: usize,
-    detail: Detail,
+    r: Request,
     payload: &[u8],
     buffer: &mut [u8],
     script: &[u8],
     junk: &[u8],
     log: &mut [u8],
 ) -> Done
-    ensures { Promise (Op.call (asking kind slot limit) detail script.now payload.now junk.now log.old buffer.old) block.old array.old result block.new array.new log.new buffer.new }
+    ensures { Promise (Op.call (asking r.kind r.slot r.limit) r.detail script.now payload.now junk.now log.old buffer.old) block.old array.old result block.new array.new log.new buffer.new }
 {
-    let o = blocks::operation(block);
-    let p = registers::place(array.len(), o);
-    match p {
-        Some(g) => call_in(
-            g, block, array, kind, slot, limit, detail, payload, buffer, script, junk, log,
-        ),
+    match registers::place(array.len(), blocks::operation(block)) {
+        Some(g) => call_in(g, block, array, r, payload, buffer, script, junk, log),
         None => endings::refuse(Answer::Part),
     }
 }
@@ -46,10 +38,7 @@ fn call_in(
     g: Geometry,
     block: &mut [u8; 765],
     array: &mut [u8],
-    kind: Kind,
-    slot: usize,
-    limit: usize,
-    detail: Detail,
+    r: Request,
     payload: &[u8],
     buffer: &mut [u8],
     script: &[u8],
@@ -57,34 +46,17 @@ fn call_in(
     log: &mut [u8],
 ) -> Done
     requires { part_in (held_in block.old array.old) ≡ Some g }
-    ensures { Promise (Op.call (asking kind slot limit) detail script.now payload.now junk.now log.old buffer.old) block.old array.old result block.new array.new log.new buffer.new }
+    ensures { Promise (Op.call (asking r.kind r.slot r.limit) r.detail script.now payload.now junk.now log.old buffer.old) block.old array.old result block.new array.new log.new buffer.new }
 {
-    let a = refusals::call_refusal(
-        g,
-        array.len(),
-        kind,
-        slot,
-        limit,
-        detail,
-        payload.len(),
-        buffer.len(),
-        log.len(),
-        script,
-        junk.len(),
-    );
-    if state::number(a) != 0 {
-        return endings::refuse(a);
+    let n = payload.len();
+    let lent = buffer.len();
+    match refusals::call_refusal(g, array.len(), r, n, lent, log.len(), script, junk.len()) {
+        Answer::Done => {
+            let d = starts::start(array.len(), r, n, lent);
+            run(g, d, block, array, payload, buffer, script, junk, log)
+        }
+        early => endings::refuse(early),
     }
-    let d = starts::start(
-        array.len(),
-        kind,
-        slot,
-        limit,
-        detail,
-        payload.len(),
-        buffer.len(),
-    );
-    run(g, d, block, array, payload, buffer, script, junk, log)
 }
 
 // A call that is not refused, whose driver starts as d.
@@ -102,8 +74,7 @@ fn run(
     requires { (part_in (held_in block.old array.old) ≡ Some g) × (Started g d array.old script.now junk.now log.old) }
     ensures { RunBy g d payload.now buffer.old script.now junk.now log.old block.old array.old result block.new array.new log.new buffer.new }
 {
-    let kind = d.kind;
-    let mut staged = blank_slot();
+    let mut staged = [0; 2112];
     let s = Session {
         driver: d,
         frames: 0,
@@ -112,7 +83,7 @@ fn run(
     };
     let e = sessions::drive(g, s, block, array, payload, &mut staged, script, log);
     let a = endings::answer(e);
-    let n = endings::deliver(kind, a, &staged, buffer);
+    let n = endings::deliver(d.kind, a, &staged, buffer);
     endings::lose(g, e, block, array, junk);
     Done {
         answer: a,
@@ -120,11 +91,4 @@ fn run(
         polls: e.polls,
         count: n,
     }
-}
-
-// A slot's bytes before any is read.
-fn blank_slot() -> [u8; 2112]
-    ensures { result ≡ replicate slot_room 0 }
-{
-    [0; 2112]
 }

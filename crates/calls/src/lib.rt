@@ -10,7 +10,7 @@ ghost use Rattle.runs.specs.Promises.{counts_of, Promise};
 
 use dates::{Date, Term};
 use runs::Done;
-use slots::Kind;
+use slots::{Kind, Request};
 use state::Answer;
 
 // The recipe is stored in the slot with its term.
@@ -27,20 +27,13 @@ pub fn put(
 ) -> Done
     ensures { Promise (put slot limit term script.now recipe.now junk.now log.old) block.old array.old result block.new array.new log.new [] }
 {
-    let mut none = [0u8; 1];
-    callings::call(
-        block,
-        array,
-        Kind::Put,
+    let r = Request {
+        kind: Kind::Put,
         slot,
         limit,
-        starts::storing(term),
-        recipe,
-        &mut none[..0],
-        script,
-        junk,
-        log,
-    )
+        detail: starts::storing(term),
+    };
+    callings::call(block, array, r, recipe, &mut [], script, junk, log)
 }
 
 // The bytes are put at a place of the stored recipe, counted from its first byte.
@@ -57,20 +50,13 @@ pub fn patch(
 ) -> Done
     ensures { Promise (patch slot limit place script.now bytes.now junk.now log.old) block.old array.old result block.new array.new log.new [] }
 {
-    let mut none = [0u8; 1];
-    callings::call(
-        block,
-        array,
-        Kind::Patch,
+    let r = Request {
+        kind: Kind::Patch,
         slot,
         limit,
-        starts::changing(place),
-        bytes,
-        &mut none[..0],
-        script,
-        junk,
-        log,
-    )
+        detail: starts::changing(place),
+    };
+    callings::call(block, array, r, bytes, &mut [], script, junk, log)
 }
 
 // The recipe goes to the lent buffer, and its length to the result, if today is inside its term.
@@ -87,19 +73,13 @@ pub fn get(
 ) -> Done
     ensures { Promise (get slot limit today script.now junk.now log.old buffer.old) block.old array.old result block.new array.new log.new buffer.new }
 {
-    callings::call(
-        block,
-        array,
-        Kind::Get,
+    let r = Request {
+        kind: Kind::Get,
         slot,
         limit,
-        starts::reading(today),
-        &junk[..0],
-        buffer,
-        script,
-        junk,
-        log,
-    )
+        detail: starts::reading(today),
+    };
+    callings::call(block, array, r, &[], buffer, script, junk, log)
 }
 
 // The slot is erased.
@@ -114,20 +94,13 @@ pub fn wipe(
 ) -> Done
     ensures { Promise (wipe slot limit script.now junk.now log.old) block.old array.old result block.new array.new log.new [] }
 {
-    let mut none = [0u8; 1];
-    callings::call(
-        block,
-        array,
-        Kind::Wipe,
+    let r = Request {
+        kind: Kind::Wipe,
         slot,
         limit,
-        starts::untold(),
-        &junk[..0],
-        &mut none[..0],
-        script,
-        junk,
-        log,
-    )
+        detail: starts::untold(),
+    };
+    callings::call(block, array, r, &[], &mut [], script, junk, log)
 }
 
 // The answer's number, and frames, polls and n in the lent counts: what a caller of the C interface is told.
@@ -135,6 +108,5 @@ pub fn tell(counts: &mut [u64; 3], d: Done) -> u8
     ensures { (result ≡ number_of d.answer) × (counts.new ≡ counts_of d) }
 {
     *counts = [d.frames as u64, d.polls as u64, d.count as u64];
-    let a = d.answer;
-    state::number(a)
+    state::number(d.answer)
 }

@@ -2,7 +2,7 @@
 // Internal to this repository: a caller here meets each `requires`; no entry point is in this crate.
 #![tactic(auto)]
 
-ghost use Rattle.std.specs.Prelude.{◌≡◌, max, Some};
+ghost use Rattle.std.specs.Prelude.{◌≡◌, Some};
 ghost use Rattle.geometry.specs.Parts.{Sized, part_of};
 ghost use Rattle.slots.specs.Refusals.{flaws_in, bad_script, late_refusal, call_refusal, raw_refusal};
 ghost use Rattle.slots.specs.Lists.{asking};
@@ -12,21 +12,13 @@ use geometry::Geometry;
 use slots::Request;
 use state::Answer;
 
-fn greater(a: u8, b: u8) -> u8
-    ensures { result ≡ max a b }
-{
-    if a < b { b } else { a }
-}
-
 // The largest byte of a script; 0 of none.
 fn largest(script: &[u8]) -> u8
     ensures { result ≡ largest_in script.now }
 {
-    let mut most = 0u8;
-    let mut i = 0;
-    while i < script.len() {
-        most = greater(most, script[i]);
-        i += 1;
+    let mut most = 0;
+    for &byte in script {
+        most = most.max(byte);
     }
     most
 }

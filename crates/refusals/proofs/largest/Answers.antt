@@ -1,31 +1,32 @@
--- `refusals::largest` meets its contract: the largest byte so far and that of the bytes from index i on are the script's.
+-- `refusals::largest` meets its contract: the largest byte so far and that of the bytes to come are the script's.
 -- Assumes nothing.
 use mathlib.Core.Path.{◌≡◌, sym, ap, ◌∙◌}
 use Prim.Native.Nat.{ℕ, ◌+◌, max}
 use native.Mathlib.Omega.{arith}
 use lib.ListN.{drop}
-use borrow.Author.Rules.{rules}
+use Rattle.std.specs.Ordering.{ord_max, nat_cmp}
 use Rattle.refusals.specs.Largest.{largest_in}
 use Rattle.refusals.proofs.Scripts.{largest_none, largest_here}
 use Rattle.refusals.proofs.largest.Goals as goal
 
-pub loop-i-init : goal.loop-i-init
-loop-i-init c =
-    (omega arith, least (largest_in c.args.script.now))
+pub loop-byte-init : goal.loop-byte-init
+loop-byte-init c =
+    least (largest_in c.args.script.now)
   where
     least : (n : ℕ) → max 0 n ≡ n
     least n = omega arith
 
-pub loop-i-preserved : goal.loop-i-preserved
-loop-i-preserved c =
+pub loop-byte-preserved : goal.loop-byte-preserved
+loop-byte-preserved c =
     let script = c.args.script.now in
-    let loop = c.loop-i in (
-      search rules,
-      ap (λ (n : ℕ). max n (largest_in (drop (loop.i + 1) script))) c.greater-most.ensures
-          ∙ sym (largest_here script loop.i loop.most c.loop-i-test.true) ∙ loop.invariant.1,
-    )
+    let loop = c.loop-byte in
+    ap (λ (n : ℕ). max n (largest_in (drop (loop.byte-index + 1) script))) (c.max-most.ensures ∙ greater loop.most _)
+    ∙ sym (largest_here script loop.byte-index loop.most c.loop-byte-test.true) ∙ loop.invariant
+  where
+    greater : (a b : ℕ) → ord_max nat_cmp a b ≡ max a b
+    greater a b = grind arith
 
 pub returns : goal.returns
 returns c =
-    let loop = c.loop-i in
-    sym (largest_none c.args.script.now loop.i loop.most c.loop-i-test.false) ∙ loop.invariant.1
+    let loop = c.loop-byte in
+    sym (largest_none c.args.script.now loop.byte-index loop.most c.loop-byte-test.false) ∙ loop.invariant
