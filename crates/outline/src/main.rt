@@ -2,10 +2,10 @@
 // The chip is the record block of crate slipknoll and a lent array; it starts as a fresh short part.
 #![tactic(auto)]
 
-ghost use Rattle.std.specs.Prelude.{◌≡◌, true, false, IfSome};
+ghost use Rattle.std.specs.Prelude.{◌≡◌, IfSome};
 ghost use Rattle.io.specs.Counts.{IsPrefixLen};
 ghost use Rattle.inputs.specs.Places.{place_in, Closes};
-ghost use Rattle.outline.specs.Run.{Went, Said};
+ghost use Rattle.outline.specs.Run.{is_unread, Went, Said};
 
 use inputs::{LINE_ROOM, Reader};
 use obeying::Room;
@@ -15,13 +15,20 @@ use std::io::{Read, Stderr, Stdin, Stdout};
 // that fails for good.
 const TRIES: u32 = 33_554_432;
 
-// How many bytes of the input are read, whether to read on, and whether the input cannot be read.
+// Whether to read on; if not, whether the input is read as far as it matters, or cannot be read.
+#[derive(Clone, Copy)]
+pub enum State {
+    Open,
+    Ended,
+    Unread,
+}
+
+// How many bytes of the input are read, and whether to read on.
 #[derive(Clone, Copy)]
 pub struct Input {
     pub reader: Reader,
     pub read: u64,
-    pub more: bool,
-    pub failed: bool,
+    pub state: State,
 }
 
 // How the run ended: whether the input could not be read to its end, or the output not be written; and how many bytes were read and written.
@@ -76,7 +83,7 @@ fn run(stdin: Stdin, stdout: Stdout, room: &mut Room, line: &mut [u8; LINE_ROOM]
     let w = inputs::write_out(stdout, t, &room.text);
     let o = w.session.output;
     Ended {
-        unread: i.failed,
+        unread: is_unread(i.state),
         unwritten: o.failed,
         read: i.read,
         written: o.written,
@@ -98,18 +105,23 @@ fn read_some(stdin: Stdin, piece: &mut [u8]) -> Option<usize>
     None
 }
 
-// Nothing more is read.
-fn stopped(i: Input, failed: bool) -> Input
-    ensures { result ≡ record { reader = i.reader; read = i.read; more = false; failed = failed } }
+fn is_unread(s: State) -> bool
+    ensures { result ≡ is_unread s }
 {
-    let mut j = i;
-    j.more = false;
-    j.failed = failed;
-    j
+    matches!(s, State::Unread)
+}
+
+fn is_open(s: State) -> bool {
+    matches!(s, State::Open)
+}
+
+// Where writing has failed nothing more is read.
+fn state_after(failed: bool) -> State {
+    if failed { State::Ended } else { State::Open }
 }
 
 // One piece of the input is read and acted on; what waits to be written is written. The end of the input closes it, and so does a read that
-// fails for good, or a count that has no room for the piece. Where writing has failed nothing more is read.
+// fails for good, or a count that has no room for the piece.
 fn read_piece(
     stdin: Stdin,
     stdout: Stdout,
@@ -121,13 +133,22 @@ fn read_piece(
 {
     let mut piece = io::large_buffer();
     let Some(n) = read_some(stdin, &mut piece) else {
-        return stopped(i, true);
+        return Input {
+            state: State::Unread,
+            ..i
+        };
     };
     if n == 0 {
-        return stopped(i, false);
+        return Input {
+            state: State::Ended,
+            ..i
+        };
     }
     let Some(read) = i.read.checked_add(n as u64) else {
-        return stopped(i, true);
+        return Input {
+            state: State::Unread,
+            ..i
+        };
     };
     let bytes = &piece[..n];
     let t = inputs::take_piece(stdout, i.reader, bytes, room, line);
@@ -135,8 +156,7 @@ fn read_piece(
     Input {
         reader,
         read,
-        more: !reader.session.output.failed,
-        failed: false,
+        state: state_after(reader.session.output.failed),
     }
 }
 
@@ -153,11 +173,10 @@ fn read_all(
     let mut i = Input {
         reader: start,
         read: 0,
-        more: true,
-        failed: false,
+        state: State::Open,
     };
     for _ in 0..u64::MAX {
-        if !i.more {
+        if !is_open(i.state) {
             return i;
         }
         i = read_piece(stdin, stdout, i, room, line);
@@ -167,9 +186,9 @@ fn read_all(
 
 // The input has ended: the last line too, unless the input could not be read to its end.
 fn end_input(stdout: Stdout, i: Input, room: &mut Room, line: &[u8; LINE_ROOM]) -> Reader
-    ensures { Closes i.failed (place_in i.reader room.old line.now) (place_in result room.new line.now) }
+    ensures { Closes (is_unread i.state) (place_in i.reader room.old line.now) (place_in result room.new line.now) }
 {
-    if i.failed {
+    if is_unread(i.state) {
         return i.reader;
     }
     inputs::finish(stdout, i.reader, room, line)

@@ -1,23 +1,17 @@
 -- `outline::read_piece` meets its contract: the piece is counted, and read in a row behind what was read. Assumes nothing.
 use mathlib.Core.Path.{sym}
 use Rattle.inputs.proofs.Laws.{written_out}
-use Rattle.outline.proofs.Laws.{went_stopped, went_by}
+use Rattle.outline.proofs.Laws.{went_none, went_by}
 use Rattle.outline.proofs.read_piece.Goals as goal
 
 pub returns-in_default : goal.returns-in_default
-returns-in_default c =
-    let r = c.args.room.now in
-    went_stopped c.args.i r.block r.array r.log r.out r.text c.args.line.now c.stopped.ensures
+returns-in_default c = went_none _ _
 
 pub returns-then-n-eq0 : goal.returns-then-n-eq0
-returns-then-n-eq0 c =
-    let r = c.args.room.now in
-    went_stopped c.args.i r.block r.array r.log r.out r.text c.args.line.now c.stopped-then-n-eq0.ensures
+returns-then-n-eq0 c = went_none _ _
 
 pub returns-in_default-checked_add : goal.returns-in_default-checked_add
-returns-in_default-checked_add c =
-    let r = c.args.room.now in
-    went_stopped c.args.i r.block r.array r.log r.out r.text c.args.line.now c.stopped-in_default-checked_add.ensures
+returns-in_default-checked_add c = went_none _ _
 
 pub returns : goal.returns
 returns c =
