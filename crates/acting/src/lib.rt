@@ -27,19 +27,9 @@ pub struct Totals {
 fn seed(o: Order) -> usize
     ensures { result ≡ seed_of o }
 {
-    let c = o.command;
-    match c {
-        Command::Put => o.seed,
-        Command::Patch => o.seed,
-        Command::Get => o.seed,
-        Command::Wipe => o.seed,
-        Command::Raw => o.seed,
-        Command::Send => o.seed,
-        Command::End => o.seed,
-        Command::Pin => o.seed,
+    match o.command {
         Command::Cut => o.number,
-        Command::Part => o.seed,
-        Command::Sum => o.seed,
+        _ => o.seed,
     }
 }
 
@@ -70,7 +60,7 @@ pub fn take_step(
     let mut counts = [0u64; 3];
     let answer = effects::act(o, block, array, bytes, script, junk, log, out, &mut counts);
     Totals {
-        answer: answer,
+        answer,
         frames: counts[0],
         polls: counts[1],
         given: counts[2],

@@ -2,8 +2,7 @@
 // The function named to others has no `requires`: bad input is refused, and a refusal changes nothing. The entry points are in crate calls.
 #![tactic(auto)]
 
-ghost use Rattle.std.specs.Prelude.{◌≡◌, replicate, Some};
-ghost use Rattle.geometry.specs.Parts.{slot_room};
+ghost use Rattle.std.specs.Prelude.{◌≡◌, Some};
 ghost use Rattle.state.specs.Outcomes.{part_in};
 ghost use Rattle.slots.specs.Lists.{Op, asking};
 ghost use Rattle.blocks.specs.Promises.{held_in};
@@ -28,8 +27,7 @@ pub fn call(
 ) -> Done
     ensures { Promise (Op.call (asking r.kind r.slot r.limit) r.detail script.now payload.now junk.now log.old buffer.old) block.old array.old result block.new array.new log.new buffer.new }
 {
-    let o = blocks::operation(block);
-    match registers::place(array.len(), o) {
+    match registers::place(array.len(), blocks::operation(block)) {
         Some(g) => call_in(g, block, array, r, payload, buffer, script, junk, log),
         None => endings::refuse(Answer::Part),
     }
@@ -50,22 +48,14 @@ fn call_in(
     requires { part_in (held_in block.old array.old) ≡ Some g }
     ensures { Promise (Op.call (asking r.kind r.slot r.limit) r.detail script.now payload.now junk.now log.old buffer.old) block.old array.old result block.new array.new log.new buffer.new }
 {
-    let refusal = refusals::call_refusal(
-        g,
-        array.len(),
-        r,
-        payload.len(),
-        buffer.len(),
-        log.len(),
-        script,
-        junk.len(),
-    );
-    match refusal {
+    let n = payload.len();
+    let lent = buffer.len();
+    match refusals::call_refusal(g, array.len(), r, n, lent, log.len(), script, junk.len()) {
         Answer::Done => {
-            let d = starts::start(array.len(), r, payload.len(), buffer.len());
+            let d = starts::start(array.len(), r, n, lent);
             run(g, d, block, array, payload, buffer, script, junk, log)
         }
-        _ => endings::refuse(refusal),
+        early => endings::refuse(early),
     }
 }
 
@@ -84,7 +74,7 @@ fn run(
     requires { (part_in (held_in block.old array.old) ≡ Some g) × (Started g d array.old script.now junk.now log.old) }
     ensures { RunBy g d payload.now buffer.old script.now junk.now log.old block.old array.old result block.new array.new log.new buffer.new }
 {
-    let mut staged = blank_slot();
+    let mut staged = [0; 2112];
     let s = Session {
         driver: d,
         frames: 0,
@@ -101,11 +91,4 @@ fn run(
         polls: e.polls,
         count: n,
     }
-}
-
-// A slot's bytes before any is read.
-fn blank_slot() -> [u8; 2112]
-    ensures { result ≡ replicate slot_room 0 }
-{
-    [0; 2112]
 }

@@ -27,14 +27,13 @@ pub fn put(
 ) -> Done
     ensures { Promise (put slot limit term script.now recipe.now junk.now log.old) block.old array.old result block.new array.new log.new [] }
 {
-    let mut none = [0u8; 1];
     let r = Request {
         kind: Kind::Put,
         slot,
         limit,
         detail: starts::storing(term),
     };
-    callings::call(block, array, r, recipe, &mut none[..0], script, junk, log)
+    callings::call(block, array, r, recipe, &mut [], script, junk, log)
 }
 
 // The bytes are put at a place of the stored recipe, counted from its first byte.
@@ -51,14 +50,13 @@ pub fn patch(
 ) -> Done
     ensures { Promise (patch slot limit place script.now bytes.now junk.now log.old) block.old array.old result block.new array.new log.new [] }
 {
-    let mut none = [0u8; 1];
     let r = Request {
         kind: Kind::Patch,
         slot,
         limit,
         detail: starts::changing(place),
     };
-    callings::call(block, array, r, bytes, &mut none[..0], script, junk, log)
+    callings::call(block, array, r, bytes, &mut [], script, junk, log)
 }
 
 // The recipe goes to the lent buffer, and its length to the result, if today is inside its term.
@@ -81,7 +79,7 @@ pub fn get(
         limit,
         detail: starts::reading(today),
     };
-    callings::call(block, array, r, &junk[..0], buffer, script, junk, log)
+    callings::call(block, array, r, &[], buffer, script, junk, log)
 }
 
 // The slot is erased.
@@ -96,23 +94,13 @@ pub fn wipe(
 ) -> Done
     ensures { Promise (wipe slot limit script.now junk.now log.old) block.old array.old result block.new array.new log.new [] }
 {
-    let mut none = [0u8; 1];
     let r = Request {
         kind: Kind::Wipe,
         slot,
         limit,
         detail: starts::untold(),
     };
-    callings::call(
-        block,
-        array,
-        r,
-        &junk[..0],
-        &mut none[..0],
-        script,
-        junk,
-        log,
-    )
+    callings::call(block, array, r, &[], &mut [], script, junk, log)
 }
 
 // The answer's number, and frames, polls and n in the lent counts: what a caller of the C interface is told.

@@ -28,32 +28,25 @@ pub fn refuse(a: Answer) -> Done
 }
 
 // The answer that a driver tells; a call that was driven to its end has one.
+#[tactic(auto, unfolding(slots::specs::Calls::answer_in))]
 fn answer_in(t: Option<Answer>) -> Answer
     ensures { result ≡ answer_in t }
 {
-    match t {
-        None => Answer::Busy,
-        Some(a) => a,
-    }
+    t.unwrap_or(Answer::Busy)
 }
 
 // The call's answer.
 pub fn answer(s: Session) -> Answer
     ensures { result ≡ answer_of s }
 {
-    let d = s.driver;
-    let c = d.course;
-    let v = d.verdict;
-    let stage = c.stage;
-    answer_in(tellings::tell(stage, v))
+    answer_in(tellings::tell(s.driver.course.stage, s.driver.verdict))
 }
 
 // The buffer begins with the first n of the bytes, as far as both reach.
 fn lay_over(buffer: &mut [u8], bytes: &[u8], n: usize)
     ensures { buffer.new ≡ over (take n bytes.now) buffer.old }
 {
-    let m = numbers::lesser(n, bytes.len());
-    let k = numbers::lesser(m, buffer.len());
+    let k = n.min(bytes.len()).min(buffer.len());
     slices::copy(&mut buffer[..k], &bytes[..k]);
 }
 

@@ -34,8 +34,7 @@ fn settle(g: Geometry, block: &mut [u8; 765], array: &mut [u8], b: u8)
     if b != 0 {
         return;
     }
-    let o = blocks::operation(block);
-    if let Operation::Idle = o {
+    if let Operation::Idle = blocks::operation(block) {
         return;
     }
     inplace::end_busy(block, array);

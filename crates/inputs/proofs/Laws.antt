@@ -19,7 +19,7 @@ use Rattle.printing.specs.Held.{Held, Flushed}
 use Rattle.obeying.specs.declared.Session.{Session}
 use Rattle.obeying.specs.Desk.{Desk, desk_of}
 use Rattle.obeying.specs.Orders.{after_reading, reading_text, after_line, line_text}
-use Rattle.obeying.specs.Promises.{Roomy, Obeyed, with_output}
+use Rattle.obeying.specs.Promises.{Obeyed, with_output}
 use Rattle.inputs.specs.declared.Reader.{Reader}
 use Rattle.inputs.specs.Output.{Progress, ended, grown, fed, fed_all, finished}
 use Rattle.inputs.specs.Places.{line_room, Place, place, Kept, Keeps, At, Reads, Ends, Finishes, reader_with}
@@ -171,12 +171,6 @@ pub output_kept : (r : Reader) {t : Reader} {s : Session} {o : Output} {text : L
 output_kept r {t} {s} {o} {text} f e k =
     let w : t.session.output ≡ o = ap (λ (z : Reader). z.session.output) k ∙ ap (λ (z : Session). z.output) e in
     (subst (Flushed r.session.output text) (sym w) f, k ∙ (λ i. record { session = (e ∙ ap (with_output r.session) (sym w)) i; filled = r.filled }))
-
--- what keeps its length keeps its room
-pub roomy_kept : {xs js ls us ts xs' js' ls' us' ts' : List ℕ} → Roomy xs js ls us ts → length xs' ≡ length xs → length js' ≡ length js → length ls' ≡ length ls
-    → length us' ≡ length us → length ts' ≡ length ts → Roomy xs' js' ls' us' ts'
-roomy_kept r a b c d e =
-    record { array = a ∙ r.array; junk = b ∙ r.junk; log = c ∙ r.log; out = d ∙ r.out; text = omega (arith, r.text) }
 
 -- one byte more
 pub byte_more : (i : ℕ) (xs : List ℕ) → i < length xs → take i xs ++ (get_or xs i 0 ∷ []) ≡ take (i + 1) xs

@@ -2,14 +2,16 @@
 // Internal to this repository: a caller here meets each `requires`; no entry point is in this crate.
 #![tactic(auto)]
 
-ghost use Rattle.std.specs.Prelude.{◌≡◌, [], ◌∷◌, ◌+◌, ◌<◌, length};
-ghost use Rattle.obeying.specs.Promises.{Roomy};
-ghost use Rattle.inputs.specs.Places.{line_room, place, Keeps, Reads, Ends, Finishes, reader_with};
+ghost use Rattle.std.specs.Prelude.{◌≡◌, [], ◌∷◌};
+ghost use Rattle.inputs.specs.Places.{place_in, Keeps, Reads, Ends, Finishes, reader_with};
 ghost use Rattle.printing.specs.Held.{Flushed};
 
 use lines::count;
-use obeying::Session;
+use obeying::{Room, Session};
 use std::io::Stdout;
+
+// Of a line so many characters are kept: one more than the longest has.
+pub const LINE_ROOM: usize = 8193;
 
 #[derive(Clone, Copy)]
 pub struct Reader {
@@ -19,8 +21,7 @@ pub struct Reader {
 }
 
 // A character is kept behind those of the line that are kept already, if there is room.
-fn keep(filled: usize, byte: u8, line: &mut [u8]) -> usize
-    requires { length line.old ≡ line_room }
+fn keep(filled: usize, byte: u8, line: &mut [u8; LINE_ROOM]) -> usize
     ensures { Keeps byte filled line.old result line.new }
 {
     if filled < line.len() {
@@ -31,69 +32,27 @@ fn keep(filled: usize, byte: u8, line: &mut [u8]) -> usize
 }
 
 // The line is whole: what it says is done.
-fn end_line(
-    stdout: Stdout,
-    r: Reader,
-    block: &mut [u8; 765],
-    array: &mut [u8],
-    junk: &mut [u8],
-    log: &mut [u8],
-    out: &mut [u8],
-    text: &mut [u8],
-    line: &[u8],
-) -> Reader
-    requires { Roomy array.old junk.old log.old out.old text.old × (length line.now ≡ line_room) }
-    ensures { Ends (place r block.old array.old log.old out.old text.old line.now) (place result block.new array.new log.new out.new text.new line.now) }
+fn end_line(stdout: Stdout, r: Reader, room: &mut Room, line: &[u8; LINE_ROOM]) -> Reader
+    ensures { Ends (place_in r room.old line.now) (place_in result room.new line.now) }
 {
     let n = count(r.filled, line);
-    let s = obeying::act_on(
-        stdout,
-        r.session,
-        &line[..n],
-        block,
-        array,
-        junk,
-        log,
-        out,
-        text,
-    );
     Reader {
-        session: s,
+        session: obeying::act_on(stdout, r.session, &line[..n], room),
         filled: 0,
     }
 }
 
 // One byte of the input: LF ends a line.
-fn feed(
-    stdout: Stdout,
-    r: Reader,
-    byte: u8,
-    block: &mut [u8; 765],
-    array: &mut [u8],
-    junk: &mut [u8],
-    log: &mut [u8],
-    out: &mut [u8],
-    text: &mut [u8],
-    line: &mut [u8],
-) -> Reader
-    requires { Roomy array.old junk.old log.old out.old text.old × (length line.old ≡ line_room) }
-    ensures { Reads (byte ∷ []) (place r block.old array.old log.old out.old text.old line.old) (place result block.new array.new log.new out.new text.new line.new) }
+fn feed(stdout: Stdout, r: Reader, byte: u8, room: &mut Room, line: &mut [u8; LINE_ROOM]) -> Reader
+    ensures { Reads (byte ∷ []) (place_in r room.old line.old) (place_in result room.new line.new) }
 {
     if byte == b'\n' {
-        return end_line(stdout, r, block, array, junk, log, out, text, line);
+        return end_line(stdout, r, room, line);
     }
-    let n = keep(r.filled, byte, line);
-    let mut t = r;
-    t.filled = n;
-    t
-}
-
-// The index behind that of a byte of the piece.
-fn behind(piece: &[u8], at: usize) -> usize
-    requires { at < length piece.now }
-    ensures { result ≡ at + 1 }
-{
-    at + 1
+    Reader {
+        session: r.session,
+        filled: keep(r.filled, byte, line),
+    }
 }
 
 // A piece of the input.
@@ -101,47 +60,26 @@ pub fn take_piece(
     stdout: Stdout,
     start: Reader,
     piece: &[u8],
-    block: &mut [u8; 765],
-    array: &mut [u8],
-    junk: &mut [u8],
-    log: &mut [u8],
-    out: &mut [u8],
-    text: &mut [u8],
-    line: &mut [u8],
+    room: &mut Room,
+    line: &mut [u8; LINE_ROOM],
 ) -> Reader
-    requires { Roomy array.old junk.old log.old out.old text.old × (length line.old ≡ line_room) }
-    ensures { Reads piece.now (place start block.old array.old log.old out.old text.old line.old) (place result block.new array.new log.new out.new text.new line.new) }
+    ensures { Reads piece.now (place_in start room.old line.old) (place_in result room.new line.new) }
 {
     let mut r = start;
-    let mut i = 0;
-    while i < piece.len() {
-        r = feed(
-            stdout, r, piece[i], block, array, junk, log, out, text, line,
-        );
-        i = behind(piece, i);
+    for &byte in piece {
+        r = feed(stdout, r, byte, room, line);
     }
     r
 }
 
 // The end of the input: a line that no LF ends.
-pub fn finish(
-    stdout: Stdout,
-    r: Reader,
-    block: &mut [u8; 765],
-    array: &mut [u8],
-    junk: &mut [u8],
-    log: &mut [u8],
-    out: &mut [u8],
-    text: &mut [u8],
-    line: &[u8],
-) -> Reader
-    requires { Roomy array.old junk.old log.old out.old text.old × (length line.now ≡ line_room) }
-    ensures { Finishes (place r block.old array.old log.old out.old text.old line.now) (place result block.new array.new log.new out.new text.new line.now) }
+pub fn finish(stdout: Stdout, r: Reader, room: &mut Room, line: &[u8; LINE_ROOM]) -> Reader
+    ensures { Finishes (place_in r room.old line.now) (place_in result room.new line.now) }
 {
     if r.filled == 0 {
         return r;
     }
-    end_line(stdout, r, block, array, junk, log, out, text, line)
+    end_line(stdout, r, room, line)
 }
 
 // What waits to be written is written.

@@ -196,21 +196,26 @@ other_shown : (o : Order) (line : List ℕ) (d : Desk) (b : Bool) → is_step o.
 unfolding shown
 other_shown o line d b e f = sym (λ i. cond (e i) (shown_of o.command (seen_in o line d)) (cond (f i) (summed d) []))
 
-pub sum_done : (o : Order) (line : List ℕ) (s : Session) {r : Session} {text block array log out text' : List ℕ} → is_step o.command ≡ false → is_sum o.command ≡ true
-    → r ≡ with_output s r.output → Printed (summed (desk_of s block array log out)) s.output text r.output text'
-    → Obeyed (obeyed o line (desk_of s block array log out)) (shown o line (desk_of s block array log out)) s text r block array log out text'
-sum_done o line s {r} {text} {block} {array} {log} {out} {text'} e f k p =
+pub sum_done : (o : Order) (line : List ℕ) (s : Session) (d : Desk) {r : Session} {text block array log out text' : List ℕ} → is_step o.command ≡ false → is_sum o.command ≡ true
+    → r ≡ with_output s r.output → Printed (summed d) s.output text r.output text' → desk_of s block array log out ≡ d
+    → Obeyed (obeyed o line d) (shown o line d) s text r block array log out text'
+sum_done o line s d {r} {text} {block} {array} {log} {out} {text'} e f k p q =
     record {
-      desk = same-desk s block array log out k ∙ other_obeyed o line (desk_of s block array log out) true e f;
-      shows = printed_as p (other_shown o line (desk_of s block array log out) true e f);
+      desk = same-desk s block array log out k ∙ q ∙ other_obeyed o line d true e f;
+      shows = printed_as p (other_shown o line d true e f);
     }
 
-pub part-done : (o : Order) (line : List ℕ) (s : Session) {r : Session} (d : Desk) {text block array log out : List ℕ} → is_step o.command ≡ false → is_sum o.command ≡ false
-    → desk_of r block array log out ≡ renewed o.number d → r.output ≡ s.output → Obeyed (obeyed o line d) (shown o line d) s text r block array log out text
-part-done o line s {r} d {text} {block} {array} {log} {out} e f k h =
+pub part-done : (o : Order) (line : List ℕ) (s : Session) {r : Session} (d : Desk) {text block array log out text' : List ℕ} → is_step o.command ≡ false → is_sum o.command ≡ false
+    → desk_of r block array log out ≡ renewed o.number d → r.output ≡ s.output → text' ≡ text
+    → Obeyed (obeyed o line d) (shown o line d) s text r block array log out text'
+part-done o line s {r} d {text} {block} {array} {log} {out} {text'} e f k h q =
     record {
       desk = k ∙ other_obeyed o line d false e f;
-      shows = printed_as (subst (λ (x : Output). Printed [] s.output text x text) (sym h) (printed_none s.output text)) (other_shown o line d false e f);
+      shows =
+          printed_as
+          (subst (λ (x : Output). Printed [] s.output text x text') (sym h)
+          (subst (λ (ys : List ℕ). Printed [] s.output text s.output ys) (sym q) (printed_none s.output text)))
+          (other_shown o line d false e f);
     }
 
 -- ---- a line
@@ -280,16 +285,16 @@ whole_room n (inr (inr (inl e))) = omega arith
 whole_room n (inr (inr (inr (inl e)))) = omega arith
 whole_room n (inr (inr (inr (inr x)))) = absurd x
 
--- the part lent comes back as the array
-pub part-renewed : (s : Session) {r : Session} (n : ℕ) {block ys : List ℕ} (d : Desk) (ps log out : List ℕ) → length ys ≡ n → d.lines ≡ s.lines
-    → block ≡ encode_chip (chip_in (fresh_part n).state) → ys ≡ (fresh_part n).state.memory.array → r ≡ after_step s n 0 0 0 s.output
-    → desk_of r block (ys ++ ps) log out ≡ renewed n d
+-- the array begins with the part
+pub part-renewed : (s : Session) {r : Session} (n : ℕ) {block : List ℕ} (d : Desk) (xs log out : List ℕ) → d.lines ≡ s.lines
+    → block ≡ encode_chip (chip_in (fresh_part n).state) → take n xs ≡ (fresh_part n).state.memory.array → r ≡ after_step s n 0 0 0 s.output
+    → desk_of r block xs log out ≡ renewed n d
 unfolding renewed
-part-renewed s {r} n {block} {ys} d ps log out l f a b k =
-    ap (λ (x : Session). desk_of x block (ys ++ ps) log out) k
+part-renewed s {r} n {block} d xs log out f a b k =
+    ap (λ (x : Session). desk_of x block xs log out) k
     ∙ (λ i. record {
       block = a i;
-      array = (take_at ys ps n l ∙ b) i;
+      array = b i;
       log = [];
       out = [];
       given = 0;

@@ -7,6 +7,7 @@ use Rattle.blocks.specs.Block.{encode_chip}
 use Rattle.word_values.specs.Values.{first_length, parts}
 use Rattle.operands.specs.Bounds.{Among}
 use Rattle.obeying.specs.declared.Session.{Session}
+use Rattle.obeying.specs.declared.Room.{Room}
 
 -- the record block and the chip's array; of the last step the lent log, the lent get buffer or reply, and n of a get; how many lines there were
 pub record Desk : Type 0 where
@@ -28,6 +29,10 @@ desk_of s block array log out =
       given = s.given;
       lines = s.lines;
     }
+
+-- Aid: the same of a session and the program's room
+abbrev pub desk_in : Session → Room → Desk
+desk_in s r = desk_of s r.block r.array r.log r.out
 
 -- a line more; they are counted up to 2^64 - 1
 unfoldable pub counted : Desk → Desk

@@ -6,9 +6,10 @@ use Rattle.printing.specs.Held.{Printed}
 use Rattle.lengths.specs.Lengths.{array_room, log_room, out_room, junk_room}
 use Rattle.acting.specs.Steps.{Seen}
 use Rattle.obeying.specs.declared.Session.{Session}
+use Rattle.obeying.specs.declared.Room.{Room}
 use Rattle.obeying.specs.Desk.{Desk, desk_of}
 
--- the program's room: for the largest part's array, for junk, for a log, for a get buffer or reply, and for the longest line of text
+-- the program's room as slices: for the largest part's array, for junk, for a log, for a get buffer or reply, and for the longest line of text
 pub record Roomy (xs js ls us ts : List ℕ) : Type 0 where
   pub array : length xs ≡ array_room
   pub junk : length js ≡ junk_room
@@ -20,6 +21,10 @@ pub record Roomy (xs js ls us ts : List ℕ) : Type 0 where
 pub record Obeyed (d : Desk) (l : List ℕ) (s : Session) (text : List ℕ) (r : Session) (block array log out text' : List ℕ) : Type 0 where
   pub desk : desk_of r block array log out ≡ d
   pub shows : Printed l s.output text r.output text'
+
+-- the same of what the room holds before and after
+abbrev pub Obeys : Desk → List ℕ → Session → Room → Session → Room → Type 0
+Obeys d l s x r y = Obeyed d l s x.text r y.block y.array y.log y.out y.text
 
 -- ---- on the way there
 

@@ -6,16 +6,16 @@ ghost use Rattle.std.specs.Prelude.{◌≡◌, true, false, List, [], ℕ, ◌+�
 ghost use Rattle.printing.specs.Held.{Printed};
 ghost use Rattle.lines.specs.Texts.{fault_text};
 ghost use Rattle.printing.specs.Texts.{sum_line};
-ghost use Rattle.lengths.specs.Lengths.{Lends, lengths_of, array_room, junk_room, log_room};
+ghost use Rattle.lengths.specs.Lengths.{Lends, array_room};
 ghost use Rattle.acting.specs.Steps.{is_step, Seen};
 ghost use Rattle.orders.specs.Bounds.{Sound, SoundReading};
 ghost use Rattle.faults.specs.Messages.{text_of};
 ghost use Rattle.words.specs.Words.{is_call};
 ghost use Rattle.state.specs.Memory.{chip_in};
 ghost use Rattle.blocks.specs.Block.{encode_chip};
-ghost use Rattle.obeying.specs.Desk.{desk_of, counted, fresh_part, Whole, renewed, begun};
+ghost use Rattle.obeying.specs.Desk.{desk_of, desk_in, counted, fresh_part, Whole, renewed, begun};
 ghost use Rattle.obeying.specs.Orders.{is_sum, seen_on, seen_in, stepped, shown_by, shown_of, summed, obeyed, shown, after_line, line_text};
-ghost use Rattle.obeying.specs.Promises.{Roomy, Obeyed, Ran, after_step, with_output};
+ghost use Rattle.obeying.specs.Promises.{Roomy, Obeyed, Obeys, Ran, after_step, with_output};
 
 use acting::Totals;
 use lines::count;
@@ -38,6 +38,18 @@ pub struct Session {
     // How many lines have been read.
     pub lines: u64,
     pub output: Output,
+}
+
+// The buffers that live as long as the program: the chip's record block, its array, junk for a cut, a log, a get buffer or reply, and text that
+// waits to be written. Each is as long as any line can need.
+#[derive(Drop)]
+pub struct Room {
+    pub block: [u8; 765],
+    pub array: [u8; 1081344],
+    pub junk: [u8; 1114112],
+    pub log: [u8; 102204],
+    pub out: [u8; 65536],
+    pub text: [u8; 65536],
 }
 
 // ---- sessions
@@ -122,7 +134,8 @@ fn run(
     after_step(s, array.len(), log.len(), out.len(), given, p)
 }
 
-// The array and the buffers are lent at their lengths.
+// The array and the buffers are lent at their lengths. They come one by one, as in `run`: the check doesn't follow a part of an array that is a
+// struct's field.
 fn lend(
     stdout: Stdout,
     o: Order,
@@ -160,66 +173,52 @@ fn lend(
 }
 
 // A call, or an event on the chip.
-fn step(
-    stdout: Stdout,
-    o: Order,
-    s: Session,
-    line: &[u8],
-    block: &mut [u8; 765],
-    array: &mut [u8],
-    junk: &mut [u8],
-    log: &mut [u8],
-    out: &mut [u8],
-    text: &mut [u8],
-) -> Session
-    requires { Roomy array.old junk.old log.old out.old text.old × (is_step o.command ≡ true) × Sound (length line.now) o }
-    ensures { Obeyed (stepped (seen_in o line.now (desk_of s block.old array.old log.old out.old)) (desk_of s block.old array.old log.old out.old)) (shown_of o.command (seen_in o line.now (desk_of s block.old array.old log.old out.old))) s text.old result block.new array.new log.new out.new text.new }
+fn step(stdout: Stdout, o: Order, s: Session, line: &[u8], room: &mut Room) -> Session
+    requires { (is_step o.command ≡ true) × Sound (length line.now) o }
+    ensures { Obeys (stepped (seen_in o line.now (desk_in s room.old)) (desk_in s room.old)) (shown_of o.command (seen_in o line.now (desk_in s room.old))) s room.old result room.new }
 {
     let mut bytes = io::buffer();
     let mut script = io::buffer();
-    let w = o.bytes;
-    let v = o.script;
-    let m = contents::bytes_of(line, w, &mut bytes);
-    let k = contents::bytes_of(line, v, &mut script);
+    let m = contents::bytes_of(line, o.bytes, &mut bytes);
+    let k = contents::bytes_of(line, o.script, &mut script);
     lend(
         stdout,
         o,
         s,
-        block,
-        array,
+        &mut room.block,
+        &mut room.array,
         &bytes[..m],
         &script[..k],
-        junk,
-        log,
-        out,
-        text,
+        &mut room.junk,
+        &mut room.log,
+        &mut room.out,
+        &mut room.text,
     )
 }
 
 // ---- the other orders
 
-// The chip becomes a fresh part of `n` bytes; its factory bytes are 0.
+// The chip becomes a fresh part of `n` bytes, the first of the array; its factory bytes are 0.
 fn renew(n: usize, block: &mut [u8; 765], array: &mut [u8])
-    requires { (length array.old ≡ n) × Whole n }
-    ensures { (block.new ≡ encode_chip (chip_in (fresh_part n).state)) × (array.new ≡ (fresh_part n).state.memory.array) }
+    requires { (length array.old ≡ array_room) × Whole n }
+    ensures { (block.new ≡ encode_chip (chip_in (fresh_part n).state)) × (take n array.new ≡ (fresh_part n).state.memory.array) }
 {
     let factory = [0u8; 64];
-    slipknoll::slipknoll_fresh(block, &factory, array);
+    slipknoll::slipknoll_fresh(block, &factory, &mut array[..n]);
 }
 
 // A fresh part of `n` bytes; nothing was lent.
-fn part(s: Session, n: usize, block: &mut [u8; 765], array: &mut [u8]) -> Session
-    requires { (length array.old ≡ array_room) × Whole n }
-    ensures { ((log out : List ℕ) → desk_of result block.new array.new log out ≡ renewed n (desk_of s block.old array.old log out)) × (result.output ≡ s.output) }
+fn part(s: Session, n: usize, room: &mut Room) -> Session
+    requires { Whole n }
+    ensures { (desk_in result room.new ≡ renewed n (desk_in s room.old)) × (result.output ≡ s.output) × (room.new.text ≡ room.old.text) }
 {
-    renew(n, block, &mut array[..n]);
+    renew(n, &mut room.block, &mut room.array);
     after_step(s, n, 0, 0, 0, s.output)
 }
 
 // The program starts with a fresh short part.
-pub fn start(block: &mut [u8; 765], array: &mut [u8]) -> Session
-    requires { length array.old ≡ array_room }
-    ensures { ((log out : List ℕ) → desk_of result block.new array.new log out ≡ begun) × (result.output ≡ record { waiting = 0; written = 0; failed = false }) }
+pub fn start(room: &mut Room) -> Session
+    ensures { (desk_in result room.new ≡ begun) × (result.output ≡ record { waiting = 0; written = 0; failed = false }) }
 {
     let none = Session {
         size: 0,
@@ -229,33 +228,24 @@ pub fn start(block: &mut [u8; 765], array: &mut [u8]) -> Session
         lines: 0,
         output: printing::nothing(),
     };
-    part(none, FIRST_LENGTH, block, array)
+    part(none, FIRST_LENGTH, room)
 }
 
 // The checksums of the last step.
-fn sum(
-    stdout: Stdout,
-    s: Session,
-    block: &[u8; 765],
-    array: &[u8],
-    log: &[u8],
-    out: &[u8],
-    text: &mut [u8],
-) -> Session
-    requires { 128 ≤ length text.old }
-    ensures { (result ≡ with_output s result.output) × Printed (summed (desk_of s block.now array.now log.now out.now)) s.output text.old result.output text.new }
+fn sum(stdout: Stdout, s: Session, room: &mut Room) -> Session
+    ensures { (result ≡ with_output s result.output) × Printed (summed (desk_in s room.old)) s.output room.old.text result.output room.new.text × (desk_in s room.new ≡ desk_in s room.old) }
 {
-    let n = count(s.size, array);
-    let l = count(s.log, log);
-    let o = count(s.out, out);
+    let n = count(s.size, &room.array);
+    let l = count(s.log, &room.log);
+    let o = count(s.out, &room.out);
     let p = printing::print_sum(
         stdout,
         s.output,
-        text,
-        block,
-        &array[..n],
-        &log[..l],
-        &out[..o],
+        &mut room.text,
+        &room.block,
+        &room.array[..n],
+        &room.log[..l],
+        &room.out[..o],
         s.given,
     );
     with_output(s, p)
@@ -277,83 +267,37 @@ fn tell(stdout: Stdout, s: Session, f: Fault, text: &mut [u8]) -> Session
 fn is_step(c: Command) -> bool
     ensures { result ≡ is_step c }
 {
-    match c {
-        Command::Put => true,
-        Command::Patch => true,
-        Command::Get => true,
-        Command::Wipe => true,
-        Command::Raw => true,
-        Command::Send => true,
-        Command::End => true,
-        Command::Pin => true,
-        Command::Cut => true,
-        Command::Part => false,
-        Command::Sum => false,
-    }
+    !matches!(c, Command::Part | Command::Sum)
 }
 
 fn is_sum(c: Command) -> bool
     ensures { result ≡ is_sum c }
 {
-    match c {
-        Command::Put => false,
-        Command::Patch => false,
-        Command::Get => false,
-        Command::Wipe => false,
-        Command::Raw => false,
-        Command::Send => false,
-        Command::End => false,
-        Command::Pin => false,
-        Command::Cut => false,
-        Command::Part => false,
-        Command::Sum => true,
-    }
+    matches!(c, Command::Sum)
 }
 
 // The order `o` of a line.
-fn obey(
-    stdout: Stdout,
-    o: Order,
-    s: Session,
-    line: &[u8],
-    block: &mut [u8; 765],
-    array: &mut [u8],
-    junk: &mut [u8],
-    log: &mut [u8],
-    out: &mut [u8],
-    text: &mut [u8],
-) -> Session
-    requires { Roomy array.old junk.old log.old out.old text.old × Sound (length line.now) o }
-    ensures { Obeyed (obeyed o line.now (desk_of s block.old array.old log.old out.old)) (shown o line.now (desk_of s block.old array.old log.old out.old)) s text.old result block.new array.new log.new out.new text.new }
+fn obey(stdout: Stdout, o: Order, s: Session, line: &[u8], room: &mut Room) -> Session
+    requires { Sound (length line.now) o }
+    ensures { Obeys (obeyed o line.now (desk_in s room.old)) (shown o line.now (desk_in s room.old)) s room.old result room.new }
 {
     let command = o.command;
     if is_step(command) {
-        return step(stdout, o, s, line, block, array, junk, log, out, text);
+        return step(stdout, o, s, line, room);
     }
     if is_sum(command) {
-        return sum(stdout, s, block, array, log, out, text);
+        return sum(stdout, s, room);
     }
-    part(s, o.number, block, array)
+    part(s, o.number, room)
 }
 
 // A line is whole: it is acted on, or what is wrong with it is printed.
-pub fn act_on(
-    stdout: Stdout,
-    s: Session,
-    line: &[u8],
-    block: &mut [u8; 765],
-    array: &mut [u8],
-    junk: &mut [u8],
-    log: &mut [u8],
-    out: &mut [u8],
-    text: &mut [u8],
-) -> Session
-    requires { Roomy array.old junk.old log.old out.old text.old }
-    ensures { Obeyed (after_line line.now (desk_of s block.old array.old log.old out.old)) (line_text line.now (desk_of s block.old array.old log.old out.old)) s text.old result block.new array.new log.new out.new text.new }
+pub fn act_on(stdout: Stdout, s: Session, line: &[u8], room: &mut Room) -> Session
+    ensures { Obeys (after_line line.now (desk_in s room.old)) (line_text line.now (desk_in s room.old)) s room.old result room.new }
 {
     let t = next_line(s);
     match orders::read(line) {
-        Ok(o) => obey(stdout, o, t, line, block, array, junk, log, out, text),
-        Err(f) => tell(stdout, t, f, text),
+        Ok(o) => obey(stdout, o, t, line, room),
+        Err(f) => tell(stdout, t, f, &mut room.text),
     }
 }

@@ -16,25 +16,17 @@ use Rattle.inputs.specs.Output.{Progress, started, fed_all, finished, closed, du
 use Rattle.inputs.specs.Places.{Place, place, At, Reads, Finishes, Closes, reader_with}
 use Rattle.inputs.proofs.Laws.{kept-none, reads_none, reads_more, written_out}
 use Rattle.outline.specs.declared.Ended.{Ended}
-use Rattle.outline.specs.declared.Input.{Input}
 use Rattle.outline.specs.Run.{Went, Said}
 
 pub went_none : (n : ℕ) (x : Place) → Went n x n x
 went_none n x = record { input = []; counted = omega arith; reads = reads_none }
 
-pub went_stopped : (i : Input) {j : Input} {failed : Bool} (block array log out text line : List ℕ)
-    → j ≡ record { reader = i.reader; read = i.read; more = false; failed = failed }
-    → Went i.read (place i.reader block array log out text line) j.read (place j.reader block array log out text line)
-went_stopped i block array log out text line e =
-    subst (λ (j : Input). Went i.read (place i.reader block array log out text line) j.read (place j.reader block array log out text line)) (sym e)
-    (went_none i.read (place i.reader block array log out text line))
-
 -- a piece is read, and what waits is written
-pub went_by : {n k : ℕ} {x y z : Place} (xs : List ℕ) → length xs ≡ k → Reads xs x y → Reads [] y z → Went n x (n + k) z
-went_by xs e f g =
+pub went_by : {n k m : ℕ} {x y z : Place} (xs : List ℕ) → length xs ≡ k → m ≡ n + k → Reads xs x y → Reads [] y z → Went n x m z
+went_by xs e h f g =
     record {
       input = xs ++ [];
-      counted = omega (arith, e, length-append xs []);
+      counted = omega (arith, e, h, length-append xs []);
       reads = reads_more xs [] f g;
     }
 

@@ -1,9 +1,17 @@
 -- The whole run.
 -- Assumes nothing.
-use Rattle.std.specs.Prelude.{ℕ, ◌+◌, ◌≤◌, ◌≡◌, false, List, length}
+use Rattle.std.specs.Prelude.{ℕ, ◌+◌, ◌≤◌, ◌≡◌, Bool, true, false, List, length}
 use Rattle.inputs.specs.Output.{due_for}
 use Rattle.inputs.specs.Places.{Place, Reads}
 use Rattle.outline.specs.declared.Ended.{Ended}
+use Rattle.outline.specs.declared.State.{State}
+use Rattle.outline.specs.declared.State.TheVariants as State
+
+-- Aid: the input cannot be read
+abbrev pub is_unread : State → Bool
+is_unread State.Open = false
+is_unread State.Ended = false
+is_unread State.Unread = true
 
 -- Aid: some bytes have been read on the way, after `before` of them: `after` in all
 pub record Went (before : ℕ) (x : Place) (after : ℕ) (y : Place) : Type 0 where

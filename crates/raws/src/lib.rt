@@ -26,23 +26,13 @@ pub fn raw(
 ) -> Done
     ensures { Promise (Op.raw frame.now script.now junk.now log.old reply.old) block.old array.old result block.new array.new log.new reply.new }
 {
-    let o = blocks::operation(block);
-    let p = registers::place(array.len(), o);
-    match p {
+    match registers::place(array.len(), blocks::operation(block)) {
         Some(g) => {
-            let a = refusals::raw_refusal(
-                g,
-                array.len(),
-                frame,
-                reply.len(),
-                log.len(),
-                script,
-                junk.len(),
-            );
-            if state::number(a) != 0 {
-                return endings::refuse(a);
+            let n = reply.len();
+            match refusals::raw_refusal(g, array.len(), frame, n, log.len(), script, junk.len()) {
+                Answer::Done => raw_sent(g, block, array, frame, reply, script, junk, log),
+                early => endings::refuse(early),
             }
-            raw_sent(g, block, array, frame, reply, script, junk, log)
         }
         None => endings::refuse(Answer::Part),
     }
@@ -64,19 +54,18 @@ fn raw_sent(
 {
     let b = slices::byte_or(script, 0, 0);
     exchanges::exchange(g, block, array, frame, reply, log, 0, b);
-    if b == 2 {
-        exchanges::cut(g, block, array, junk);
-        return Done {
-            answer: Answer::Cut,
-            frames: 1,
-            polls: 0,
-            count: 0,
-        };
-    }
-    Done {
+    let sent = Done {
         answer: Answer::Done,
         frames: 1,
         polls: 0,
         count: 0,
+    };
+    if b == 2 {
+        exchanges::cut(g, block, array, junk);
+        return Done {
+            answer: Answer::Cut,
+            ..sent
+        };
     }
+    sent
 }

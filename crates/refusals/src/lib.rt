@@ -16,9 +16,9 @@ use state::Answer;
 fn largest(script: &[u8]) -> u8
     ensures { result ≡ largest_in script.now }
 {
-    let mut most = 0u8;
-    for x in script {
-        most = most.max(*x);
+    let mut most = 0;
+    for &byte in script {
+        most = most.max(byte);
     }
     most
 }

@@ -4,7 +4,7 @@
 
 ghost use Rattle.std.specs.Prelude.{◌≡◌, cond, not, ◌≤◌, length, take, eqb};
 ghost use Rattle.geometry.specs.Parts.{slot_room};
-ghost use Rattle.slots.specs.Driver.{ended, is_ended, frame_room};
+ghost use Rattle.slots.specs.Driver.{ended, is_ended};
 ghost use Rattle.worlds.specs.Turns.{with, step_in, Sound, data_after, took_on};
 ghost use Rattle.blocks.specs.Promises.{held_in};
 ghost use Rattle.runs.specs.Exchange.{Canonical};
@@ -15,23 +15,16 @@ use runs::Session;
 use slots::{Driver, Step};
 use state::Answer;
 
-// Room for a frame or a reply.
-fn blank_frame() -> [u8; 272]
-    ensures { length result ≡ frame_room }
-{
-    [0; 272]
-}
-
 // The driver after the frame's script byte b: d before the reply, e with the reply taken in. A cut ends the call with 11 before
 // anything of the reply is looked at.
 fn heed(b: u8, d: Driver, e: Driver) -> Driver
     ensures { result ≡ with e e.verdict (cond (eqb b 2) (ended Answer.Cut d.course) e.course) }
 {
     if b == 2 {
-        let c = d.course;
-        let mut h = e;
-        h.course = courses::end_with(c, Answer::Cut);
-        return h;
+        return Driver {
+            course: courses::end_with(d.course, Answer::Cut),
+            ..e
+        };
     }
     e
 }
@@ -71,9 +64,7 @@ fn turn(
     ensures { (Turned g (held_in block.old array.old) s payload.now staged.old script.now log.old (held_in block.new array.new) result staged.new log.new) × (Canonical block.new) }
 {
     let d = s.driver;
-    let c = d.course;
-    let k = d.kind;
-    let x = steps::step_at(k, d.slot, c.place);
+    let x = steps::step_at(d.kind, d.slot, d.course.place);
     let n = turns::write_step(g, d, x, payload, staged, frame);
     let b = slices::byte_or(script, s.frames, 0);
     exchanges::exchange_first(g, block, array, frame, reply, n, log, 6 * s.frames, b);
@@ -89,10 +80,7 @@ fn turn(
 fn is_going(s: Session) -> bool
     ensures { result ≡ not (is_ended s.driver.course.stage) }
 {
-    let d = s.driver;
-    let c = d.course;
-    let stage = c.stage;
-    !courses::has_ended(stage)
+    !courses::has_ended(s.driver.course.stage)
 }
 
 // The call loop, one for every call.
@@ -109,8 +97,8 @@ pub fn drive(
     requires { Starts g (held_in block.old array.old) start log.old }
     ensures { (Driven g (held_in block.old array.old) start payload.now staged.old script.now log.old (held_in block.new array.new) result staged.new log.new) × (Canonical block.new) }
 {
-    let mut frame = blank_frame();
-    let mut reply = blank_frame();
+    let mut frame = [0; 272];
+    let mut reply = [0; 272];
     let mut s = start;
     while is_going(s) {
         s = turn(

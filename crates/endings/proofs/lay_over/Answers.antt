@@ -18,5 +18,5 @@ copy-requires c = simp length-take (omega arith)
 pub returns : goal.returns
 returns c =
     let a = c.args in
-    laid a.n c.lesser-k.result a.bytes.now a.buffer.now _
-    (c.lesser-k.ensures ∙ ap (λ (m : ℕ). min m (length a.buffer.now)) c.lesser-m.ensures) c.copy.ensures
+    laid a.n c.min-k.result a.bytes.now a.buffer.now _
+    (c.min-k.ensures ∙ ap (λ (m : ℕ). min m (length a.buffer.now)) c.min.ensures) c.copy.ensures

@@ -15,7 +15,7 @@ pub returns-in-Idle : goal.returns-in-Idle
 unfolding decode_chip decode_registers
 returns-in-Idle c =
     let a = c.args in
-    let e = sym c.operation-o.ensures.0 ∙ c.in-Idle.is in
+    let e = sym c.operation.ensures.0 ∙ c.in-Idle.is in
     (zero_idle a.g a.b (held_in a.block.now a.array.now) c.if-b-ne0.false e, c.requires.1)
 
 pub returns : goal.returns

@@ -6,8 +6,5 @@ use Rattle.inputs.proofs.finish.Goals as goal
 pub returns-then-r-eq0 : goal.returns-then-r-eq0
 returns-then-r-eq0 c = ends-none c.args.r c.if-r-eq0.true
 
-pub end_line-requires : goal.end_line-requires
-end_line-requires c = c.requires
-
 pub returns : goal.returns
 returns c = ends_last c.args.r (ne_eqb c.args.r.filled 0 c.if-r-eq0.false) c.end_line.ensures

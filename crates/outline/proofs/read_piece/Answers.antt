@@ -1,17 +1,19 @@
 -- `outline::read_piece` meets its contract: the piece is counted, and read in a row behind what was read. Assumes nothing.
 use mathlib.Core.Path.{sym}
 use Rattle.inputs.proofs.Laws.{written_out}
-use Rattle.outline.proofs.Laws.{went_stopped, went_by}
+use Rattle.outline.proofs.Laws.{went_none, went_by}
 use Rattle.outline.proofs.read_piece.Goals as goal
 
+pub returns-in_default : goal.returns-in_default
+returns-in_default c = went_none _ _
+
 pub returns-then-n-eq0 : goal.returns-then-n-eq0
-returns-then-n-eq0 c = went_stopped (c.args.i) (c.args.block.now) (c.args.array.now) (c.args.log.now) (c.args.out.now) (c.args.text.now) (c.args.line.now) (c.stopped.ensures)
+returns-then-n-eq0 c = went_none _ _
 
-pub returns-then-room-n : goal.returns-then-room-n
-returns-then-room-n c = went_stopped (c.args.i) (c.args.block.now) (c.args.array.now) (c.args.log.now) (c.args.out.now) (c.args.text.now) (c.args.line.now) (c.stopped-then-room-n.ensures)
-
-pub take_piece-t-requires : goal.take_piece-t-requires
-take_piece-t-requires c = c.requires
+pub returns-in_default-checked_add : goal.returns-in_default-checked_add
+returns-in_default-checked_add c = went_none _ _
 
 pub returns : goal.returns
-returns c = went_by _ (sym (c.read_some-got.ensures.1)) (c.take_piece-t.ensures) (written_out _ _ _ _ _ (c.write_out-w.ensures.0) (c.write_out-w.ensures.1))
+returns c =
+    let r = c.take_piece-t.new.room in
+    went_by _ (sym c.in-Some.ensures.1) c.in-Some-checked_add.ensures.1 c.take_piece-t.ensures (written_out r.block r.array r.log r.out _ c.write_out-reader.ensures.0 c.write_out-reader.ensures.1)

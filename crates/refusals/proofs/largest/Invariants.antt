@@ -1,4 +1,4 @@
--- `refusals::largest` meets its contract: the largest byte so far and that of the bytes from the loop's place on are the script's.
+-- `refusals::largest` meets its contract: the largest byte so far and that of the bytes to come are the script's.
 -- Assumes nothing.
 use mathlib.Core.Path.{◌≡◌}
 use Prim.Native.Nat.{max}
@@ -6,5 +6,5 @@ use lib.ListN.{drop}
 use Rattle.refusals.specs.Largest.{largest_in}
 use Rattle.refusals.proofs.largest.Given as goal
 
-abbrev pub invariant-loop-x : goal.invariant-loop-x
-invariant-loop-x l = max l.most (largest_in (drop l.x-index l.script)) ≡ largest_in l.script
+abbrev pub invariant-loop-byte : goal.invariant-loop-byte
+invariant-loop-byte l = max l.most (largest_in (drop l.byte-index l.script)) ≡ largest_in l.script

@@ -11,7 +11,7 @@ use Rattle.sessions.proofs.heed.Goals as goal
 pub returns-then-b-eq2 : goal.returns-then-b-eq2
 returns-then-b-eq2 c =
     let a = c.args in
-    ap (λ (h : Course). with a.e a.e.verdict h) c.end_with-h.ensures
+    ap (λ (h : Course). with a.e a.e.verdict h) c.end_with.ensures
     ∙ ap (λ (b : Bool). with a.e a.e.verdict (cond b (ended Answers.Cut a.d.course) a.e.course)) (sym (eq-eqb a.b 2 c.if-b-eq2.true))
 
 pub returns : goal.returns
