@@ -1,11 +1,8 @@
 -- The lengths of what is stored: the head is twelve bytes and the data 64, whatever the operation is, so with arrays of their lengths the
 -- registers take 236 bytes and the chip 765.
 -- Assumes nothing.
-use mathlib.Core.Path.{◌≡◌, refl, sym, ap, ◌∙◌}
-use mathlib.Core.List.{List}
-use Prim.Native.Nat.{ℕ}
+use mathlib.Core.Path.{◌≡◌, refl}
 use lib.ListN.{length, length-append}
-use Rattle.slices.specs.Lists.{splice}
 use Rattle.slices.specs.Words.{word_bytes}
 use Rattle.registers.specs.declared.Operation.{Operation}
 use Rattle.registers.specs.declared.Registers.{Registers}
@@ -43,8 +40,3 @@ length-encode_registers r a =
 pub length-encode_chip : (c : Chip) → Whole c → length (encode_chip c) ≡ 765
 unfolding encode_chip
 length-encode_chip c s = simp (length-append, length-encode_registers c.registers s.registers, s.buffer1, s.buffer2)
-
--- an arm that stores the data of an operation, by its update
-pub data_stored : (o : Operation) (block : List ℕ) {u v : Update} {z : List ℕ} → u ≡ update_of o → u ≡ v → z ≡ splice 172 (bytes_held v) block → z ≡ splice 172 (data_bytes o) block
-unfolding data_bytes
-data_stored o block e k h = h ∙ ap (λ (x : Update). splice 172 (bytes_held x) block) (sym k ∙ e)

@@ -1,6 +1,7 @@
 -- What is stored is read back. Each part of the block lies where its offset says, since the parts before it have their lengths; a number
 -- that fits its bytes is the number that they make.
 -- Assumes nothing.
+use mir.Val.{bool_byte}
 use mathlib.Core.Path.{◌≡◌, refl, sym, ap, ◌∙◌}
 use mathlib.Core.Bool.{Bool, true, false}
 use mathlib.Core.List.{List, [], ◌∷◌, ◌++◌, append_assoc}
@@ -55,6 +56,11 @@ unfolding joined encode_chip encode_registers
 lies c = record { same = simp append_assoc }
 
 -- ---- flags and numbers
+-- a flag's byte is what `u8::from` makes of it
+pub from_flag : (b : Bool) → bool_byte b ≡ flag_byte b
+from_flag true = refl
+from_flag false = refl
+
 pub flag_back : (b : Bool) → flag (flag_byte b) ≡ b
 flag_back true = refl
 flag_back false = refl

@@ -6,4 +6,4 @@ use native.Mathlib.Omega.{arith}
 use Rattle.block_parts.proofs.put.Goals as goal
 
 pub returns : goal.returns
-returns c = kept_spliced c.args.at (c.args.at + length c.args.part.now - c.args.at) c.args.block.now (omega arith) c.copy.auto.part c.copy.ensures
+returns c = kept_spliced c.args.at (c.args.at + length c.args.part.now - c.args.at) c.args.block.now (omega arith) c.copy_from_slice.auto.self c.copy_from_slice.ensures.after

@@ -12,9 +12,9 @@ use Rattle.block_parts.proofs.put_idle.Goals as goal
 pub returns : goal.returns
 unfolding head_bytes head_of data_bytes
 returns c =
-    let a = c.args in
-    let b = a.block.now in
-    let f = flagged a.used a.protect a.wp a.deep in
-    c.clear_data.ensures
-    ∙ ap (λ (t : List ℕ). splice 172 (data_bytes Idle) t) (c.put.ensures ∙ ap (λ (l : List ℕ). splice 160 l b) (c.head_bytes-bytes.ensures ∙ ap (head_bytes f) c.headed.ensures))
+    let b = c.args.block.now in
+    let m = c.args.f in
+    let f = flagged m.used m.protect m.wp m.deep in
+    c.put-2.ensures
+    ∙ ap (λ (t : List ℕ). splice 172 (data_bytes Idle) t) (c.put.ensures ∙ ap (λ (l : List ℕ). splice 160 l b) (c.head_bytes.ensures ∙ ap (head_bytes f) c.headed.ensures))
     ∙ sym (splice_append 160 (head_bytes f (head_of Idle)) (data_bytes Idle) b)

@@ -10,11 +10,11 @@ use Rattle.state.specs.Memory.{with_registers}
 use Rattle.blocks.specs.Block.{decode_operation, decode_registers, decode_chip, encode_chip}
 use Rattle.settling.proofs.settle.Goals as goal
 
-pub returns-in-Idle : goal.returns-in-Idle
+pub returns-in-Nothing-Idle : goal.returns-in-Nothing-Idle
 unfolding changed decode_registers
-returns-in-Idle c =
+returns-in-Nothing-Idle c =
     let b = c.args.block.now in
-    let e : decode_operation b ≡ Idle = sym c.requires.1 ∙ c.in-Idle.is in
+    let e : decode_operation b ≡ Idle = sym c.requires ∙ c.in-Nothing-Idle.is-1 in
     c.rest.ensures
     ∙ (λ i. encode_chip (with_registers (decode_chip b) (with_operation (decode_registers b) (sym e i))))
-    ∙ ap (λ (k : Change). encode_chip (with_registers (decode_chip b) (changed k (decode_registers b)))) (sym c.in-Nothing.is)
+    ∙ ap (λ (k : Change). encode_chip (with_registers (decode_chip b) (changed k (decode_registers b)))) (sym c.in-Nothing-Idle.is-0)
