@@ -2,11 +2,12 @@
 use Rattle.control.specs.Starts.{Lengths}
 use Rattle.blocks.specs.Block.{encode_registers, encode_chip}
 use mathlib.Core.List.{[], ◌∷◌, ◌++◌}
+use Rattle.blocks.proofs.RoundTrip.{from_flag}
 use Rattle.blocks.proofs.Lengths.{length-encode_registers}
 use Rattle.blocks.proofs.Stored.{stored_more, splice_one, four}
 use Rattle.slices.proofs.Laws.{over-whole}
 use Rattle.geometry.specs.Parts.{page_room}
-use lib.ListN.{length, length-set}
+use lib.ListN.{length}
 use native.Mathlib.Omega.{arith}
 use Prim.Native.Nat.{ℕ}
 use mathlib.Core.Path.{◌≡◌, refl, sym, ap, ◌∙◌}
@@ -19,14 +20,11 @@ put-requires c = let l : length c.args.c.buffer1 ≡ page_room = search rules in
 pub put-requires-2 : goal.put-requires-2
 put-requires-2 c = let l : length c.args.c.buffer2 ≡ page_room = search rules in omega arith
 
-pub shape_of-block : goal.shape_of-block
-shape_of-block c = simp length-set (c.put-2.auto.block ∙ c.put.auto.block ∙ c.encode_registers.auto.block)
-
 pub returns : goal.returns
 unfolding encode_chip
 returns c =
     let k = c.args.c in
-    let x = c.flag_byte.result in
+    let x = c.from.result in
     let l1 : length k.buffer1 ≡ page_room = search rules in
     let l2 : length k.buffer2 ≡ page_room = search rules in
     let a : Lengths k.registers = record { protection = search rules; lockdown = search rules; user = search rules; factory = search rules } in
@@ -39,6 +37,6 @@ returns c =
     c.put-2.ensures)
     (splice_one 764 x c.put-2.new.block)
     in
-    z.same ∙ over-whole _ _ (z.long ∙ sym c.requires)
+    z.same ∙ over-whole _ _ (z.long ∙ sym c.told-block)
     ∙ four (encode_registers k.registers) k.buffer1 k.buffer2 (x ∷ [])
-    ∙ ap (λ (y : ℕ). encode_registers k.registers ++ (k.buffer1 ++ (k.buffer2 ++ (y ∷ [])))) c.flag_byte.ensures
+    ∙ ap (λ (y : ℕ). encode_registers k.registers ++ (k.buffer1 ++ (k.buffer2 ++ (y ∷ [])))) (c.from.ensures ∙ from_flag k.compare)

@@ -25,12 +25,6 @@ put-requires-3 c = let l : length c.args.r.user ≡ 64 = search rules in omega a
 pub put-requires-4 : goal.put-requires-4
 put-requires-4 c = let l : length c.args.r.factory ≡ 64 = search rules in omega arith
 
-pub put_operation-requires : goal.put_operation-requires
-put_operation-requires c = c.put-4.auto.block ∙ c.put-3.auto.block ∙ c.put-2.auto.block ∙ c.put.auto.block ∙ c.requires
-
-pub shape_of-block : goal.shape_of-block
-shape_of-block c = c.put_operation.auto.block ∙ c.put-4.auto.block ∙ c.put-3.auto.block ∙ c.put-2.auto.block ∙ c.put.auto.block
-
 pub returns : goal.returns
 unfolding encode_registers head_bytes
 returns c =
