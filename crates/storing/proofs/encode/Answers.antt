@@ -8,17 +8,10 @@ use Rattle.blocks.proofs.Stored.{stored_more, splice_one, four}
 use Rattle.slices.proofs.Laws.{over-whole}
 use Rattle.geometry.specs.Parts.{page_room}
 use lib.ListN.{length}
-use native.Mathlib.Omega.{arith}
 use Prim.Native.Nat.{ℕ}
 use mathlib.Core.Path.{◌≡◌, refl, sym, ap, ◌∙◌}
 use borrow.Author.Rules.{rules}
 use Rattle.storing.proofs.encode.Goals as goal
-
-pub put-requires : goal.put-requires
-put-requires c = let l : length c.args.c.buffer1 ≡ page_room = search rules in omega arith
-
-pub put-requires-2 : goal.put-requires-2
-put-requires-2 c = let l : length c.args.c.buffer2 ≡ page_room = search rules in omega arith
 
 pub returns : goal.returns
 unfolding encode_chip

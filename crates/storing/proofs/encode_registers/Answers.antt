@@ -13,18 +13,6 @@ use Rattle.blocks.proofs.Lengths.{length-head_bytes, length-data_bytes}
 use Rattle.blocks.proofs.Stored.{stored-none, stored_more, five}
 use Rattle.storing.proofs.encode_registers.Goals as goal
 
-pub put-requires : goal.put-requires
-put-requires c = let l : length c.args.r.protection ≡ 16 = search rules in omega arith
-
-pub put-requires-2 : goal.put-requires-2
-put-requires-2 c = let l : length c.args.r.lockdown ≡ 16 = search rules in omega arith
-
-pub put-requires-3 : goal.put-requires-3
-put-requires-3 c = let l : length c.args.r.user ≡ 64 = search rules in omega arith
-
-pub put-requires-4 : goal.put-requires-4
-put-requires-4 c = let l : length c.args.r.factory ≡ 64 = search rules in omega arith
-
 pub returns : goal.returns
 unfolding encode_registers head_bytes
 returns c =
