@@ -5,8 +5,7 @@ use mathlib.Core.Path.{◌≡◌, refl, ap, ◌∙◌}
 use mathlib.Core.Bool.{Bool, true}
 use mathlib.Core.List.{List, [], ◌++◌}
 use Prim.Native.Nat.{ℕ, ◌*◌}
-use native.Mathlib.Omega.{arith}
-use lib.ListN.{length, set, take, drop, length-append, length-take, length-drop}
+use lib.ListN.{length, set, take, drop}
 use Rattle.geometry.specs.Parts.{page_room}
 use Rattle.commands.specs.declared.Buffer.TheVariants.{One, Two}
 use Rattle.registers.specs.declared.Registers.{Registers}
@@ -40,10 +39,6 @@ changed-lengths Nothing r a = a
 changed-lengths (Start o) r a = record { protection = a.protection; lockdown = a.lockdown; user = a.user; factory = a.factory }
 changed-lengths (Protect on) r a = record { protection = a.protection; lockdown = a.lockdown; user = a.user; factory = a.factory }
 changed-lengths (Sleep on) r a = record { protection = a.protection; lockdown = a.lockdown; user = a.user; factory = a.factory }
-
--- the block keeps its length
-pub back_length : (y zs : List ℕ) → length y ≡ 765 → length zs ≡ 2 * page_room → length (take 236 y ++ (zs ++ drop (2 * page_room) (drop 236 y))) ≡ 765
-back_length y zs l n = simp (length-append, length-take, length-drop) (omega arith)
 
 -- the chip of a block of 765 bytes, after a change
 abbrev pub settled_of : List ℕ → Change → Chip

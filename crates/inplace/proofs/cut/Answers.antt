@@ -9,6 +9,6 @@ use Rattle.inplace.proofs.cut.Goals as goal
 pub returns : goal.returns
 returns c =
     let a = c.args in
-    let d = c.decode-c.ensures in
+    let d = c.decode.ensures in
     met-stored a.block.now (leaves_read (λ (k : Chip). cut_outcome a.junk.now (state_of k a.array.now)) d.0 c.cut-o.ensures)
     c.store.ensures.0 c.store.ensures.1 (cut_back a.block.now a.array.now d.1 a.junk.now)

@@ -1,10 +1,8 @@
 -- `inplace::end_busy` meets its contract: an end that changes registers goes by the chip as a value; any other is made in place.
 -- Assumes nothing.
-use mathlib.Core.Path.{◌≡◌, refl, sym, ap, ◌∙◌}
+use mathlib.Core.Path.{refl, sym, ap, ◌∙◌}
 use mathlib.Core.List.{[]}
 use lib.ListN.{length}
-use borrow.Author.Rules.{rules}
-use borrow.Author.Tests.{not-false}
 use Rattle.registers.specs.Operations.{placed}
 use Rattle.registers.proofs.Places.{placed_known, placed_sized}
 use Rattle.state.specs.declared.Answer.TheVariants as Answers
@@ -21,29 +19,28 @@ use Rattle.inplace.proofs.end_busy.Goals as goal
 pub returns-then-not-is_plain : goal.returns-then-not-is_plain
 returns-then-not-is_plain c =
     let a = c.args in
-    let d = c.decode-c.ensures in
+    let d = c.decode.ensures in
     met-stored a.block.now (leaves_read (λ (k : Chip). end_outcome (state_of k a.array.now)) d.0 c.end_busy-e.ensures)
     c.store.ensures.0 c.store.ensures.1 (ended_back a.block.now a.array.now d.1)
 
 pub end_in-requires : goal.end_in-requires
 end_in-requires c =
-    let e = sym c.place-p.ensures ∙ c.in-Some.is in
-    let n : length c.args.block.now ≡ 765 = search rules in
-    (placed_sized _ _ _ e, n, c.operation-o.ensures.0, (placed_known _ _ _ e).1, sym c.is_plain.ensures ∙ not-false _ c.if-not-is_plain.false-raw)
+    let e = sym c.place.ensures ∙ c.in-Some.is in
+    (placed_sized _ _ _ e, c.operation-o.ensures.0, (placed_known _ _ _ e).1, sym c.is_plain.ensures ∙ c.if-not-is_plain.false)
 
-pub returns-in-Some : goal.returns-in-Some
+pub returns : goal.returns
 unfolding decode_chip decode_registers
-returns-in-Some c =
+returns c =
     let a = c.args in
     let o = c.operation-o.ensures in
-    let e = ap (placed (length a.array.now)) (sym o.0) ∙ sym c.place-p.ensures ∙ c.in-Some.is in
+    let e = ap (placed (length a.array.now)) (sym o.0) ∙ sym c.place.ensures ∙ c.in-Some.is in
     let g = c.in-Some.g in
     let s = held_in a.block.now a.array.now in
     met-done a.block.now (ended_state g s) (end-done s g e) (ended-holds s o.1 g) c.end_in.ensures.0 c.end_in.ensures.1 refl
 
-pub returns-in-None : goal.returns-in-None
+pub returns-in_default : goal.returns-in_default
 unfolding stored_by number_of decode_chip decode_registers
-returns-in-None c =
+returns-in_default c =
     let a = c.args in
-    let e = ap (placed (length a.array.now)) (sym c.operation-o.ensures.0) ∙ sym c.place-p.ensures ∙ c.in-None.is in
+    let e = ap (placed (length a.array.now)) (sym c.operation-o.ensures.0) ∙ sym c.place.ensures ∙ c.in_default.is in
     met-refused Answers.Part a.block.now a.array.now [] (end-part (held_in a.block.now a.array.now) e) refl refl

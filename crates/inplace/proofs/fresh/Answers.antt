@@ -7,11 +7,11 @@ use Rattle.inplace.proofs.fresh.Goals as goal
 
 pub returns : goal.returns
 returns c =
-    let whole : Whole c.fresh-o.result.chip =
+    let whole : Whole c.fresh.result.chip =
     record {
       registers = record { protection = search rules; lockdown = search rules; user = search rules; factory = search rules };
       buffer1 = search rules;
       buffer2 = search rules;
     }
     in
-    met_fresh c.args.block.now c.args.factory.now c.args.array.now whole c.fresh-o.ensures c.store.ensures.0 c.store.ensures.1
+    met_fresh c.args.block.now c.args.factory.now c.args.array.now whole c.fresh.ensures c.store.ensures.0 c.store.ensures.1
