@@ -2,13 +2,15 @@
 // Internal to this repository: the entry points are in crate slipknoll.
 #![tactic(auto)]
 
-ghost use Rattle.std.specs.Prelude.{◌≡◌, ◌+◌, ◌≤◌, length};
+ghost use Rattle.std.specs.Prelude.{◌≡◌, ◌+◌, ◌≤◌};
 ghost use Rattle.slices.specs.Words.{word_at};
-ghost use Rattle.driver_blocks.specs.Block.{kind_of, verdict_of, answer_at, is_kind, is_ours, stage_of, flag, period_at, decode_course, decode_aim, decode_driver};
+ghost use Rattle.driver_blocks.specs.Block.{kind_of, verdict_of, answer_at, is_kind, is_ours, stage_of, period_at, decode_course, decode_aim, decode_driver};
 
 use slots::{Aim, Course, Driver, Kind, Period, Verdict};
 use state::Answer;
 
+// The three below are no `From<u8>`: their enums are of other crates, and the numbers are the layout of the block that C holds.
+#[tactic(auto, unfolding(crate::specs::Block::kind_of))]
 fn kind(n: u8) -> Kind
     ensures { result ≡ kind_of n }
 {
@@ -20,6 +22,7 @@ fn kind(n: u8) -> Kind
     }
 }
 
+#[tactic(auto, unfolding(crate::specs::Block::verdict_of))]
 fn verdict(n: u8) -> Verdict
     ensures { result ≡ verdict_of n }
 {
@@ -33,6 +36,7 @@ fn verdict(n: u8) -> Verdict
 }
 
 // The answer of a number of the table.
+#[tactic(auto, unfolding(crate::specs::Block::answer_at))]
 fn answer_at(n: u8) -> Answer
     ensures { result ≡ answer_at n }
 {
@@ -57,82 +61,65 @@ fn answer_at(n: u8) -> Answer
     }
 }
 
+#[tactic(auto, unfolding(crate::specs::Block::is_kind))]
 fn is_kind(n: u8) -> bool
     ensures { result ≡ is_kind n }
 {
-    match n {
-        0x0F => true,
-        0x33 => true,
-        0x55 => true,
-        0xF0 => true,
-        _ => false,
-    }
+    matches!(n, 0x0F | 0x33 | 0x55 | 0xF0)
 }
 
 // Whether the first four bytes are such as a state is written with.
+#[tactic(auto, unfolding(crate::specs::Block::is_ours))]
 fn is_ours(block: &[u8; 72]) -> bool
     ensures { result ≡ is_ours block.now }
 {
-    if !is_kind(block[0]) {
-        return false;
-    }
-    if 4 < block[1] {
-        return false;
-    }
-    if 1 < block[2] {
-        return false;
-    }
-    block[3] <= 16
+    is_kind(block[0]) && block[1] <= 4 && block[2] <= 1 && block[3] <= 16
 }
 
+#[tactic(auto, unfolding(crate::specs::Block::stage_of))]
 fn stage(ours: bool, n: u8, a: u8) -> Option<Answer>
     ensures { result ≡ stage_of ours n a }
 {
-    if !ours {
-        return Some(Answer::Part);
+    match (ours, n) {
+        (false, _) => Some(Answer::Part),
+        (true, 0) => None,
+        (true, _) => Some(answer_at(a)),
     }
-    if n == 0 {
-        return None;
-    }
-    Some(answer_at(a))
-}
-
-fn is_set(x: u8) -> bool
-    ensures { result ≡ flag x }
-{
-    x != 0
 }
 
 // No term under 0, whatever the two numbers.
+#[tactic(auto, unfolding(crate::specs::Block::period_at))]
 fn period(n: u8, first: usize, last: usize) -> Period
     ensures { result ≡ period_at n first last }
 {
-    if n == 0 {
-        return Period::Always;
+    match n {
+        0 => Period::Always,
+        _ => Period::Days { first, last },
     }
-    Period::Days { first, last }
 }
 
 // The number of eight bytes from index `at` on.
-fn number_at(block: &[u8], at: usize) -> usize
-    requires { at + 8 ≤ length block.now }
+fn number_at(block: &[u8; 72], at: usize) -> usize
+    requires { at + 8 ≤ 72 }
     ensures { result ≡ word_at block.now at }
 {
     slices::word_at(block, at) as usize
 }
 
+#[tactic(auto, unfolding(crate::specs::Block::decode_course))]
 fn decode_course(block: &[u8; 72]) -> Course
     ensures { result ≡ decode_course block.now }
 {
     Course {
-        place: numbers::wide(block[4]),
+        place: usize::from(block[4]),
         left: number_at(block, 40),
         stage: stage(is_ours(block), block[2], block[3]),
-        listed: is_set(block[5]),
-        guarded: is_set(block[6]),
+        listed: block[5] != 0,
+        guarded: block[6] != 0,
     }
 }
 
+#[tactic(auto, unfolding(crate::specs::Block::decode_aim))]
 fn decode_aim(block: &[u8; 72]) -> Aim
     ensures { result ≡ decode_aim block.now }
 {
@@ -144,6 +131,7 @@ fn decode_aim(block: &[u8; 72]) -> Aim
 }
 
 // The state that a block of any content holds.
+#[tactic(auto, unfolding(crate::specs::Block::decode_driver))]
 pub fn decode(block: &[u8; 72]) -> Driver
     ensures { result ≡ decode_driver block.now }
 {
