@@ -1,27 +1,20 @@
 -- `driver_storing::encode` meets its contract: the head and the eight words are stored one behind the other. Assumes nothing.
-use mathlib.Core.Path.{◌≡◌, ap, ◌∙◌}
+use mathlib.Core.Path.{ap, ◌∙◌}
 use Prim.Native.Nat.{ℕ}
-use lib.ListN.{length}
 use Rattle.slices.specs.Lists.{splice}
 use Rattle.slices.specs.Words.{word_bytes}
-use borrow.Author.Rules.{rules}
 use Rattle.driver_storing.proofs.Stored.{all-stored}
-use Rattle.driver_storing.proofs.encode.Goals.{After-put_head-arg-1}
 use Rattle.driver_storing.proofs.encode.Goals as goal
-
--- the block is lent whole
-long : (s : After-put_head-arg-1) → length s.args.block.now ≡ 72
-long s = search rules
 
 pub returns : goal.returns
 returns c =
-    all-stored c.args.d c.args.block.now (long c.before.before.before.before.before.before.before.before.before.before.before.before.before.before.before.before.before.before.before)
+    all-stored c.args.d c.args.block.now c.told-block
     c.put_head.ensures
     c.put_number.ensures
     c.put_number-2.ensures
     c.put_number-3.ensures
     c.put_number-4.ensures
     c.put_number-5.ensures
-    (c.put_number-6.ensures ∙ ap (λ (n : ℕ). splice 48 (word_bytes n) c.put_number-5.new.block) c.first_of.ensures)
-    (c.put_number-7.ensures ∙ ap (λ (n : ℕ). splice 56 (word_bytes n) c.put_number-6.new.block) c.last_of.ensures)
+    (c.put_number-6.ensures ∙ ap (λ (n : ℕ). splice 48 (word_bytes n) c.put_number-5.new.block) c.days_of-first.ensures.first)
+    (c.put_number-7.ensures ∙ ap (λ (n : ℕ). splice 56 (word_bytes n) c.put_number-6.new.block) c.days_of-first.ensures.last)
     c.put_number-8.ensures
