@@ -32,6 +32,7 @@ pub fn flags_in(block: &[u8; 765]) -> Flags
     }
 }
 
+// No `From`: `Buffer` is of crate commands, and the number is the layout of the block that C holds.
 fn buffer_number(b: Buffer) -> u8
     ensures { result ≡ buffer_number b }
 {
@@ -41,6 +42,7 @@ fn buffer_number(b: Buffer) -> u8
     }
 }
 
+// A heading; the literal would take six lines in each arm of `head`.
 fn headed(tag: u8, buffer: u8, number: usize, sectors: u32) -> Heading
     ensures { result ≡ record { tag = tag; buffer = buffer; number = number; sectors = sectors } }
 {

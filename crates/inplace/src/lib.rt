@@ -1,5 +1,6 @@
 // The five entry points on a chip that a record block holds. Frames and busy ends are made in place: no more of the block is written than can
-// change. What each of the five promises is what the C interface promises; none has a `requires`.
+// change. What each of the five promises is what the C interface promises; none has a `requires`. Each answers a number and no `Result`, since
+// `Met` holds the number that C gets.
 #![tactic(auto)]
 
 ghost use Rattle.std.specs.Prelude.{◌≡◌, true, [], length};

@@ -47,7 +47,7 @@ fn encode(block: &mut [u8; 765], c: Chip)
     block[764] = u8::from(c.compare);
 }
 
-// What the outcome leaves in the block, and its answer's number.
+// What the outcome leaves in the block, and its answer's number, which `stored_by` asks and C gets.
 #[tactic(auto, unfolding(blocks::specs::Promises::stored_by))]
 pub fn store(block: &mut [u8; 765], o: Outcome) -> u8
     ensures { (result ≡ number_of o.answer) × (block.new ≡ stored_by block.old o.answer o.chip) }
