@@ -15,7 +15,8 @@ pub struct Date {
     pub day: u32,
 }
 
-// The days on which a recipe may be read: all, or those from the first to the last, both inside.
+// The days on which a recipe may be read: all, or those from the first to the last, both inside. No Option: `Unlimited` says what `None` would leave
+// to be known.
 #[derive(Clone, Copy)]
 pub enum Term {
     Unlimited,

@@ -75,7 +75,8 @@ pub struct Request {
     pub detail: Detail,
 }
 
-// A recipe's term in day numbers: none, or from the first to the last day, both inside.
+// A recipe's term in day numbers: none, or from the first to the last day, both inside. As `Term` it says itself that there is no limit, which `None`
+// would not.
 #[derive(Clone, Copy)]
 pub enum Period {
     Always,
