@@ -4,7 +4,7 @@
 ghost use Rattle.std.specs.Prelude.{◌≡◌, ◌≤◌, ◌++◌};
 ghost use Rattle.faults.specs.Messages.{Put, key_text, name_text, over_text, text_of};
 
-use text::put;
+use slices::put;
 use words::Key;
 
 // What a fault lies in: a word by its place, or the value of an option.

@@ -67,5 +67,5 @@ fn put_pair(b: u8, out: &mut [u8], at: usize) -> usize
     ensures { (result ≡ at + 3) × (out.new ≡ splice at (32 ∷ digit_of (b / 16) ∷ digit_of b ∷ []) out.old) }
 {
     let digits = [b' ', hexadecimal::digit(b / 16), hexadecimal::digit(b)];
-    text::put(out, at, &digits)
+    slices::put(out, at, &digits)
 }

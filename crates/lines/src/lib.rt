@@ -19,7 +19,7 @@ pub fn put(out: &mut [u8], at: usize, piece: &[u8]) -> usize
     requires { at + length piece.now ≤ length out.old }
     ensures { Stands at piece.now result out.old out.new }
 {
-    text::put(out, at, piece)
+    slices::put(out, at, piece)
 }
 
 fn put_decimal(out: &mut [u8], at: usize, n: u64) -> usize

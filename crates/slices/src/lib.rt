@@ -35,6 +35,17 @@ pub fn and_into(part: &mut [u8], mask: &[u8])
     }
 }
 
+// `piece` is stored from index `at` on; the index behind it.
+pub fn put(out: &mut [u8], at: usize, piece: &[u8]) -> usize
+    requires { at + length piece.now ≤ length out.old }
+    ensures end { result ≡ at + length piece.now }
+    ensures laid { out.new ≡ splice at piece.now out.old }
+{
+    let behind = at + piece.len();
+    out[at..behind].copy_from_slice(piece);
+    behind
+}
+
 // The byte at an index, or `other` where there is none.
 pub fn byte_or(bytes: &[u8], i: usize, other: u8) -> u8
     ensures { result ≡ get_or bytes.now i other }

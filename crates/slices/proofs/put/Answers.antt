@@ -1,8 +1,8 @@
--- `text::pieces::put` meets its contract: the part of `out` from `at` on becomes the piece.
+-- `slices::put` meets its contract: the part of `out` from `at` on becomes the piece.
 -- Assumes nothing.
 use Rattle.std.proofs.Common.{length, ◌+◌, ◌-◌, arith}
 use Rattle.slices.proofs.Laws.{spliced}
-use Rattle.text.proofs.pieces.put.Goals as goal
+use Rattle.slices.proofs.put.Goals as goal
 
 pub returns-clause-laid : goal.returns-clause-laid
 returns-clause-laid c =
