@@ -1,4 +1,4 @@
-// The call or event of the C interface that an order names.
+// The call or event of the C interface that an order names. The buffers come one by one, as the functions of that interface take them.
 ghost use Rattle.std.specs.Prelude.{◌≡◌, [], ◌∷◌};
 ghost use Rattle.slots.specs.Lists.{put};
 ghost use Rattle.runs.specs.Promises.{Called};

@@ -14,7 +14,8 @@ use runs::{Done, Session};
 use slots::{Driver, Request};
 use state::Answer;
 
-// The call of a kind.
+// The call of a kind. What is lent comes one by one, as the C interface has it: a struct of references would be no plainer, since each function that
+// takes it would have to say that every `&mut` in it stays the same reference.
 pub fn call(
     block: &mut [u8; 765],
     array: &mut [u8],

@@ -1,6 +1,7 @@
 // The calls on the chip that go by a plan (docs/SPECIFICATION.md, 10 to 12): put, patch, get and wipe. None has a `requires`: bad input is refused, and a refusal
 // changes nothing. Each works on the chip in its record block, in place, and takes the array as a lent slice; a script with a byte for
-// each frame, the junk that a cut takes, and a log for six bytes a frame. All take a slot and the poll limit.
+// each frame, the junk that a cut takes, and a log for six bytes a frame. All take a slot and the poll limit. They stay four: each is a call of the
+// specification with its own arguments, and the C interface has one function for each.
 #![tactic(auto)]
 
 ghost use Rattle.std.specs.Prelude.{◌≡◌, []};

@@ -2,7 +2,7 @@
 // Internal to this repository: a caller here meets each `requires`; no entry point is in this crate.
 #![tactic(auto)]
 
-ghost use Rattle.std.specs.Prelude.{◌≡◌, true, ◌+◌, ◌≤◌, length, take, Some};
+ghost use Rattle.std.specs.Prelude.{◌≡◌, true, ◌+◌, ◌≤◌, length, Some};
 ghost use Rattle.slices.specs.Lists.{splice};
 ghost use Rattle.state.specs.Outcomes.{part_in, framed, cut_fits, cut_state};
 ghost use Rattle.slots.specs.Calls.{outline, state_after};
@@ -57,24 +57,6 @@ pub fn exchange(
     inplace::send(block, array, frame, reply);
     put_outline(log, at, frame);
     settle(g, block, array, b);
-}
-
-// The same with the first n bytes of `frame` and `reply`.
-pub fn exchange_first(
-    g: Geometry,
-    block: &mut [u8; 765],
-    array: &mut [u8],
-    frame: &[u8],
-    reply: &mut [u8],
-    n: usize,
-    log: &mut [u8],
-    at: usize,
-    b: u8,
-)
-    requires { (part_in (held_in block.old array.old) ≡ Some g) × (n ≤ length frame.now) × (n ≤ length reply.old) × (framed n n ≡ true) × (at + 6 ≤ length log.old) }
-    ensures { (Exchanged g b at (take n frame.now) (held_in block.old array.old) log.old (held_in block.new array.new) (take n reply.new) log.new) × (Canonical block.new) }
-{
-    exchange(g, block, array, &frame[..n], &mut reply[..n], log, at, b);
 }
 
 // The supply is cut, with junk as long as it has to be.

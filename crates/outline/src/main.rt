@@ -31,7 +31,8 @@ pub struct Input {
     pub state: State,
 }
 
-// How the run ended: whether the input could not be read to its end, or the output not be written; and how many bytes were read and written.
+// How the run ended: whether the input could not be read to its end, or the output not be written; and how many bytes were read and written. The
+// flags stay flags: either may be set without the other, and the counts hold whichever is set.
 #[derive(Clone, Copy)]
 pub struct Ended {
     pub unread: bool,

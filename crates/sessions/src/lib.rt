@@ -67,7 +67,8 @@ fn turn(
     let x = steps::step_at(d.kind, d.slot, d.course.place);
     let n = turns::write_step(g, d, x, payload, staged, frame);
     let b = slices::byte_or(script, s.frames, 0);
-    exchanges::exchange_first(g, block, array, frame, reply, n, log, 6 * s.frames, b);
+    let at = 6 * s.frames;
+    exchanges::exchange(g, block, array, &frame[..n], &mut reply[..n], log, at, b);
     let e = take_first(g, d, x, payload, reply, n, staged);
     Session {
         driver: heed(b, d, e),
