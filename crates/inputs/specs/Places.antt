@@ -26,9 +26,9 @@ pub record Place : Type 0 where
 abbrev pub place : Reader → (block array log out text line : List ℕ) → Place
 place r block array log out text line = record { reader = r; block = block; array = array; log = log; out = out; text = text; line = line }
 
--- the same of the program's room and its line
-abbrev pub place_in : Reader → Room → (line : List ℕ) → Place
-place_in r x line = place r x.block x.array x.log x.out x.text line
+-- the same of the program's room, its text and its line
+abbrev pub place_in : Reader → Room → (text line : List ℕ) → Place
+place_in r x text line = place r x.block x.array x.log x.out text line
 
 -- of the characters xs the first, as far as there is room, stand at the start of the line
 pub record Kept (xs : List ℕ) (filled : ℕ) (line : List ℕ) : Type 0 where

@@ -2,7 +2,7 @@
 // Internal to this repository: a caller here meets each `requires`; no entry point is in this crate.
 #![tactic(auto)]
 
-ghost use Rattle.std.specs.Prelude.{◌≡◌, [], ◌∷◌};
+ghost use Rattle.std.specs.Prelude.{◌≡◌, [], ◌∷◌, ◌≤◌, length};
 ghost use Rattle.inputs.specs.Places.{place_in, Keeps, Reads, Ends, Finishes, reader_with};
 ghost use Rattle.printing.specs.Held.{Flushed};
 
@@ -32,22 +32,37 @@ fn keep(filled: usize, byte: u8, line: &mut [u8; LINE_ROOM]) -> usize
 }
 
 // The line is whole: what it says is done.
-fn end_line(stdout: Stdout, r: Reader, room: &mut Room, line: &[u8; LINE_ROOM]) -> Reader
-    ensures { Ends (place_in r room.old line.now) (place_in result room.new line.now) }
+fn end_line(
+    stdout: Stdout,
+    r: Reader,
+    room: &mut Room,
+    text: &mut [u8],
+    line: &[u8; LINE_ROOM],
+) -> Reader
+    requires { 128 ≤ length text.old }
+    ensures { Ends (place_in r room.old text.old line.now) (place_in result room.new text.new line.now) }
 {
     let n = count(r.filled, line);
     Reader {
-        session: obeying::act_on(stdout, r.session, &line[..n], room),
+        session: obeying::act_on(stdout, r.session, &line[..n], room, text),
         filled: 0,
     }
 }
 
 // One byte of the input: LF ends a line.
-fn feed(stdout: Stdout, r: Reader, byte: u8, room: &mut Room, line: &mut [u8; LINE_ROOM]) -> Reader
-    ensures { Reads (byte ∷ []) (place_in r room.old line.old) (place_in result room.new line.new) }
+fn feed(
+    stdout: Stdout,
+    r: Reader,
+    byte: u8,
+    room: &mut Room,
+    text: &mut [u8],
+    line: &mut [u8; LINE_ROOM],
+) -> Reader
+    requires { 128 ≤ length text.old }
+    ensures { Reads (byte ∷ []) (place_in r room.old text.old line.old) (place_in result room.new text.new line.new) }
 {
     if byte == b'\n' {
-        return end_line(stdout, r, room, line);
+        return end_line(stdout, r, room, text, line);
     }
     Reader {
         session: r.session,
@@ -61,25 +76,34 @@ pub fn take_piece(
     start: Reader,
     piece: &[u8],
     room: &mut Room,
+    text: &mut [u8],
     line: &mut [u8; LINE_ROOM],
 ) -> Reader
-    ensures { Reads piece.now (place_in start room.old line.old) (place_in result room.new line.new) }
+    requires { 128 ≤ length text.old }
+    ensures { Reads piece.now (place_in start room.old text.old line.old) (place_in result room.new text.new line.new) }
 {
     let mut r = start;
     for &byte in piece {
-        r = feed(stdout, r, byte, room, line);
+        r = feed(stdout, r, byte, room, text, line);
     }
     r
 }
 
 // The end of the input: a line that no LF ends.
-pub fn finish(stdout: Stdout, r: Reader, room: &mut Room, line: &[u8; LINE_ROOM]) -> Reader
-    ensures { Finishes (place_in r room.old line.now) (place_in result room.new line.now) }
+pub fn finish(
+    stdout: Stdout,
+    r: Reader,
+    room: &mut Room,
+    text: &mut [u8],
+    line: &[u8; LINE_ROOM],
+) -> Reader
+    requires { 128 ≤ length text.old }
+    ensures { Finishes (place_in r room.old text.old line.now) (place_in result room.new text.new line.now) }
 {
     if r.filled == 0 {
         return r;
     }
-    end_line(stdout, r, room, line)
+    end_line(stdout, r, room, text, line)
 }
 
 // What waits to be written is written.

@@ -196,26 +196,21 @@ other_shown : (o : Order) (line : List ℕ) (d : Desk) (b : Bool) → is_step o.
 unfolding shown
 other_shown o line d b e f = sym (λ i. cond (e i) (shown_of o.command (seen_in o line d)) (cond (f i) (summed d) []))
 
-pub sum_done : (o : Order) (line : List ℕ) (s : Session) (d : Desk) {r : Session} {text block array log out text' : List ℕ} → is_step o.command ≡ false → is_sum o.command ≡ true
-    → r ≡ with_output s r.output → Printed (summed d) s.output text r.output text' → desk_of s block array log out ≡ d
-    → Obeyed (obeyed o line d) (shown o line d) s text r block array log out text'
-sum_done o line s d {r} {text} {block} {array} {log} {out} {text'} e f k p q =
+pub sum_done : (o : Order) (line : List ℕ) (s : Session) {r : Session} {text block array log out text' : List ℕ} → is_step o.command ≡ false → is_sum o.command ≡ true
+    → r ≡ with_output s r.output → Printed (summed (desk_of s block array log out)) s.output text r.output text'
+    → Obeyed (obeyed o line (desk_of s block array log out)) (shown o line (desk_of s block array log out)) s text r block array log out text'
+sum_done o line s {r} {text} {block} {array} {log} {out} {text'} e f k p =
     record {
-      desk = same-desk s block array log out k ∙ q ∙ other_obeyed o line d true e f;
-      shows = printed_as p (other_shown o line d true e f);
+      desk = same-desk s block array log out k ∙ other_obeyed o line (desk_of s block array log out) true e f;
+      shows = printed_as p (other_shown o line (desk_of s block array log out) true e f);
     }
 
-pub part-done : (o : Order) (line : List ℕ) (s : Session) {r : Session} (d : Desk) {text block array log out text' : List ℕ} → is_step o.command ≡ false → is_sum o.command ≡ false
-    → desk_of r block array log out ≡ renewed o.number d → r.output ≡ s.output → text' ≡ text
-    → Obeyed (obeyed o line d) (shown o line d) s text r block array log out text'
-part-done o line s {r} d {text} {block} {array} {log} {out} {text'} e f k h q =
+pub part-done : (o : Order) (line : List ℕ) (s : Session) {r : Session} (d : Desk) {text block array log out : List ℕ} → is_step o.command ≡ false → is_sum o.command ≡ false
+    → desk_of r block array log out ≡ renewed o.number d → r.output ≡ s.output → Obeyed (obeyed o line d) (shown o line d) s text r block array log out text
+part-done o line s {r} d {text} {block} {array} {log} {out} e f k h =
     record {
       desk = k ∙ other_obeyed o line d false e f;
-      shows =
-          printed_as
-          (subst (λ (x : Output). Printed [] s.output text x text') (sym h)
-          (subst (λ (ys : List ℕ). Printed [] s.output text s.output ys) (sym q) (printed_none s.output text)))
-          (other_shown o line d false e f);
+      shows = printed_as (subst (λ (x : Output). Printed [] s.output text x text) (sym h) (printed_none s.output text)) (other_shown o line d false e f);
     }
 
 -- ---- a line

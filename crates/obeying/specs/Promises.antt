@@ -22,9 +22,9 @@ pub record Obeyed (d : Desk) (l : List ℕ) (s : Session) (text : List ℕ) (r :
   pub desk : desk_of r block array log out ≡ d
   pub shows : Printed l s.output text r.output text'
 
--- the same of what the room holds before and after
-abbrev pub Obeys : Desk → List ℕ → Session → Room → Session → Room → Type 0
-Obeys d l s x r y = Obeyed d l s x.text r y.block y.array y.log y.out y.text
+-- the same of what the room holds after
+abbrev pub Obeys : Desk → List ℕ → Session → (text : List ℕ) → Session → Room → (text' : List ℕ) → Type 0
+Obeys d l s text r y text' = Obeyed d l s text r y.block y.array y.log y.out text'
 
 -- ---- on the way there
 

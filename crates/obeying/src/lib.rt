@@ -40,8 +40,8 @@ pub struct Session {
     pub output: Output,
 }
 
-// The buffers that live as long as the program: the chip's record block, its array, junk for a cut, a log, a get buffer or reply, and text that
-// waits to be written. Each is as long as any line can need.
+// The buffers that live as long as the program: the chip's record block, its array, junk for a cut, a log, and a get buffer or reply. Each is as
+// long as any line can need. Text that waits to be written is lent beside them: the promises let a caller choose its length, from 128 on.
 #[derive(Drop)]
 pub struct Room {
     pub block: [u8; 765],
@@ -49,7 +49,6 @@ pub struct Room {
     pub junk: [u8; 1114112],
     pub log: [u8; 102204],
     pub out: [u8; 65536],
-    pub text: [u8; 65536],
 }
 
 // ---- sessions
@@ -173,9 +172,16 @@ fn lend(
 }
 
 // A call, or an event on the chip.
-fn step(stdout: Stdout, o: Order, s: Session, line: &[u8], room: &mut Room) -> Session
-    requires { (is_step o.command ≡ true) × Sound (length line.now) o }
-    ensures { Obeys (stepped (seen_in o line.now (desk_in s room.old)) (desk_in s room.old)) (shown_of o.command (seen_in o line.now (desk_in s room.old))) s room.old result room.new }
+fn step(
+    stdout: Stdout,
+    o: Order,
+    s: Session,
+    line: &[u8],
+    room: &mut Room,
+    text: &mut [u8],
+) -> Session
+    requires { (128 ≤ length text.old) × (is_step o.command ≡ true) × Sound (length line.now) o }
+    ensures { Obeys (stepped (seen_in o line.now (desk_in s room.old)) (desk_in s room.old)) (shown_of o.command (seen_in o line.now (desk_in s room.old))) s text.old result room.new text.new }
 {
     let mut bytes = io::buffer();
     let mut script = io::buffer();
@@ -192,7 +198,7 @@ fn step(stdout: Stdout, o: Order, s: Session, line: &[u8], room: &mut Room) -> S
         &mut room.junk,
         &mut room.log,
         &mut room.out,
-        &mut room.text,
+        text,
     )
 }
 
@@ -210,7 +216,7 @@ fn renew(n: usize, block: &mut [u8; 765], array: &mut [u8])
 // A fresh part of `n` bytes; nothing was lent.
 fn part(s: Session, n: usize, room: &mut Room) -> Session
     requires { Whole n }
-    ensures { (desk_in result room.new ≡ renewed n (desk_in s room.old)) × (result.output ≡ s.output) × (room.new.text ≡ room.old.text) }
+    ensures { (desk_in result room.new ≡ renewed n (desk_in s room.old)) × (result.output ≡ s.output) }
 {
     renew(n, &mut room.block, &mut room.array);
     after_step(s, n, 0, 0, 0, s.output)
@@ -232,8 +238,9 @@ pub fn start(room: &mut Room) -> Session
 }
 
 // The checksums of the last step.
-fn sum(stdout: Stdout, s: Session, room: &mut Room) -> Session
-    ensures { (result ≡ with_output s result.output) × Printed (summed (desk_in s room.old)) s.output room.old.text result.output room.new.text × (desk_in s room.new ≡ desk_in s room.old) }
+fn sum(stdout: Stdout, s: Session, room: &Room, text: &mut [u8]) -> Session
+    requires { 128 ≤ length text.old }
+    ensures { (result ≡ with_output s result.output) × Printed (summed (desk_in s room.now)) s.output text.old result.output text.new }
 {
     let n = count(s.size, &room.array);
     let l = count(s.log, &room.log);
@@ -241,7 +248,7 @@ fn sum(stdout: Stdout, s: Session, room: &mut Room) -> Session
     let p = printing::print_sum(
         stdout,
         s.output,
-        &mut room.text,
+        text,
         &room.block,
         &room.array[..n],
         &room.log[..l],
@@ -277,27 +284,35 @@ fn is_sum(c: Command) -> bool
 }
 
 // The order `o` of a line.
-fn obey(stdout: Stdout, o: Order, s: Session, line: &[u8], room: &mut Room) -> Session
-    requires { Sound (length line.now) o }
-    ensures { Obeys (obeyed o line.now (desk_in s room.old)) (shown o line.now (desk_in s room.old)) s room.old result room.new }
+fn obey(
+    stdout: Stdout,
+    o: Order,
+    s: Session,
+    line: &[u8],
+    room: &mut Room,
+    text: &mut [u8],
+) -> Session
+    requires { (128 ≤ length text.old) × Sound (length line.now) o }
+    ensures { Obeys (obeyed o line.now (desk_in s room.old)) (shown o line.now (desk_in s room.old)) s text.old result room.new text.new }
 {
     let command = o.command;
     if is_step(command) {
-        return step(stdout, o, s, line, room);
+        return step(stdout, o, s, line, room, text);
     }
     if is_sum(command) {
-        return sum(stdout, s, room);
+        return sum(stdout, s, room, text);
     }
     part(s, o.number, room)
 }
 
 // A line is whole: it is acted on, or what is wrong with it is printed.
-pub fn act_on(stdout: Stdout, s: Session, line: &[u8], room: &mut Room) -> Session
-    ensures { Obeys (after_line line.now (desk_in s room.old)) (line_text line.now (desk_in s room.old)) s room.old result room.new }
+pub fn act_on(stdout: Stdout, s: Session, line: &[u8], room: &mut Room, text: &mut [u8]) -> Session
+    requires { 128 ≤ length text.old }
+    ensures { Obeys (after_line line.now (desk_in s room.old)) (line_text line.now (desk_in s room.old)) s text.old result room.new text.new }
 {
     let t = next_line(s);
     match orders::read(line) {
-        Ok(o) => obey(stdout, o, t, line, room),
-        Err(f) => tell(stdout, t, f, &mut room.text),
+        Ok(o) => obey(stdout, o, t, line, room, text),
+        Err(f) => tell(stdout, t, f, text),
     }
 }

@@ -2,7 +2,7 @@
 // The chip is the record block of crate slipknoll and a lent array; it starts as a fresh short part.
 #![tactic(auto)]
 
-ghost use Rattle.std.specs.Prelude.{◌≡◌, IfSome};
+ghost use Rattle.std.specs.Prelude.{◌≡◌, ◌≤◌, length, IfSome};
 ghost use Rattle.io.specs.Counts.{IsPrefixLen};
 ghost use Rattle.inputs.specs.Places.{place_in, Closes};
 ghost use Rattle.outline.specs.Run.{is_unread, Went, Said};
@@ -48,10 +48,10 @@ fn main(rt: HostRuntime) {
         junk: [0; 1114112],
         log: [0; 102204],
         out: [0; 65536],
-        text: [0; 65536],
     };
+    let mut text = io::large_buffer();
     let mut line = [0; LINE_ROOM];
-    let e = run(rt.stdin(), rt.stdout(), &mut room, &mut line);
+    let e = run(rt.stdin(), rt.stdout(), &mut room, &mut text, &mut line);
     report(rt.stderr(), e);
 }
 
@@ -72,16 +72,23 @@ fn report(stderr: Stderr, e: Ended) {
 }
 
 // The whole run, with all that the program holds lent.
-fn run(stdin: Stdin, stdout: Stdout, room: &mut Room, line: &mut [u8; LINE_ROOM]) -> Ended
+fn run(
+    stdin: Stdin,
+    stdout: Stdout,
+    room: &mut Room,
+    text: &mut [u8],
+    line: &mut [u8; LINE_ROOM],
+) -> Ended
+    requires { 128 ≤ length text.old }
     ensures { Said result }
 {
     let r = Reader {
         session: obeying::start(room),
         filled: 0,
     };
-    let i = read_all(stdin, stdout, r, room, line);
-    let t = end_input(stdout, i, room, line);
-    let w = inputs::write_out(stdout, t, &room.text);
+    let i = read_all(stdin, stdout, r, room, text, line);
+    let t = end_input(stdout, i, room, text, line);
+    let w = inputs::write_out(stdout, t, text);
     let o = w.session.output;
     Ended {
         unread: is_unread(i.state),
@@ -128,9 +135,11 @@ fn read_piece(
     stdout: Stdout,
     i: Input,
     room: &mut Room,
+    text: &mut [u8],
     line: &mut [u8; LINE_ROOM],
 ) -> Input
-    ensures { Went i.read (place_in i.reader room.old line.old) result.read (place_in result.reader room.new line.new) }
+    requires { 128 ≤ length text.old }
+    ensures { Went i.read (place_in i.reader room.old text.old line.old) result.read (place_in result.reader room.new text.new line.new) }
 {
     let mut piece = io::large_buffer();
     let Some(n) = read_some(stdin, &mut piece) else {
@@ -152,8 +161,8 @@ fn read_piece(
         };
     };
     let bytes = &piece[..n];
-    let t = inputs::take_piece(stdout, i.reader, bytes, room, line);
-    let reader = inputs::write_out(stdout, t, &room.text);
+    let t = inputs::take_piece(stdout, i.reader, bytes, room, text, line);
+    let reader = inputs::write_out(stdout, t, text);
     Input {
         reader,
         read,
@@ -167,9 +176,11 @@ fn read_all(
     stdout: Stdout,
     start: Reader,
     room: &mut Room,
+    text: &mut [u8],
     line: &mut [u8; LINE_ROOM],
 ) -> Input
-    ensures { Went 0 (place_in start room.old line.old) result.read (place_in result.reader room.new line.new) }
+    requires { 128 ≤ length text.old }
+    ensures { Went 0 (place_in start room.old text.old line.old) result.read (place_in result.reader room.new text.new line.new) }
 {
     let mut i = Input {
         reader: start,
@@ -180,17 +191,24 @@ fn read_all(
         if !is_open(i.state) {
             return i;
         }
-        i = read_piece(stdin, stdout, i, room, line);
+        i = read_piece(stdin, stdout, i, room, text, line);
     }
     i
 }
 
 // The input has ended: the last line too, unless the input could not be read to its end.
-fn end_input(stdout: Stdout, i: Input, room: &mut Room, line: &[u8; LINE_ROOM]) -> Reader
-    ensures { Closes (is_unread i.state) (place_in i.reader room.old line.now) (place_in result room.new line.now) }
+fn end_input(
+    stdout: Stdout,
+    i: Input,
+    room: &mut Room,
+    text: &mut [u8],
+    line: &[u8; LINE_ROOM],
+) -> Reader
+    requires { 128 ≤ length text.old }
+    ensures { Closes (is_unread i.state) (place_in i.reader room.old text.old line.now) (place_in result room.new text.new line.now) }
 {
     if is_unread(i.state) {
         return i.reader;
     }
-    inputs::finish(stdout, i.reader, room, line)
+    inputs::finish(stdout, i.reader, room, text, line)
 }

@@ -7,7 +7,7 @@ use Rattle.obeying.proofs.Laws.{order_done, fault_done}
 use Rattle.obeying.proofs.act_on.Goals as goal
 
 pub obey-requires : goal.obey-requires
-obey-requires c = subst (SoundReading (length c.args.line.now)) c.in-Ok.is c.read.ensures.0
+obey-requires c = (c.requires, subst (SoundReading (length c.args.line.now)) c.in-Ok.is c.read.ensures.0)
 
 pub returns-in-Ok : goal.returns-in-Ok
 returns-in-Ok c =

@@ -5,7 +5,7 @@ use Rattle.obeying.proofs.Laws.{step-obeyed, step-shown, obeyed_as, sum_done, pa
 use Rattle.obeying.proofs.obey.Goals as goal
 
 pub step-requires : goal.step-requires
-step-requires c = (sym c.is_step.ensures ∙ c.if-is_step.true, c.requires)
+step-requires c = (c.requires.0, sym c.is_step.ensures ∙ c.if-is_step.true, c.requires.1)
 
 pub returns-then-is_step : goal.returns-then-is_step
 returns-then-is_step c =
@@ -14,12 +14,12 @@ returns-then-is_step c =
     obeyed_as c.step.ensures (step-obeyed c.args.o c.args.line.now d e) (step-shown c.args.o c.args.line.now d e)
 
 pub returns-then-is_sum : goal.returns-then-is_sum
-returns-then-is_sum c = sum_done c.args.o c.args.line.now c.args.s (desk_in c.args.s c.args.room.now) (sym c.is_step.ensures ∙ c.if-is_step.false) (sym c.is_sum.ensures ∙ c.if-is_sum.true) c.sum.ensures.0 c.sum.ensures.1 c.sum.ensures.2
+returns-then-is_sum c = sum_done c.args.o c.args.line.now c.args.s (sym c.is_step.ensures ∙ c.if-is_step.false) (sym c.is_sum.ensures ∙ c.if-is_sum.true) c.sum.ensures.0 c.sum.ensures.1
 
 pub part-requires : goal.part-requires
-part-requires c = part-whole c.args.o.command c.args.o.number (sym c.is_step.ensures ∙ c.if-is_step.false) (sym c.is_sum.ensures ∙ c.if-is_sum.false) c.requires.number
+part-requires c = part-whole c.args.o.command c.args.o.number (sym c.is_step.ensures ∙ c.if-is_step.false) (sym c.is_sum.ensures ∙ c.if-is_sum.false) c.requires.1.number
 
 pub returns : goal.returns
 returns c =
     let d = desk_in c.args.s c.args.room.now in
-    part-done c.args.o c.args.line.now c.args.s d (sym c.is_step.ensures ∙ c.if-is_step.false) (sym c.is_sum.ensures ∙ c.if-is_sum.false) c.part.ensures.0 c.part.ensures.1 c.part.ensures.2
+    part-done c.args.o c.args.line.now c.args.s d (sym c.is_step.ensures ∙ c.if-is_step.false) (sym c.is_sum.ensures ∙ c.if-is_sum.false) c.part.ensures.0 c.part.ensures.1

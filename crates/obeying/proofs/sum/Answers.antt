@@ -1,5 +1,4 @@
 -- `obeying::sum` meets its contract: the parts that the last step lent are summed. Assumes nothing.
-use mathlib.Core.Path.{refl}
 use Rattle.printing.proofs.Laws.{printed_as}
 use Rattle.obeying.proofs.Laws.{sum_parts, output_kept}
 use Rattle.obeying.proofs.sum.Goals as goal
@@ -7,5 +6,4 @@ use Rattle.obeying.proofs.sum.Goals as goal
 pub returns : goal.returns
 returns c =
     let r = c.args.room.now in
-    let k = output_kept c.args.s c.with_output.ensures (printed_as c.print_sum-p.ensures (sum_parts c.args.s r.block r.array r.log r.out c.count-n.ensures.1 c.count-l.ensures.1 c.count-o.ensures.1)) in
-    (k.0, k.1, refl)
+    output_kept c.args.s c.with_output.ensures (printed_as c.print_sum-p.ensures (sum_parts c.args.s r.block r.array r.log r.out c.count-n.ensures.1 c.count-l.ensures.1 c.count-o.ensures.1))

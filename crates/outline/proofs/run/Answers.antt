@@ -8,5 +8,5 @@ use Rattle.outline.proofs.run.Goals as goal
 pub returns : goal.returns
 returns c =
     let r = c.start.new.room in
-    said (starts {block = r.block} {array = r.array} {log = r.log} {out = r.out} r.text c.args.line.now c.start.ensures.0 c.start.ensures.1 refl) c.read_all-i.ensures c.end_input-t.ensures c.write_out-w.ensures.0
+    said (starts {block = r.block} {array = r.array} {log = r.log} {out = r.out} c.args.text.now c.args.line.now c.start.ensures.0 c.start.ensures.1 refl) c.read_all-i.ensures c.end_input-t.ensures c.write_out-w.ensures.0
     (ap (λ (u : Bool). record { unread = u; unwritten = c.write_out-w.result.session.output.failed; read = c.read_all-i.result.read; written = c.write_out-w.result.session.output.written }) c.is_unread.ensures)
