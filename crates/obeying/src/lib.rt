@@ -216,7 +216,7 @@ fn renew(n: usize, block: &mut [u8; 765], array: &mut [u8])
 // A fresh part of `n` bytes; nothing was lent.
 fn part(s: Session, n: usize, room: &mut Room) -> Session
     requires { Whole n }
-    ensures { (desk_in result room.new ≡ renewed n (desk_in s room.old)) × (result.output ≡ s.output) }
+    ensures { (desk_in result room.new ≡ renewed n (desk_in s room.old)) × (result.output ≡ s.output) × (room.new.junk ≡ room.old.junk) × (room.new.log ≡ room.old.log) × (room.new.out ≡ room.old.out) }
 {
     renew(n, &mut room.block, &mut room.array);
     after_step(s, n, 0, 0, 0, s.output)
@@ -224,7 +224,7 @@ fn part(s: Session, n: usize, room: &mut Room) -> Session
 
 // The program starts with a fresh short part.
 pub fn start(room: &mut Room) -> Session
-    ensures { (desk_in result room.new ≡ begun) × (result.output ≡ record { waiting = 0; written = 0; failed = false }) }
+    ensures { (desk_in result room.new ≡ begun) × (result.output ≡ record { waiting = 0; written = 0; failed = false }) × (room.new.junk ≡ room.old.junk) × (room.new.log ≡ room.old.log) × (room.new.out ≡ room.old.out) }
 {
     let none = Session {
         size: 0,

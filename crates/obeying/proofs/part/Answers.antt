@@ -16,4 +16,7 @@ returns c =
     let p = c.renew.ensures in (
       part-renewed a.s a.n (desk_in a.s a.room.now) c.renew.new.array a.room.now.log a.room.now.out refl p.0 p.1 c.after_step.ensures,
       ap (λ (z : Session). z.output) {y = after_step a.s a.n 0 0 0 a.s.output} c.after_step.ensures,
+      refl,
+      refl,
+      refl,
     )

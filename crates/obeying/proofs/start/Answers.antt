@@ -8,4 +8,4 @@ pub part-requires : goal.part-requires
 part-requires c = inl refl
 
 pub returns : goal.returns
-returns c = (c.part.ensures.0 ∙ starts _ refl, c.part.ensures.1 ∙ c.nothing.ensures)
+returns c = (c.part.ensures.0 ∙ starts _ refl, c.part.ensures.1 ∙ c.nothing.ensures, c.part.ensures.2, c.part.ensures.3, c.part.ensures.4)
