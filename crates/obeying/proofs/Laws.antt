@@ -1,10 +1,10 @@
 -- Laws of a line's work. What is lent is the first part of a buffer, and comes back as the first part; so the desk is what the step left. What a
 -- fresh part is depends on the array's length alone.
 -- Assumes nothing.
-use Rattle.std.specs.Prelude.{Option, Some, Result, Ok, Err}
+use Rattle.std.specs.Prelude.{Option, Some, Ok, Err}
 use mathlib.Core.Path.{◌≡◌, refl, sym, ap, subst, ◌∙◌}
 use mathlib.Core.Logic.{inl, inr}
-use mathlib.Core.List.{List, [], ◌∷◌, ◌++◌}
+use mathlib.Core.List.{List, [], ◌++◌}
 use mathlib.Core.Bool.{Bool, true, false, cond, true≢false}
 use Prim.Native.Nat.{ℕ, ◌+◌, ◌≤◌, min}
 use native.Mathlib.Omega.{arith}
@@ -21,7 +21,6 @@ use Rattle.state.specs.Outcomes.{Left, left, fresh_state, fresh_by, fresh_outcom
 use Rattle.blocks.specs.Block.{encode_chip}
 use Rattle.blocks.specs.Promises.{stored_by, stored_in}
 use Rattle.words.specs.declared.Command.{Command}
-use Rattle.words.specs.declared.Command.TheVariants as Command
 use Rattle.orders.specs.declared.Order.{Order}
 use Rattle.faults.specs.declared.Fault.{Fault}
 use Rattle.words.specs.Words.{is_call}

@@ -213,18 +213,19 @@ fn renew(n: usize, block: &mut [u8; 765], array: &mut [u8])
     slipknoll::slipknoll_fresh(block, &factory, &mut array[..n]);
 }
 
-// A fresh part of `n` bytes; nothing was lent.
-fn part(s: Session, n: usize, room: &mut Room) -> Session
-    requires { Whole n }
-    ensures { (desk_in result room.new ≡ renewed n (desk_in s room.old)) × (result.output ≡ s.output) × (room.new.junk ≡ room.old.junk) × (room.new.log ≡ room.old.log) × (room.new.out ≡ room.old.out) }
+// A fresh part of `n` bytes; nothing was lent, whatever log and get buffer or reply stand beside it.
+fn part(s: Session, n: usize, block: &mut [u8; 765], array: &mut [u8]) -> Session
+    requires { (length array.old ≡ array_room) × Whole n }
+    ensures { ((log out : List ℕ) → desk_of result block.new array.new log out ≡ renewed n (desk_of s block.old array.old log out)) × (result.output ≡ s.output) }
 {
-    renew(n, &mut room.block, &mut room.array);
+    renew(n, block, array);
     after_step(s, n, 0, 0, 0, s.output)
 }
 
-// The program starts with a fresh short part.
-pub fn start(room: &mut Room) -> Session
-    ensures { (desk_in result room.new ≡ begun) × (result.output ≡ record { waiting = 0; written = 0; failed = false }) × (room.new.junk ≡ room.old.junk) × (room.new.log ≡ room.old.log) × (room.new.out ≡ room.old.out) }
+// The program starts with a fresh short part. It is lent no more than that takes: the record block and room for an array.
+pub fn start(block: &mut [u8; 765], array: &mut [u8]) -> Session
+    requires { length array.old ≡ array_room }
+    ensures { ((log out : List ℕ) → desk_of result block.new array.new log out ≡ begun) × (result.output ≡ record { waiting = 0; written = 0; failed = false }) }
 {
     let none = Session {
         size: 0,
@@ -234,7 +235,7 @@ pub fn start(room: &mut Room) -> Session
         lines: 0,
         output: printing::nothing(),
     };
-    part(none, FIRST_LENGTH, room)
+    part(none, FIRST_LENGTH, block, array)
 }
 
 // The checksums of the last step.
@@ -302,7 +303,7 @@ fn obey(
     if is_sum(command) {
         return sum(stdout, s, room, text);
     }
-    part(s, o.number, room)
+    part(s, o.number, &mut room.block, &mut room.array)
 }
 
 // A line is whole: it is acted on, or what is wrong with it is printed.

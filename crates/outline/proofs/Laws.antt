@@ -3,23 +3,31 @@
 use mathlib.Core.Path.{◌≡◌, refl, sym, ap, subst, ◌∙◌}
 use mathlib.Core.List.{List, [], ◌++◌, append-nil}
 use mathlib.Core.Bool.{Bool, true, false}
-use Prim.Native.Nat.{ℕ, ◌+◌, ◌≤◌}
+use Prim.Native.Nat.{ℕ, ◌+◌}
 use native.Mathlib.Omega.{arith}
 use lib.ListN.{length, take, length-append}
 use lib.Seq.{length-take-le}
 use Rattle.printing.specs.declared.Output.{Output}
 use Rattle.printing.specs.Held.{Held, Flushed}
 use Rattle.obeying.specs.declared.Session.{Session}
+use Rattle.obeying.specs.declared.Room.{Room}
 use Rattle.obeying.specs.Desk.{desk_of, begun}
 use Rattle.inputs.specs.declared.Reader.{Reader}
-use Rattle.inputs.specs.Output.{Progress, started, fed_all, finished, closed, due_for}
-use Rattle.inputs.specs.Places.{Place, place, At, Reads, Finishes, Closes, reader_with}
-use Rattle.inputs.proofs.Laws.{kept-none, reads_none, reads_more, written_out}
+use Rattle.inputs.specs.Output.{started, fed_all, closed, due_for}
+use Rattle.inputs.specs.Places.{Place, place, place_in, At, Reads, Finishes, Closes}
+use Rattle.inputs.proofs.Laws.{kept-none, reads_none, reads_more}
 use Rattle.outline.specs.declared.Ended.{Ended}
+use Rattle.outline.specs.declared.Input.{Input}
+use Rattle.outline.specs.declared.State.{State}
 use Rattle.outline.specs.Run.{Went, Said}
 
 pub went_none : (n : ℕ) (x : Place) → Went n x n x
 went_none n x = record { input = []; counted = omega arith; reads = reads_none }
+
+-- nothing more is read
+pub went_stopped : (i : Input) {j : Input} (s : State) (r : Room) (text line : List ℕ) → j ≡ record { reader = i.reader; read = i.read; state = s }
+    → Went i.read (place_in i.reader r text line) j.read (place_in j.reader r text line)
+went_stopped i s r text line e = subst (λ (j : Input). Went i.read (place_in i.reader r text line) j.read (place_in j.reader r text line)) (sym e) (went_none _ _)
 
 -- a piece is read, and what waits is written
 pub went_by : {n k m : ℕ} {x y z : Place} (xs : List ℕ) → length xs ≡ k → m ≡ n + k → Reads xs x y → Reads [] y z → Went n x m z

@@ -5,13 +5,18 @@ use Rattle.inputs.specs.Output.{due_for}
 use Rattle.inputs.specs.Places.{Place, Reads}
 use Rattle.outline.specs.declared.Ended.{Ended}
 use Rattle.outline.specs.declared.State.{State}
-use Rattle.outline.specs.declared.State.TheVariants as State
 
 -- Aid: the input cannot be read
 abbrev pub is_unread : State → Bool
 is_unread State.Open = false
 is_unread State.Ended = false
 is_unread State.Unread = true
+
+-- Aid: there may be more to read
+abbrev pub is_open : State → Bool
+is_open State.Open = true
+is_open State.Ended = false
+is_open State.Unread = false
 
 -- Aid: some bytes have been read on the way, after `before` of them: `after` in all
 pub record Went (before : ℕ) (x : Place) (after : ℕ) (y : Place) : Type 0 where

@@ -2,10 +2,11 @@
 // The chip is the record block of crate slipknoll and a lent array; it starts as a fresh short part.
 #![tactic(auto)]
 
-ghost use Rattle.std.specs.Prelude.{◌≡◌, ◌≤◌, length, IfSome};
+ghost use Rattle.std.specs.Prelude.{◌≡◌, ◌≤◌, ◌<◌, true, false, cond, length, IfSome};
 ghost use Rattle.io.specs.Counts.{IsPrefixLen};
 ghost use Rattle.inputs.specs.Places.{place_in, Closes};
-ghost use Rattle.outline.specs.Run.{is_unread, Went, Said};
+ghost use Rattle.outline.specs.declared.State.{State};
+ghost use Rattle.outline.specs.Run.{is_unread, is_open, Went, Said};
 
 use inputs::{LINE_ROOM, Reader};
 use obeying::Room;
@@ -83,7 +84,7 @@ fn run(
     ensures { Said result }
 {
     let r = Reader {
-        session: obeying::start(room),
+        session: obeying::start(&mut room.block, &mut room.array),
         filled: 0,
     };
     let i = read_all(stdin, stdout, r, room, text, line);
@@ -119,13 +120,25 @@ fn is_unread(s: State) -> bool
     matches!(s, State::Unread)
 }
 
-fn is_open(s: State) -> bool {
+fn is_open(s: State) -> bool
+    ensures { result ≡ is_open s }
+{
     matches!(s, State::Open)
 }
 
 // Where writing has failed nothing more is read.
-fn state_after(failed: bool) -> State {
+fn state_after(failed: bool) -> State
+    ensures { result ≡ cond failed State.Ended State.Open }
+{
     if failed { State::Ended } else { State::Open }
+}
+
+// Nothing more is read: the input cannot be read on, or is read as far as it matters.
+fn stopped(i: Input, unread: bool) -> Input
+    ensures { result ≡ record { reader = i.reader; read = i.read; state = cond unread State.Unread State.Ended } }
+{
+    let state = if unread { State::Unread } else { State::Ended };
+    Input { state, ..i }
 }
 
 // One piece of the input is read and acted on; what waits to be written is written. The end of the input closes it, and so does a read that
@@ -139,26 +152,18 @@ fn read_piece(
     line: &mut [u8; LINE_ROOM],
 ) -> Input
     requires { 128 ≤ length text.old }
-    ensures { Went i.read (place_in i.reader room.old text.old line.old) result.read (place_in result.reader room.new text.new line.new) }
+    ensures went { Went i.read (place_in i.reader room.old text.old line.old) result.read (place_in result.reader room.new text.new line.new) }
+    ensures goes { is_open result.state ≡ true → (i.read < result.read) × (result.reader.session.output.failed ≡ false) }
 {
     let mut piece = io::large_buffer();
     let Some(n) = read_some(stdin, &mut piece) else {
-        return Input {
-            state: State::Unread,
-            ..i
-        };
+        return stopped(i, true);
     };
     if n == 0 {
-        return Input {
-            state: State::Ended,
-            ..i
-        };
+        return stopped(i, false);
     }
     let Some(read) = i.read.checked_add(n as u64) else {
-        return Input {
-            state: State::Unread,
-            ..i
-        };
+        return stopped(i, true);
     };
     let bytes = &piece[..n];
     let t = inputs::take_piece(stdout, i.reader, bytes, room, text, line);

@@ -1,7 +1,7 @@
 -- `obeying::renew` meets its contract: there is room for the part, and a fresh part depends on the array's length alone. Assumes nothing.
 use native.Mathlib.Omega.{arith}
 use lib.Seq.{length-take-le, take_at}
-use mathlib.Core.Path.{sym, ap, ◌∙◌}
+use mathlib.Core.Path.{ap, ◌∙◌}
 use Rattle.state.specs.Outcomes.{Left}
 use Rattle.blocks.specs.Promises.{stored_in}
 use Rattle.obeying.proofs.Laws.{whole_room, fresh_part_lem, fresh_stored}

@@ -5,7 +5,7 @@ use Rattle.obeying.proofs.Laws.{starts}
 use Rattle.obeying.proofs.start.Goals as goal
 
 pub part-requires : goal.part-requires
-part-requires c = inl refl
+part-requires c = (c.requires, inl refl)
 
 pub returns : goal.returns
-returns c = (c.part.ensures.0 ∙ starts _ refl, c.part.ensures.1 ∙ c.nothing.ensures, c.part.ensures.2, c.part.ensures.3, c.part.ensures.4)
+returns c = ((λ log out. c.part.ensures.0 log out ∙ starts _ refl), c.part.ensures.1 ∙ c.nothing.ensures)

@@ -7,4 +7,4 @@ pub loop-init : goal.loop-init
 loop-init c = (refl, went_none _ _)
 
 pub loop-preserved : goal.loop-preserved
-loop-preserved c = (c.read_piece-i.auto.text ∙ c.loop.invariant.0, went_more c.loop.invariant.1 c.read_piece-i.ensures)
+loop-preserved c = (c.read_piece-i.auto.text ∙ c.loop.invariant.0, went_more c.loop.invariant.1 c.read_piece-i.ensures.went)

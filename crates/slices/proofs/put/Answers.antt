@@ -7,4 +7,4 @@ use Rattle.slices.proofs.put.Goals as goal
 pub returns-clause-laid : goal.returns-clause-laid
 returns-clause-laid c =
     let a = c.args in
-    spliced a.at a.out.now {k = a.at + length a.piece.now - a.at} (omega arith) (omega arith) c.copy_from_slice.ensures.after
+    spliced a.at a.out.now {k = a.at + length a.piece.now - a.at} (omega arith) (omega arith) c.copy.ensures
